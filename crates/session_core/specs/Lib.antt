@@ -1,0 +1,4 @@
+pub mod Dates
+pub mod CivilDates
+pub mod Moments
+pub mod Times

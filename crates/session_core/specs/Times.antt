@@ -1,0 +1,39 @@
+-- The times of a trading day. The session is from 09:30:00 to before the close.
+use Rattle.std.specs.Prelude.{ℕ, Bool, ◌-◌, nat_lt, nat_le, ◌&&◌}
+use Rattle.session_core.specs.declared.day.Day.{Day}
+use Rattle.session_core.specs.declared.day.Close.{Close}
+use Rattle.session_core.specs.declared.day.Close.TheVariants.{Regular, Early}
+use Rattle.session_core.specs.Moments.{seconds}
+
+-- 09:30:00
+abbrev pub session_open : ℕ
+session_open = seconds 34200
+
+-- 16:00:00, or 13:00:00 on an early close
+abbrev pub close_of : Close → ℕ
+close_of Regular = seconds 57600
+close_of Early = seconds 46800
+
+abbrev pub in_session : ℕ → Day → Bool
+in_session t day = nat_le session_open t && nat_lt t (close_of day.close)
+
+abbrev pub is_closed : ℕ → Day → Bool
+is_closed t day = nat_le (close_of day.close) t
+
+-- not before the close less a duration
+abbrev pub in_last : ℕ → ℕ → Day → Bool
+in_last duration t day = nat_le (close_of day.close - duration) t
+
+abbrev pub in_last_25_minutes : ℕ → Day → Bool
+in_last_25_minutes t day = in_last (seconds 1500) t day
+
+abbrev pub in_last_10_minutes : ℕ → Day → Bool
+in_last_10_minutes t day = in_last (seconds 600) t day
+
+-- before 09:45:00
+abbrev pub in_first_15_minutes : ℕ → Bool
+in_first_15_minutes t = nat_lt t (seconds 35100)
+
+-- Level 1 and 2 halts are declared in the session and up to 15:25:00, or 12:25:00 on an early close
+abbrev pub may_declare_brief : ℕ → Day → Bool
+may_declare_brief t day = in_session t day && nat_le t (close_of day.close - seconds 2100)

@@ -1,0 +1,14 @@
+//! Civil dates, moments of the day, the day's session, and what the rules call a stock's and the market's states.
+#![tactic(auto)]
+
+mod date;
+mod day;
+mod moment;
+mod state;
+#[cfg(test)]
+mod tests;
+
+pub use date::{BadDate, Date, date_text};
+pub use day::{Close, Day, Profile, breaker_open, close_moment, in_session, last_10, last_25};
+pub use moment::{BadMoment, Moment, age};
+pub use state::{Level, Phase, Span};
