@@ -1,0 +1,160 @@
+ghost use Rattle.std.specs.Prelude.{◌≡◌, ◌∷◌, [], List, is_some};
+ghost use Rattle.breaker_core.specs.Levels.{percent_of, is_brief, is_over, ends, level_reached, may_declare, declares};
+ghost use Rattle.breaker_core.specs.Days.{Call, Time, Tick, answers, halt_in, declared_after};
+
+use price_core::{Index, fell};
+use session_core::{Day, Level, Moment, breaker_open, in_session};
+use std::marker::Model;
+
+/// A market-wide halt: its level, and the moment at which it was declared (NYSE Rule 7.12).
+#[derive(Clone, Copy, Debug, PartialEq, Eq)]
+pub struct Halt {
+    pub level: Level,
+    pub since: Moment,
+}
+
+/// The decline of the index that reaches a level, in per cent.
+fn percent_of(level: Level) -> u32
+    ensures { result ≡ percent_of level }
+{
+    match level {
+        Level::One => 7,
+        Level::Two => 13,
+        Level::Three => 20,
+    }
+}
+
+/// Whether a halt of that level lasts 15 minutes, and not the rest of the day.
+fn is_brief(level: Level) -> bool
+    ensures { result ≡ is_brief level }
+{
+    match level {
+        Level::One | Level::Two => true,
+        Level::Three => false,
+    }
+}
+
+/// The greatest level that an index value reaches.
+fn level_reached(value: Index, close: Index) -> Option<Level>
+    ensures { result ≡ level_reached value close }
+{
+    if fell(value, close, 20) {
+        Some(Level::Three)
+    } else if fell(value, close, 13) {
+        Some(Level::Two)
+    } else if fell(value, close, 7) {
+        Some(Level::One)
+    } else {
+        None
+    }
+}
+
+impl Halt {
+    ghost use Rattle.breaker_core.specs.Levels.{is_over};
+
+    /// Whether the halt is over: one of Level 1 or 2 after 15 minutes.
+    fn is_over(&self, t: Moment) -> bool
+        ensures { result ≡ is_over t self.now }
+    {
+        is_brief(self.level) && t.nanos() >= self.since.nanos() + 900_000_000_000
+    }
+}
+
+/// The market-wide circuit breakers of a day: the index close before it, the greatest level declared, and the halt in
+/// effect.
+#[derive(Debug, Drop)]
+pub struct Breaker {
+    close: Index,
+    greatest: Option<Level>,
+    halt: Option<Halt>,
+}
+
+impl Model for Breaker {
+    ghost use Rattle.std.specs.Option.{option_map_or};
+    ghost use Rattle.breaker_core.specs.Levels.{percent_of};
+    ghost use Rattle.breaker_core.specs.Kept.{Kept};
+
+    ghost Value = { Kept };
+
+    ghost view = { λ b. record { close = b.close; greatest = option_map_or percent_of b.greatest 0; halt = b.halt } };
+}
+
+impl Breaker {
+    ghost use Rattle.breaker_core.specs.Kept.{started, resumed, with_declared, Stands};
+
+    /// No level declared, with the index close of the day before in hundredths of an index point.
+    pub fn start(close: Index) -> Breaker
+        ensures value { result ≡ started close }
+        ensures stands { Stands result [] }
+    {
+        Breaker {
+            close,
+            greatest: None,
+            halt: None,
+        }
+    }
+
+    /// Whether a halt ends at a moment: true exactly where one of Level 1 or 2 was declared at least 15 minutes before
+    /// it (NYSE Rule 7.12).
+    pub fn time(&mut self, t: Moment) -> bool
+        ensures ends { result ≡ ends t self.old.halt }
+        ensures value { self.new ≡ resumed t self.old }
+        ensures answer { (calls : List Call) → Stands self.old calls → result ≡ ends t (halt_in (answers self.old.close calls)) }
+        ensures stands { (calls : List Call) → Stands self.old calls → Stands self.new (Time t ∷ calls) }
+    {
+        let ends = match &self.halt {
+            Some(halt) => halt.is_over(t),
+            None => false,
+        };
+        if ends {
+            self.halt = None;
+        }
+        ends
+    }
+
+    /// The level that an index value declares at a moment of the day, None exactly where it declares none
+    /// (NYSE Rule 7.12).
+    pub fn index(&mut self, t: Moment, now: Index, day: &Day) -> Option<Level>
+        ensures level { result ≡ declares self.old.halt self.old.greatest self.old.close day.now t now }
+        ensures value { self.new ≡ with_declared t result self.old }
+        ensures answer { (calls : List Call) → Stands self.old calls
+            → result ≡ declared_after (answers self.old.close calls) self.old.close day.now t now }
+        ensures stands { (calls : List Call) → Stands self.old calls → Stands self.new (Tick t now day.now ∷ calls) }
+    {
+        let level = level_reached(now, self.close)?;
+        if !self.may_declare(level, t, day) {
+            return None;
+        }
+        self.greatest = Some(level);
+        self.halt = Some(Halt { level, since: t });
+        Some(level)
+    }
+
+    /// Whether a halt is in effect.
+    pub fn stopped(&self) -> bool
+        ensures value { result ≡ is_some self.now.halt }
+        ensures answer { (calls : List Call) → Stands self.now calls → result ≡ is_some (halt_in (answers self.now.close calls)) }
+    {
+        self.halt.is_some()
+    }
+
+    /// The percentage of the greatest level declared, 0 for none.
+    fn greatest(&self) -> u32
+        ensures { result ≡ self.now.greatest }
+    {
+        match self.greatest {
+            Some(level) => percent_of(level),
+            None => 0,
+        }
+    }
+
+    /// Whether a level may be declared at a moment.
+    fn may_declare(&self, level: Level, t: Moment, day: &Day) -> bool
+        ensures { result ≡ may_declare self.now.halt self.now.greatest day.now t level }
+    {
+        in_session(t, day)
+            && !self.stopped()
+            && self.greatest() < percent_of(level)
+            && (!is_brief(level) || breaker_open(t, day))
+    }
+}

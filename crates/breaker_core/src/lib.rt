@@ -1,0 +1,8 @@
+//! The market-wide circuit breakers of a day (NYSE Rule 7.12).
+#![tactic(auto)]
+
+mod breaker;
+#[cfg(test)]
+mod tests;
+
+pub use breaker::{Breaker, Halt};
