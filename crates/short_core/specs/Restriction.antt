@@ -1,0 +1,33 @@
+-- The short sale restriction of a stock (17 CFR 242.201).
+use Rattle.std.specs.Prelude.{ℕ, Bool, false, Option, List, [], ◌∷◌, ◌*◌, nat_le, ◌||◌}
+use Rattle.std.specs.List.{list_any}
+use Rattle.std.specs.Option.{option_map_or}
+
+-- a price is at least 10 per cent below the prior close
+abbrev pub has_fallen_ten_percent : ℕ → ℕ → Bool
+has_fallen_ten_percent price close = nat_le (10 * price) (9 * close)
+
+-- whether a trade at that price triggers the restriction, which none does where there is no prior close
+abbrev pub triggers : Option ℕ → ℕ → Bool
+triggers close price = option_map_or (has_fallen_ten_percent price) close false
+
+-- a day of the stock: its prior close, and the prices of its eligible trades, the newest first
+pub record Trades : Type 0 where
+  pub close : Option ℕ
+  pub prices : List ℕ
+
+-- the day with one more trade
+abbrev pub traded : ℕ → Trades → Trades
+traded price day = record day { prices = price ∷ day.prices }
+
+abbrev pub has_triggered : Trades → Bool
+has_triggered day = list_any (triggers day.close) day.prices
+
+-- whether the day after these days, the newest first, carries the restriction: the last of them triggered it
+abbrev pub is_carried : List Trades → Bool
+is_carried [] = false
+is_carried (last ∷ earlier) = has_triggered last
+
+-- for the rest of the day and the following day
+abbrev pub is_restricted : Trades → List Trades → Bool
+is_restricted day earlier = has_triggered day || is_carried earlier

@@ -1,0 +1,79 @@
+ghost use Rattle.std.specs.Prelude.{◌≡◌, ◌&&◌, ◌||◌, [], ◌∷◌, List, not};
+ghost use Rattle.short_core.specs.Restriction.{Trades, traded, triggers, has_triggered, is_carried, is_restricted};
+
+use price_core::Price;
+use std::marker::Model;
+
+/// Whether a trade at that price triggers the restriction after that prior close.
+fn triggers(close: Option<Price>, price: Price) -> bool
+    ensures { result ≡ triggers close price }
+{
+    close.is_some_and(|close| 10 * price.units() <= 9 * close.units())
+}
+
+/// The short sale restriction of a stock on a day: triggered by a trade at least 10 per cent below the prior close, it
+/// stays for the rest of the day and the following day (17 CFR 242.201).
+#[derive(Clone, Copy, Debug, PartialEq, Eq)]
+pub struct Short {
+    close: Option<Price>,
+    triggered: bool,
+    carried: bool,
+}
+
+impl Model for Short {
+    ghost use Rattle.short_core.specs.Kept.{Kept};
+
+    ghost Value = { Kept };
+
+    ghost view = { λ s. record { close = s.close; triggered = s.triggered; carried = s.carried } };
+
+    ghost inverse = { λ kept. record { close = kept.close; triggered = kept.triggered; carried = kept.carried } };
+}
+
+impl Short {
+    ghost use Rattle.short_core.specs.Kept.{listed, with_trade, triggers_first, Stands};
+
+    /// A day without a trade yet, with the prior close in ten-thousandths of a dollar, where there is one, and whether
+    /// the day before carries the restriction over.
+    pub fn listed(close: Option<Price>, carried: bool) -> Short
+        ensures value { result ≡ listed close carried }
+        ensures stands { (earlier : List Trades) → carried ≡ is_carried earlier
+            → Stands result (record { close = close; prices = [] }) earlier }
+    {
+        Short {
+            close,
+            triggered: false,
+            carried,
+        }
+    }
+
+    /// Takes an eligible trade of the session, with its price in ten-thousandths of a dollar: true exactly at the first
+    /// of the day that triggers the restriction (17 CFR 242.201(b)).
+    pub fn trade(&mut self, p: Price) -> bool
+        ensures first { result ≡ triggers_first p self.old }
+        ensures value { self.new ≡ with_trade p self.old }
+        ensures answer { (day : Trades) (earlier : List Trades) → Stands self.old day earlier
+            → result ≡ triggers day.close p && not (has_triggered day) }
+        ensures stands { (day : Trades) (earlier : List Trades) → Stands self.old day earlier → Stands self.new (traded p day) earlier }
+    {
+        let first = !self.triggered && triggers(self.close, p);
+        self.triggered |= first;
+        first
+    }
+
+    /// Whether short sales are restricted: a trade of today triggered it, or it is carried over.
+    pub fn restricted(&self) -> bool
+        ensures value { result ≡ self.now.triggered || self.now.carried }
+        ensures answer { (day : Trades) (earlier : List Trades) → Stands self.now day earlier → result ≡ is_restricted day earlier }
+    {
+        self.triggered || self.carried
+    }
+
+    /// Whether the following day carries the restriction: a trade of today triggered it.
+    pub fn next_day(&self) -> bool
+        ensures value { result ≡ self.now.triggered }
+        ensures answer { (day : Trades) (earlier : List Trades) → Stands self.now day earlier → result ≡ is_carried (day ∷ earlier) }
+    {
+        self.triggered
+    }
+}
