@@ -1,0 +1,6 @@
+pub mod Told
+pub mod Moments
+mod Sending
+mod Pushed
+mod Remembered
+mod Replayed
