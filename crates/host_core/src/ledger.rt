@@ -3,7 +3,7 @@ ghost use Rattle.std.specs.Prelude.{◌≡◌, ◌<◌, ◌↔◌, ◌^◌, ◌-
 ghost use Rattle.host_core.specs.Outside.{raised};
 ghost use Rattle.host_core.specs.Calls.{counted, count_of, faulted, NoneFalls};
 
-use crate::call::{Call, Calls, Faults, Numbered, Pieces};
+use crate::call::{Call, Calls, Faults, Numbered, Pieces, raise};
 use crate::host::Failed;
 use std::alloc::Global;
 
@@ -69,7 +69,7 @@ impl Ledger {
         ensures faults { self.new.faults ≡ faulted call self.old.faults }
         ensures failed { IsErr result }
     {
-        self.starved = self.starved.saturating_add(1);
+        raise(&mut self.starved);
         self.fail(call)
     }
 }

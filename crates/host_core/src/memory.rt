@@ -138,7 +138,7 @@ impl Host for MemoryHost {
     ghost use Rattle.host_core.specs.Outside.{Agrees, Elapses, Stays, Changes, Sends, IsSettled, written, Torn, Takes, Grows, Rose, Continues};
     ghost use Rattle.host_core.specs.Effects.{remembered_sent, remembered_read};
     ghost use Rattle.host_core.specs.Ledgers.{IsSpared, IsRefused};
-    ghost use Rattle.host_core.specs.Memory.{told, ledger_of, told_input};
+    ghost use Rattle.host_core.specs.Memory.{told, ledger_of, input_left};
 
     ghost outside = { told };
 
@@ -158,7 +158,7 @@ impl Host for MemoryHost {
         ensures moments { Elapses (told self.old) (told self.new) (Stays (told self.old)) }
         ensures continues { Continues (told self.old) (told self.new) }
         ensures cause { OnErr result (Rose (told self.old).read_faults (told self.new).read_faults) }
-        ensures count { IfOk result (λ n. n ≡ min (min (length (told_input self.old)) (length into.old)) (ledger_of self.old).pieces.read) }
+        ensures count { IfOk result (λ n. n ≡ min (min (length (input_left self.old)) (length into.old)) (ledger_of self.old).pieces.read) }
         ensures ledger { MatchResult result
             (λ _. IsSpared Call.Read (ledger_of self.old) (ledger_of self.new))
             (λ _. IsRefused Call.Read (ledger_of self.old) (ledger_of self.new)) }

@@ -3,6 +3,7 @@ ghost use Rattle.std.specs.Prelude.{◌≡◌, ◌<◌, ◌≤◌, length, IfOk,
 ghost use Rattle.host_core.specs.Outside.{raised};
 ghost use Rattle.host_core.specs.Silent.{silent, untold, StartsSilent};
 
+use crate::call::raise;
 use crate::host::{Failed, Host};
 use std::io::{self, Read, Write};
 
@@ -37,7 +38,7 @@ fn fault<T>(faults: &mut u64) -> Result<T, Failed>
     ensures later { faults.old ≤ faults.new }
     ensures failed { IsErr result }
 {
-    *faults = faults.saturating_add(1);
+    raise(faults);
     Err(Failed)
 }
 
