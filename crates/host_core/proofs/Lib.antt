@@ -1,5 +1,6 @@
 pub mod Told
 pub mod Moments
+pub mod Asked
 mod Sending
 mod Pushed
 mod Remembered

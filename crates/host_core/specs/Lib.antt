@@ -5,3 +5,4 @@ pub mod Effects
 pub mod Calls
 pub mod Ledgers
 pub mod Memory
+pub mod Real

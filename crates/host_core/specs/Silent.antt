@@ -23,12 +23,3 @@ IsUntold (Some bytes) = ⊥
 -- what is not told is no bytes
 pub untold : (disk : List ℕ) → None ≡ Some disk → ⊥
 untold disk is = subst IsUntold is tt
-
--- a host tells nothing, and nothing has failed
-pub record StartsSilent (now : Outside) : Type 0 where
-  pub input_untold : now.input ≡ None
-  pub sent_untold : now.sent ≡ None
-  pub disk_untold : now.disk ≡ None
-  pub no_read_fault : now.read_faults ≡ 0
-  pub no_send_fault : now.send_faults ≡ 0
-  pub no_disk_fault : now.disk_faults ≡ 0
