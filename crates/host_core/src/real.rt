@@ -67,7 +67,7 @@ fn send_some<W: Write>(output: &mut W, piece: &[u8]) -> io::Result<usize>
 }
 
 impl<R: Read + Drop, W: Write + Drop> Host for RealHost<R, W> {
-    ghost outside = { λ host. silent host.faults.reading host.faults.sending host.faults.storing };
+    ghost outside = { λ host. silent (faults_of host).reading (faults_of host).sending (faults_of host).storing };
 
     ghost sent_now = { λ host image bytes left. absurd left };
 
