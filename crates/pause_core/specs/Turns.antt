@@ -12,20 +12,23 @@ use Rattle.pause_core.specs.Phases.{is_done, is_in_halt, can_stop, can_start}
 abbrev pub close : Phase → Brakes → Option Phase
 close p b = if b.closed then Some Closed else None
 
--- a market-wide halt (NYSE Rule 7.12)
+-- a market-wide halt is in effect and stops the stock (NYSE Rule 7.12)
 abbrev pub stops : Phase → Brakes → Bool
 stops p b = b.stopped && can_stop p
 
+-- a market-wide halt
 abbrev pub stop : Phase → Brakes → Option Phase
 stop p b = if stops p b then Some Stopped else None
 
--- trading starts, in the session and while the market isn't stopped
+-- trading starts in the session, while no market-wide halt is in effect
 abbrev pub starts : Phase → Brakes → Bool
 starts p b = can_start p && (b.in_session && not b.stopped)
 
+-- the start of trading
 abbrev pub start : Phase → Brakes → Option Phase
 start p b = if starts p b then Some Trading else None
 
+-- where a regulatory halt leaves the stock
 abbrev pub phase_after_halt : Brakes → Phase
 phase_after_halt b = if b.stopped then Stopped else if b.in_session then Trading else Shut
 
@@ -46,6 +49,7 @@ abbrev pub phases : List (Phase → Brakes → Option Phase) → Phase → Brake
 phases [] p b = []
 phases (rule ∷ rules) p b = option_to_list (obeyed rule p b) ++ phases rules (unwrap_or (obeyed rule p b) p) b
 
+-- the phases of the four rules
 abbrev pub turns : Phase → Brakes → List Phase
 turns p b = phases (close ∷ stop ∷ start ∷ halt ∷ []) p b
 

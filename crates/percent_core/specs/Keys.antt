@@ -1,4 +1,5 @@
 -- The keys of the table of percentages: a bit for the tier, two for the category and two for the part of the session.
+-- Private words: no public clause cites them.
 use Rattle.std.specs.Prelude.{ℕ, ◌+◌, ◌*◌}
 use Rattle.price_core.specs.declared.quote.Tier.{Tier}
 use Rattle.price_core.specs.declared.quote.Tier.TheVariants as tier

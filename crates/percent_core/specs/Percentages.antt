@@ -16,6 +16,7 @@ abbrev pub category_of : Option ℕ → Category
 category_of None = category.Above
 category_of (Some close) = if nat_lt 30000 close then category.Above else if nat_le 7500 close then category.Middle else category.Below
 
+-- the last 25 minutes, the first 15, or between
 abbrev pub span_at : ℕ → Day → Span
 span_at t day = if in_last_25_minutes t day then span.Last25 else if in_first_15_minutes t then span.First15 else span.Middle
 
@@ -34,10 +35,11 @@ is_doubled Since18 t c s = false
 is_doubled Before18 t c span.Middle = false
 is_doubled Before18 t c s = true
 
+-- the percentage before the leverage ratio
 abbrev pub percent_of : Profile → Tier → Category → Span → ℕ
 percent_of p t c s = if is_doubled p t c s then 2 * base_percent t c else base_percent t c
 
--- 75 below $0.75, and 5 else
+-- the least percentage of a category: 75 below $0.75, and 5 else
 abbrev pub least_percent : Category → ℕ
 least_percent category.Below = 75
 least_percent c = 5
