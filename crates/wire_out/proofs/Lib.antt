@@ -1,0 +1,4 @@
+pub mod Values
+pub mod Found
+pub mod Again
+pub mod Frames

@@ -1,0 +1,5 @@
+use Rattle.wire_out.proofs.Frames.{frames_differ}
+use Rattle.wire_out.proofs.law.frames_differ.Goals as goal
+
+pub returns : goal.returns
+returns c = frames_differ
