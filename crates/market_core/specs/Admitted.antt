@@ -1,0 +1,115 @@
+-- What an admission keeps, and how it stands for the list of admitted records, the newest first.
+use Rattle.std.specs.Prelude.{◌≡◌, ℕ, Bool, true, false, Option, Some, None, List, [], ◌∷◌, ◌++◌, ◌+◌, nat_lt, nat_le, if◌then◌else◌, not, ◌&&◌, IsTrue, length, is_none, position, slice_get, slice_set, map}
+use Rattle.std.specs.Option.{option_map_or}
+use Rattle.std.specs.Str.{bytes_eq}
+use Rattle.session_core.specs.declared.day.Day.{Day}
+use Rattle.session_core.specs.Dates.{Civil, date_number}
+use Rattle.wire_in.specs.declared.record.Record.{Record}
+use Rattle.wire_in.specs.declared.record.Record.TheVariants as in_
+use Rattle.wire_in.specs.declared.record.Refusal.{Refusal}
+use Rattle.wire_in.specs.declared.record.Refusal.TheVariants.{NoDay, OutOfOrder, UnknownSymbol, AlreadyListed, DirectoryFull, JournalFull}
+use Rattle.wire_in.specs.Records.{moment_of, is_day, symbol_of}
+use Rattle.rulebook.specs.Admission.{last_day, names, is_listed_name, is_among, with_name}
+use Rattle.market_core.specs.Dated.{is_on, are_up_to}
+
+-- The limit of records, how many were admitted, the last day, the moment of the last record, the names ever listed,
+-- and for each of them the date on which it was last listed.
+pub record Admitted : Type 0 where
+  pub limit : ℕ
+  pub count : ℕ
+  pub day : Option Day
+  pub last : ℕ
+  pub directory : List (List ℕ)
+  pub dates : List Civil
+
+-- the moment of the newest record, 0 where there is none
+abbrev pub last_moment : List Record → ℕ
+last_moment [] = 0
+last_moment (x ∷ earlier) = moment_of x
+
+-- each kept value is the one that the list of admitted records gives
+pub record StandsFor (a : Admitted) (admitted : List Record) : Type 0 where
+  pub count : a.count ≡ length admitted
+  pub day : a.day ≡ last_day admitted
+  pub last : a.last ≡ last_moment admitted
+  pub directory : a.directory ≡ names admitted
+  pub listed : map (is_on a.day) a.dates ≡ map (is_listed_name admitted) (names admitted)
+  pub dated : IsTrue (are_up_to a.day a.dates)
+
+-- The tests of a refusal, by what is kept.
+
+abbrev pub is_before_day : Option Day → Record → Bool
+is_before_day day x = not (is_day x) && is_none day
+
+abbrev pub is_date_early : Option Day → Day → Bool
+is_date_early day d = option_map_or (λ last. nat_le (date_number d.date) (date_number last.date)) day false
+
+abbrev pub is_out_of_order : Option Day → ℕ → Record → Bool
+is_out_of_order day last (in_.Day t d c) = is_date_early day d
+is_out_of_order day last x = nat_lt (moment_of x) last
+
+abbrev pub is_listed_id : Option Day → List Civil → ℕ → Bool
+is_listed_id day dates id = option_map_or (is_on day) (slice_get dates id) false
+
+abbrev pub names_unlisted : Option Day → List Civil → Record → Bool
+names_unlisted day dates x = option_map_or (λ id. not (is_listed_id day dates id)) (symbol_of x) false
+
+abbrev pub lists_twice : Option Day → List Civil → List (List ℕ) → Record → Bool
+lists_twice day dates directory (in_.Listing t name k l c) = option_map_or (is_listed_id day dates) (position (bytes_eq name) directory) false
+lists_twice day dates directory x = false
+
+abbrev pub is_full_for : List (List ℕ) → List ℕ → Bool
+is_full_for directory name = is_none (position (bytes_eq name) directory) && nat_le 16384 (length directory)
+
+abbrev pub lacks_room : List (List ℕ) → Record → Bool
+lacks_room directory (in_.Listing t name k l c) = is_full_for directory name
+lacks_room directory x = false
+
+-- the first refusal that applies
+abbrev pub refusal_of : Admitted → Record → Option Refusal
+refusal_of a x =
+    if is_before_day a.day x then Some NoDay
+    else if is_out_of_order a.day a.last x then Some OutOfOrder
+    else if names_unlisted a.day a.dates x then Some UnknownSymbol
+    else if lists_twice a.day a.dates a.directory x then Some AlreadyListed
+    else if lacks_room a.directory x then Some DirectoryFull
+    else if nat_le a.limit a.count then Some JournalFull
+    else None
+
+-- What is kept after one more record.
+
+abbrev pub day_after : Option Day → Record → Option Day
+day_after day (in_.Day t d c) = Some d
+day_after day x = day
+
+-- what is added for a name that isn't among these: nothing where it is
+abbrev pub added : {X : Type 0} → List X → Option ℕ → X → List X
+added xs None x = xs ++ x ∷ []
+added xs (Some place) x = xs
+
+-- what is put at a place, or behind the others where there is none
+abbrev pub put_at : {X : Type 0} → List X → Option ℕ → X → List X
+put_at xs None x = xs ++ x ∷ []
+put_at xs (Some place) x = slice_set xs place x
+
+abbrev pub directory_after : List (List ℕ) → Record → List (List ℕ)
+directory_after directory (in_.Listing t name k l c) = added directory (position (bytes_eq name) directory) name
+directory_after directory x = directory
+
+-- the dates after a name is listed on this day
+abbrev pub dates_listed : Day → List Civil → Option ℕ → List Civil
+dates_listed day dates place = put_at dates place day.date
+
+abbrev pub dates_after : Admitted → Record → List Civil
+dates_after a (in_.Listing t name k l c) = option_map_or (λ day. dates_listed day a.dates (position (bytes_eq name) a.directory)) a.day a.dates
+dates_after a x = a.dates
+
+abbrev pub admitted_with : Admitted → Record → Admitted
+admitted_with a x = record {
+  limit = a.limit;
+  count = a.count + 1;
+  day = day_after a.day x;
+  last = moment_of x;
+  directory = directory_after a.directory x;
+  dates = dates_after a x;
+}

@@ -1,0 +1,8 @@
+-- Kinds of records.
+use Rattle.std.specs.Prelude.{Bool, true, false}
+use Rattle.wire_in.specs.declared.record.Record.{Record}
+use Rattle.wire_in.specs.declared.record.Record.TheVariants.{Trade}
+
+abbrev pub is_trade : Record → Bool
+is_trade (Trade t s n p z f) = true
+is_trade _ = false

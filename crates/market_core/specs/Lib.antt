@@ -1,0 +1,4 @@
+pub mod Kinds
+pub mod Dated
+pub mod Admitted
+pub mod Kept

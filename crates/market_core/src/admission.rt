@@ -1,0 +1,270 @@
+ghost use Rattle.std.specs.Prelude.{◌≡◌, ◌≢◌, ◌↔◌, ◌+◌, ◌<◌, ◌≤◌, ◌^◌, None, false, List, [], ◌∷◌, OnOk, OnErr, IfOk, IsOk, IsTrue, IsNone, unwrap_or, length, position, map, nat_le, ◌==◌, vec_len};
+ghost use Rattle.std.specs.Str.{bytes_eq};
+ghost use Rattle.session_core.specs.Dates.{Civil};
+ghost use Rattle.wire_in.specs.declared.record.Record.{Record};
+ghost use Rattle.wire_in.specs.Records.{name_of, symbol_of};
+ghost use Rattle.rulebook.specs.Admission.{verdict};
+ghost use Rattle.market_core.specs.Dated.{is_on};
+ghost use Rattle.market_core.specs.Admitted.{Admitted, StandsFor, refusal_of, is_before_day, is_date_early, is_out_of_order, names_unlisted, lists_twice, lacks_room, is_listed_id, is_full_for, added, dates_listed, day_after, directory_after, dates_after, admitted_with};
+
+use crate::directory::{Directory, MOST_NAMES};
+use price_core::NoMemory;
+use session_core::{Date, Day, Moment};
+use std::alloc::Global;
+use std::marker::Model;
+use wire_in::{Record, Refusal};
+
+/// What decides whether a record may follow those admitted before it.
+#[derive(Drop)]
+pub struct Admission {
+    limit: u64,
+    count: u64,
+    day: Option<Day>,
+    last: Option<Moment>,
+    directory: Directory,
+    listed_on: Vec<Date>,
+}
+
+impl Model for Admission {
+    ghost use Rattle.std.specs.Prelude.{◌≡◌, length, unwrap_or, vec_len};
+    ghost use Rattle.market_core.specs.Admitted.{Admitted};
+
+    ghost Value = { Admitted };
+
+    ghost view = { λ a. record {
+      limit = a.limit;
+      count = a.count;
+      day = a.day;
+      last = unwrap_or a.last 0;
+      directory = a.directory;
+      dates = a.listed_on.items;
+    } };
+
+    ghost invariant = { λ a. vec_len a.listed_on ≡ length a.directory };
+}
+
+/// Whether a date is that of the day.
+fn is_on(day: Option<Day>, date: Date) -> bool
+    ensures { result ≡ is_on day date }
+{
+    match day {
+        Some(day) => date == day.date,
+        None => false,
+    }
+}
+
+/// Whether a name that was last listed on one of these dates is listed today.
+fn is_listed_id(day: Option<Day>, dates: &[Date], id: u16) -> bool
+    ensures { result ≡ is_listed_id day dates.now id }
+{
+    match dates.get(id as usize) {
+        Some(date) => is_on(day, *date),
+        None => false,
+    }
+}
+
+/// Whether a Day record's date isn't later than the day's.
+fn is_date_early(day: Option<Day>, next: &Day) -> bool
+    ensures { result ≡ is_date_early day next.now }
+{
+    match day {
+        Some(day) => !next.date.is_after(day.date),
+        None => false,
+    }
+}
+
+fn is_before_day(day: Option<Day>, x: &Record) -> bool
+    ensures { result ≡ is_before_day day x.now }
+{
+    match x {
+        Record::Day { .. } => false,
+        _ => day.is_none(),
+    }
+}
+
+fn is_out_of_order(day: Option<Day>, last: Option<Moment>, x: &Record) -> bool
+    ensures { result ≡ is_out_of_order day (unwrap_or last 0) x.now }
+{
+    match x {
+        Record::Day { day: next, .. } => is_date_early(day, next),
+        _ => last.is_some_and(|last| x.moment() < last),
+    }
+}
+
+/// The symbol that a record names by its id.
+fn symbol_of(x: &Record) -> Option<u16>
+    ensures { result ≡ symbol_of x.now }
+{
+    match *x {
+        Record::Trade { symbol, .. }
+        | Record::Cancel { symbol, .. }
+        | Record::Quote { symbol, .. }
+        | Record::Notice { symbol, .. }
+        | Record::Indication { symbol, .. } => Some(symbol),
+        _ => None,
+    }
+}
+
+fn names_unlisted(day: Option<Day>, dates: &[Date], x: &Record) -> bool
+    ensures { result ≡ names_unlisted day dates.now x.now }
+{
+    match symbol_of(x) {
+        Some(id) => !is_listed_id(day, dates, id),
+        None => false,
+    }
+}
+
+fn lists_twice(day: Option<Day>, dates: &[Date], directory: &Directory, x: &Record) -> bool
+    ensures { result ≡ lists_twice day dates.now directory.now x.now }
+{
+    let Record::Listing { name, .. } = *x else {
+        return false;
+    };
+    match directory.id(name) {
+        Some(id) => is_listed_id(day, dates, id),
+        None => false,
+    }
+}
+
+fn lacks_room(directory: &Directory, x: &Record) -> bool
+    ensures { result ≡ lacks_room directory.now x.now }
+{
+    let Record::Listing { name, .. } = *x else {
+        return false;
+    };
+    directory.id(name).is_none() && directory.len() >= MOST_NAMES
+}
+
+impl Admission {
+    /// An admission of no records, under a limit of records.
+    pub fn new(alloc: Global, limit: u64) -> Result<Admission, NoMemory>
+        ensures stands { IfOk result (λ a. StandsFor a []) }
+        ensures limit { IfOk result (λ a. a.limit ≡ limit) }
+    {
+        Ok(Admission {
+            limit,
+            count: 0,
+            day: None,
+            last: None,
+            directory: Directory::new(alloc),
+            listed_on: Vec::new(alloc),
+        })
+    }
+
+    /// How many records were admitted.
+    pub fn count(&self) -> u64
+        ensures { result ≡ self.now.count }
+    {
+        self.count
+    }
+
+    /// How many names were ever listed.
+    pub fn names(&self) -> u32
+        ensures { result ≡ length self.now.directory }
+    {
+        self.directory.len() as u32
+    }
+
+    /// The day of the last Day record.
+    pub fn today(&self) -> Option<Day>
+        ensures { result ≡ self.now.day }
+    {
+        self.day
+    }
+
+    /// The first refusal that applies to a record, by what is kept.
+    fn refusal(&self, x: &Record) -> Option<Refusal>
+        ensures { result ≡ refusal_of self.now x.now }
+    {
+        if is_before_day(self.day, x) {
+            Some(Refusal::NoDay)
+        } else if is_out_of_order(self.day, self.last, x) {
+            Some(Refusal::OutOfOrder)
+        } else if names_unlisted(self.day, &self.listed_on, x) {
+            Some(Refusal::UnknownSymbol)
+        } else if lists_twice(self.day, &self.listed_on, &self.directory, x) {
+            Some(Refusal::AlreadyListed)
+        } else if lacks_room(&self.directory, x) {
+            Some(Refusal::DirectoryFull)
+        } else if self.limit <= self.count {
+            Some(Refusal::JournalFull)
+        } else {
+            None
+        }
+    }
+
+    /// Why a record may not follow the admitted ones: the first of no day, out of order, unknown symbol, already
+    /// listed, directory full and journal full that applies, or none.
+    pub fn verdict(&self, x: &Record) -> Option<Refusal>
+        ensures kept { result ≡ refusal_of self.now x.now }
+        ensures exact { (admitted : List Record) → StandsFor self.now admitted → result ≡ verdict self.now.limit admitted x.now }
+    {
+        self.refusal(x)
+    }
+
+    /// Lists a name on a day.
+    fn list(&mut self, name: [u8; 8], day: &Day) -> Result<(), NoMemory>
+        requires { is_full_for self.old.directory name ≡ false }
+        ensures ok { OnOk result (self.new ≡ record self.old {
+          directory = added self.old.directory (position (bytes_eq name) self.old.directory) name;
+          dates = dates_listed day.now self.old.dates (position (bytes_eq name) self.old.directory);
+        }) }
+        ensures err { OnErr result (self.new ≡ self.old) }
+    {
+        match self.directory.id(name) {
+            Some(id) => self.listed_on[id as usize] = day.date,
+            None => {
+                self.listed_on.reserve(1)?;
+                self.directory.push(name)?;
+                self.listed_on.push(day.date).unwrap();
+            }
+        }
+        Ok(())
+    }
+
+    /// Takes a record's day, name and date in.
+    fn take_in(&mut self, x: &Record) -> Result<(), NoMemory>
+        requires { refusal_of self.old x.now ≡ None }
+        ensures ok { OnOk result (self.new ≡ record self.old {
+          day = day_after self.old.day x.now;
+          directory = directory_after self.old.directory x.now;
+          dates = dates_after self.old x.now;
+        }) }
+        ensures err { OnErr result (self.new ≡ self.old) }
+        ensures succeeds { name_of x.now ≡ None → IsOk result }
+    {
+        match (*x, self.day) {
+            (Record::Day { day, .. }, _) => {
+                self.day = Some(day);
+                Ok(())
+            }
+            (Record::Listing { name, .. }, Some(day)) => self.list(name, &day),
+            _ => Ok(()),
+        }
+    }
+
+    fn keep(&mut self, x: &Record) -> Result<(), NoMemory>
+        requires { refusal_of self.old x.now ≡ None }
+        ensures ok { OnOk result (self.new ≡ admitted_with self.old x.now) }
+        ensures err { OnErr result (self.new ≡ self.old) }
+        ensures succeeds { name_of x.now ≡ None → IsOk result }
+    {
+        self.take_in(x)?;
+        self.last = Some(x.moment());
+        self.count += 1;
+        Ok(())
+    }
+
+    /// Admits a record that no refusal applies to. An error leaves the admission as it was; it comes only for a
+    /// Listing.
+    pub fn admit(&mut self, x: &Record) -> Result<(), NoMemory>
+        requires { refusal_of self.old x.now ≡ None }
+        ensures stands { (admitted : List Record) → StandsFor self.old admitted → OnOk result (StandsFor self.new (x.now ∷ admitted)) }
+        ensures limit { self.new.limit ≡ self.old.limit }
+        ensures count { OnOk result (self.new.count ≡ self.old.count + 1) }
+        ensures err { OnErr result (self.new ≡ self.old) }
+        ensures succeeds { name_of x.now ≡ None → IsOk result }
+    {
+        self.keep(x)
+    }
+}

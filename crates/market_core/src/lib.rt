@@ -1,0 +1,10 @@
+//! Admission of records, and one market.
+#![tactic(auto)]
+
+mod admission;
+mod directory;
+mod market;
+
+pub use admission::Admission;
+pub use directory::Directory;
+pub use market::{Market, Today};

@@ -1,0 +1,72 @@
+-- What is sent for a list of frames, one after the other.
+use Rattle.std.specs.Prelude.{ℕ, ◌+◌, List, [], ◌∷◌, ◌++◌, length, Option, Some, None, Result, Ok, Err}
+use Rattle.std.specs.List.{flat_map}
+use Rattle.wire_in.specs.declared.record.Record.{Record}
+use Rattle.wire_in.specs.declared.record.Refusal.{Refusal}
+use Rattle.wire_in.specs.Refusals.{code_of, field_of}
+use Rattle.wire_in.specs.Reading.{record_of}
+use Rattle.wire_out.specs.declared.message.Frame.{Frame}
+use Rattle.wire_out.specs.declared.message.Frame.TheVariants.{Hello, Numbered, Ack, Refused}
+use Rattle.wire_out.specs.declared.message.Stamped.{Stamped}
+use Rattle.wire_out.specs.Spelling.{spelling}
+use Rattle.rulebook.specs.Admission.{verdict}
+use Rattle.rulebook.specs.Steps.{messages_of, newest_messages}
+
+-- Accepted records have the newest first, and frames and what is sent for them the oldest.
+
+abbrev pub passed : Record → Option Refusal → Result Record Refusal
+passed x None = Ok x
+passed x (Some refusal) = Err refusal
+
+abbrev pub admitted : ℕ → List Record → Result Record Refusal → Result Record Refusal
+admitted limit held (Ok x) = passed x (verdict limit held x)
+admitted limit held (Err refusal) = Err refusal
+
+-- the record of a frame's body that is accepted after these, or the first refusal that applies
+abbrev pub judged : ℕ → List Record → List ℕ → Result Record Refusal
+judged limit held body = admitted limit held (record_of body)
+
+abbrev pub with_record : List Record → Result Record Refusal → List Record
+with_record held (Ok x) = x ∷ held
+with_record held (Err refusal) = held
+
+-- the accepted records after the frames of these bodies
+abbrev pub accepted_of : ℕ → List Record → List (List ℕ) → List Record
+accepted_of limit held [] = held
+accepted_of limit held (body ∷ later) = accepted_of limit (with_record held (judged limit held body)) later
+
+-- messages, numbered on from n
+abbrev pub numbered : ℕ → List Stamped → List Frame
+numbered n [] = []
+numbered n (m ∷ later) = Numbered (n + 1) m ∷ numbered (n + 1) later
+
+-- what is sent for a record that is accepted after these: its messages, numbered on, and its acknowledgement
+abbrev pub accepted : List Record → Record → List Frame
+accepted held x = numbered (length (messages_of held)) (newest_messages (x ∷ held)) ++ Ack (length held + 1) ∷ []
+
+-- what is sent for a frame that is refused
+abbrev pub refused : ℕ → Refusal → List Frame
+refused place refusal = Refused place (code_of refusal) (field_of refusal) ∷ []
+
+-- what is sent for the frame at a place
+abbrev pub reply : ℕ → List Record → Result Record Refusal → List Frame
+reply place held (Ok x) = accepted held x
+reply place held (Err refusal) = refused place refusal
+
+-- what is sent for the frames from a place on, after these records
+abbrev pub replies : ℕ → ℕ → List Record → List (List ℕ) → List Frame
+replies limit place held [] = []
+replies limit place held (body ∷ later) =
+    reply place held (judged limit held body) ++ replies limit (place + 1) (with_record held (judged limit held body)) later
+
+-- a session's first frame: how many records are held, and how many messages they gave
+abbrev pub hello : List Record → Frame
+hello held = Hello (length held) (length (messages_of held))
+
+-- all that a session sends for these frames, after the records that it holds at its start
+abbrev pub session_frames : ℕ → List Record → List (List ℕ) → List Frame
+session_frames limit held bodies = hello held ∷ replies limit 1 held bodies
+
+-- frames, spelled one after the other
+abbrev pub spelled : List Frame → List ℕ
+spelled frames = flat_map spelling frames

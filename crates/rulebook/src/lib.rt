@@ -1,0 +1,7 @@
+//! The rules as definitions: what may follow a list of records, what each record gives, and what is sent for a list of
+//! frames.
+#![tactic(auto)]
+
+mod event;
+
+pub use event::Event;
