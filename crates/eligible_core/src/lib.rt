@@ -1,0 +1,9 @@
+//! Which trades count: by the moment, and by the condition bits that a trade carries.
+#![tactic(auto)]
+
+mod condition;
+#[cfg(test)]
+mod tests;
+mod trade;
+
+pub use trade::{eligible, opening};

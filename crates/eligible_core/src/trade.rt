@@ -1,0 +1,38 @@
+ghost use Rattle.std.specs.Prelude.{◌≡◌, ◌<◌};
+ghost use Rattle.eligible_core.specs.Conditions.{is_eligible, is_opening, has_barring_bit, is_set};
+
+use crate::condition::Condition;
+use session_core::{Day, Moment, in_session};
+
+/// Whether a trade with these condition bits counts in means and for the short sale restriction: it is in the session,
+/// and none of its bits bars it. The six upper bits are not assigned.
+pub fn eligible(flags: u16, t: Moment, day: &Day) -> bool
+    requires { flags < 1024 }
+    ensures { result ≡ is_eligible flags t day.now }
+{
+    in_session(t, day) && !has_barring_bit(flags)
+}
+
+/// Whether a trade with these condition bits is an opening or reopening trade of the primary listing exchange. The six
+/// upper bits are not assigned.
+pub fn opening(flags: u16) -> bool
+    requires { flags < 1024 }
+    ensures { result ≡ is_opening flags }
+{
+    is_set(flags, 0)
+}
+
+/// Whether one of the condition bits bars the trade.
+fn has_barring_bit(flags: u16) -> bool
+    ensures { result ≡ has_barring_bit flags }
+{
+    (0..16).any(|bit| is_set(flags, bit) && Condition::of(bit) == Condition::Bars)
+}
+
+/// Whether the condition bit of that number is set.
+fn is_set(flags: u16, bit: u32) -> bool
+    requires { bit < 16 }
+    ensures { result ≡ is_set flags bit }
+{
+    flags >> bit & 1 == 1
+}

@@ -1,0 +1,7 @@
+pub mod Told
+pub mod Moments
+pub mod Asked
+mod Sending
+mod Pushed
+mod Remembered
+mod Replayed

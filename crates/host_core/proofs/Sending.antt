@@ -1,0 +1,48 @@
+-- A piece on its way: so much of it is sent.
+use Rattle.std.proofs.Common.{◌≡◌, ℕ, ◌+◌, ◌≤◌, List, length, take, drop, refl, sym, ◌∙◌, ap, subst, arith, length-drop}
+use Rattle.std.proofs.Math.Seq.{take-add}
+use Rattle.std.specs.Prelude.{Option}
+use Rattle.std.specs.Io.KnownBytes.{append_known}
+use Rattle.host_core.specs.Outside.{Outside, Agrees, Elapses, Sends, Grows, Continues}
+use Rattle.host_core.proofs.Moments.{nothing, widened, goes_on, ended, unchanged, further}
+use Rattle.host_core.proofs.Told.{append_known-nil, append_known-append}
+
+pub record Sending (piece : List ℕ) (done : ℕ) (start now : Outside) : Type 0 where
+  pub bound : done ≤ length piece
+  pub sent : now.sent ≡ append_known start.sent (take done piece)
+  pub input : now.input ≡ start.input
+  pub disk : now.disk ≡ start.disk
+  pub moments : Elapses start now (Sends piece start)
+  pub continues : Continues start now
+
+pub begun : (piece : List ℕ) (start : Outside) → ((image bytes : List ℕ) → start.leaves start.moment image bytes → Agrees start.sent bytes) → Sending piece 0 start start
+begun piece start sent_now = record {
+  bound = omega arith;
+  sent = sym (append_known-nil start.sent);
+  input = refl;
+  disk = refl;
+  moments = widened (nothing start sent_now) _ (λ image bytes stays. record { was = stays.was; count = 0; within = omega arith; sent = subst (λ told. Agrees told bytes) (sym (append_known-nil start.sent)) stays.sent });
+  continues = unchanged start;
+}
+
+-- two fronts, one after the other
+two_fronts : (told : Option (List ℕ)) (piece : List ℕ) (done n : ℕ) → append_known (append_known told (take done piece)) (take n (drop done piece)) ≡ append_known told (take (done + n) piece)
+two_fronts told piece done n = append_known-append told (take done piece) (take n (drop done piece)) ∙ ap (append_known told) (sym (take-add done n piece))
+
+pub sent_more : {piece : List ℕ} {done : ℕ} {start mid : Outside} (so_far : Sending piece done start mid) (new : Outside) (n : ℕ) → Grows mid.sent new.sent (drop done piece) n
+    → new.input ≡ mid.input → new.disk ≡ mid.disk → Elapses mid new (Sends (drop done piece) mid) → Continues mid new → Sending piece (done + n) start new
+sent_more {piece} {done} {start} {mid} so_far new n grows input disk moments continues = record {
+  bound = within n grows.bound;
+  sent = grows.bytes ∙ both n;
+  input = input ∙ so_far.input;
+  disk = disk ∙ so_far.disk;
+  moments = goes_on so_far.moments moments (λ image bytes step.
+      record { was = (ended so_far.moments step.was).was; count = done + step.count; within = within step.count step.within; sent = subst (λ told. Agrees told bytes) (both step.count) step.sent });
+  continues = further so_far.continues continues;
+}
+  where
+    within : (n : ℕ) → n ≤ length (drop done piece) → done + n ≤ length piece
+    within n le = omega (arith, le, so_far.bound, length-drop done piece)
+
+    both : (n : ℕ) → append_known mid.sent (take n (drop done piece)) ≡ append_known start.sent (take (done + n) piece)
+    both n = ap (λ told. append_known told (take n (drop done piece))) so_far.sent ∙ two_fronts start.sent piece done n

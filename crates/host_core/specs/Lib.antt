@@ -1,0 +1,8 @@
+pub mod Outside
+pub mod Statuses
+pub mod Silent
+pub mod Effects
+pub mod Calls
+pub mod Ledgers
+pub mod Memory
+pub mod Real

@@ -1,0 +1,293 @@
+// A host in memory. It keeps the effects of its calls, from which what a stop may leave follows.
+ghost use Rattle.std.specs.Prelude.{◌≡◌, ◌≤◌, [], length};
+ghost use Rattle.host_core.specs.Effects.{disk_of, sent_of};
+
+use crate::call::{Call, Numbered, Pieces};
+use crate::effect::{Effect, Pick};
+use crate::host::{Failed, Host};
+use crate::keep::{sent_on, synced, tore_at, wrote_at};
+use crate::ledger::Ledger;
+use crate::replay::replayed;
+use price_core::NoMemory;
+use std::alloc::Global;
+
+/// An input, a sink and a disk in memory, for tests. It tells everything. Its calls fail where they were asked to,
+/// and where memory runs out.
+#[derive(Debug, Drop)]
+pub struct MemoryHost {
+    alloc: Global,
+    input: Vec<u8>,
+    taken: usize,
+    sent: Vec<u8>,
+    disk: Vec<u8>,
+    start: Vec<u8>,
+    effects: Vec<Effect>,
+    ledger: Ledger,
+    ghost within: { taken ≤ length input.items },
+    ghost sent_is: { sent.items ≡ sent_of [] effects.items },
+    ghost disk_is: { disk.items ≡ disk_of start.items effects.items },
+}
+
+impl MemoryHost {
+    ghost use Rattle.std.specs.Prelude.{◌≡◌, ◌<◌, ◌∷◌, ◌++◌, ℕ, List, Some, IfOk, OnOk, OnErr};
+    ghost use Rattle.host_core.specs.Outside.{MayLeave, Starts, TellsTheSame};
+    ghost use Rattle.host_core.specs.Ledgers.{IsFresh, earliest};
+    ghost use Rattle.host_core.specs.Memory.{told, ledger_of, left_by};
+
+    /// A host with this input and this disk, of which all is kept. Nothing was sent, and no call fails yet.
+    pub fn new(alloc: Global, input: &[u8], disk: &[u8]) -> Result<MemoryHost, NoMemory>
+        ensures starts { IfOk result (λ host. Starts input.now disk.now (told host)) }
+        ensures fresh { IfOk result (λ host. IsFresh (ledger_of host)) }
+    {
+        Ok(MemoryHost {
+            alloc,
+            input: Vec::from_slice(alloc, input)?,
+            taken: 0,
+            sent: Vec::new(alloc),
+            disk: Vec::from_slice(alloc, disk)?,
+            start: Vec::from_slice(alloc, disk)?,
+            effects: Vec::new(alloc),
+            ledger: Ledger::new(alloc),
+        })
+    }
+
+    /// Asks that the nth call of a kind fails, counted from 1 over all calls of that kind. May be asked for several.
+    pub fn fail(&mut self, call: Call, nth: u64) -> Result<(), NoMemory>
+        requires { 0 < nth }
+        ensures asked { OnOk result ((ledger_of self.new).failures.items ≡ (ledger_of self.old).failures.items ++ record { call = call; number = nth } ∷ []) }
+        ensures refused { OnErr result ((ledger_of self.new).failures.items ≡ (ledger_of self.old).failures.items) }
+        ensures rest { ledger_of self.new ≡ record (ledger_of self.old) { failures = (ledger_of self.new).failures } }
+        ensures tells { TellsTheSame (told self.old) (told self.new) }
+        ensures starts { (input disk : List ℕ) → Starts input disk (told self.old) → Starts input disk (told self.new) }
+    {
+        self.ledger.failures.push(Numbered { call, number: nth })?;
+        Ok(())
+    }
+
+    /// Sets the most bytes of one read and of one send.
+    pub fn pieces(&mut self, read: u32, send: u32)
+        requires read { 0 < read }
+        requires send { 0 < send }
+        ensures read { (ledger_of self.new).pieces.read ≡ read }
+        ensures send { (ledger_of self.new).pieces.send ≡ send }
+        ensures rest { ledger_of self.new ≡ record (ledger_of self.old) { pieces = (ledger_of self.new).pieces } }
+        ensures tells { TellsTheSame (told self.old) (told self.new) }
+        ensures starts { (input disk : List ℕ) → Starts input disk (told self.old) → Starts input disk (told self.new) }
+    {
+        self.ledger.pieces = Pieces {
+            read: read as usize,
+            send: send as usize,
+        };
+    }
+
+    /// Asks that every call fails from the nth of any kind on, counted from 1. The earliest that was asked counts.
+    pub fn stop_at(&mut self, nth: u64)
+        requires { 0 < nth }
+        ensures asked { ledger_of self.new ≡ record (ledger_of self.old) { stop = Some (earliest (ledger_of self.old).stop nth) } }
+        ensures tells { TellsTheSame (told self.old) (told self.new) }
+        ensures starts { (input disk : List ℕ) → Starts input disk (told self.old) → Starts input disk (told self.new) }
+    {
+        let stop = match self.ledger.stop {
+            Some(earlier) => earlier.min(nth),
+            None => nth,
+        };
+        self.ledger.stop = Some(stop);
+    }
+
+    /// The bytes that were sent.
+    pub fn sent(&self) -> &[u8]
+        ensures { (told self.now).sent ≡ Some result.now }
+    {
+        &self.sent
+    }
+
+    /// What a read of the disk gives.
+    pub fn disk(&self) -> &[u8]
+        ensures { (told self.now).disk ≡ Some result.now }
+    {
+        &self.disk
+    }
+
+    /// How many calls of `Host` were made, up to the greatest of 64 bits.
+    pub fn calls(&self) -> u64
+        ensures { result ≡ (ledger_of self.now).calls.all }
+    {
+        self.ledger.calls.all
+    }
+
+    /// How many of the calls found no memory, up to the greatest of 64 bits.
+    pub fn starved(&self) -> u64
+        ensures { result ≡ (ledger_of self.now).starved }
+    {
+        self.ledger.starved
+    }
+
+    /// A host with a disk that a stop now may leave, and a new input. No call of it fails yet.
+    pub fn crash(&self, pick: Pick, input: &[u8]) -> Result<MemoryHost, NoMemory>
+        ensures left { MayLeave (told self.now) (left_by pick self.now) }
+        ensures starts { IfOk result (λ host. Starts input.now (left_by pick self.now) (told host)) }
+        ensures fresh { IfOk result (λ host. IsFresh (ledger_of host)) }
+    {
+        let image = replayed(self.alloc, &self.start, &self.effects, pick)?;
+        MemoryHost::new(self.alloc, input, &image)
+    }
+}
+
+impl Host for MemoryHost {
+    ghost use Rattle.std.specs.Prelude.{◌≡◌, ◌<◌, ◌≤◌, ◌+◌, ◌^◌, ℕ, List, length, take, drop, min, option_map, Some, MatchResult, IfOk, OnOk, OnErr};
+    ghost use Rattle.host_core.specs.Outside.{Agrees, Elapses, Stays, Changes, Sends, IsSettled, written, Torn, Takes, Grows, Rose, Continues};
+    ghost use Rattle.host_core.specs.Effects.{remembered_sent, remembered_read};
+    ghost use Rattle.host_core.specs.Ledgers.{IsSpared, IsRefused};
+    ghost use Rattle.host_core.specs.Memory.{told, ledger_of, input_left};
+
+    ghost outside = { told };
+
+    ghost sent_now = { λ host. remembered_sent (drop host.taken host.input.items) host.sent.items host.disk.items
+        host.start.items host.effects.items host.ledger.faults.reading host.ledger.faults.sending host.ledger.faults.storing host.sent_is };
+
+    ghost read_passes = { λ host. remembered_read (drop host.taken host.input.items) host.sent.items host.disk.items
+        host.start.items host.effects.items host.ledger.faults.reading host.ledger.faults.sending host.ledger.faults.storing host.disk_is };
+
+    fn read_input(&mut self, into: &mut [u8]) -> Result<usize, Failed>
+        requires { 0 < length into.old }
+        ensures read { MatchResult result
+            (λ n. Takes (told self.old).input (told self.new).input into.new n)
+            (λ _. (told self.new).input ≡ (told self.old).input) }
+        ensures sent { (told self.new).sent ≡ (told self.old).sent }
+        ensures disk { (told self.new).disk ≡ (told self.old).disk }
+        ensures moments { Elapses (told self.old) (told self.new) (Stays (told self.old)) }
+        ensures continues { Continues (told self.old) (told self.new) }
+        ensures cause { OnErr result (Rose (told self.old).read_faults (told self.new).read_faults) }
+        ensures count { IfOk result (λ n. n ≡ min (min (length (input_left self.old)) (length into.old)) (ledger_of self.old).pieces.read) }
+        ensures ledger { MatchResult result
+            (λ _. IsSpared Call.Read (ledger_of self.old) (ledger_of self.new))
+            (λ _. IsRefused Call.Read (ledger_of self.old) (ledger_of self.new)) }
+    {
+        if self.ledger.begin(Call::Read) {
+            return self.ledger.fail(Call::Read);
+        }
+        let rest = &self.input[self.taken..];
+        let count = rest.len().min(into.len()).min(self.ledger.pieces.read);
+        into[..count].copy_from_slice(&rest[..count]);
+        self.taken += count;
+        Ok(count)
+    }
+
+    fn send(&mut self, piece: &[u8]) -> Result<usize, Failed>
+        requires { 0 < length piece.now }
+        ensures sent { MatchResult result
+            (λ n. (0 < n) × Grows (told self.old).sent (told self.new).sent piece.now n)
+            (λ _. (n : ℕ) × Grows (told self.old).sent (told self.new).sent piece.now n) }
+        ensures input { (told self.new).input ≡ (told self.old).input }
+        ensures disk { (told self.new).disk ≡ (told self.old).disk }
+        ensures moments { Elapses (told self.old) (told self.new) (Sends piece.now (told self.old)) }
+        ensures continues { Continues (told self.old) (told self.new) }
+        ensures cause { OnErr result (Rose (told self.old).send_faults (told self.new).send_faults) }
+        ensures count { IfOk result (λ n. n ≡ min (length piece.now) (ledger_of self.old).pieces.send) }
+        ensures unsent { OnErr result ((told self.new).sent ≡ (told self.old).sent) }
+        ensures ledger { MatchResult result
+            (λ _. IsSpared Call.Send (ledger_of self.old) (ledger_of self.new))
+            (λ _. IsRefused Call.Send (ledger_of self.old) (ledger_of self.new)) }
+    {
+        if self.ledger.begin(Call::Send) {
+            return self.ledger.fail(Call::Send);
+        }
+        let count = piece.len().min(self.ledger.pieces.send);
+        match sent_on(
+            self.alloc,
+            &mut self.effects,
+            &mut self.sent,
+            &piece[..count],
+        ) {
+            Ok(()) => Ok(count),
+            Err(NoMemory) => self.ledger.starve(Call::Send),
+        }
+    }
+
+    fn disk_len(&mut self) -> Result<u64, Failed>
+        ensures len { IfOk result (λ n. (n < 2 ^ 63) × ((disk : List ℕ) → (told self.old).disk ≡ Some disk → n ≡ length disk)) }
+        ensures input { (told self.new).input ≡ (told self.old).input }
+        ensures sent { (told self.new).sent ≡ (told self.old).sent }
+        ensures disk { (told self.new).disk ≡ (told self.old).disk }
+        ensures moments { Elapses (told self.old) (told self.new) (Stays (told self.old)) }
+        ensures continues { Continues (told self.old) (told self.new) }
+        ensures cause { OnErr result (Rose (told self.old).disk_faults (told self.new).disk_faults) }
+        ensures ledger { MatchResult result
+            (λ _. IsSpared Call.Len (ledger_of self.old) (ledger_of self.new))
+            (λ _. IsRefused Call.Len (ledger_of self.old) (ledger_of self.new)) }
+    {
+        if self.ledger.begin(Call::Len) {
+            return self.ledger.fail(Call::Len);
+        }
+        Ok(self.disk.len() as u64)
+    }
+
+    fn disk_read(&mut self, at: u64, into: &mut [u8]) -> Result<(), Failed>
+        requires within { (disk : List ℕ) → (told self.old).disk ≡ Some disk → at + length into.old ≤ length disk }
+        requires fits { at + length into.old < 2 ^ 64 }
+        ensures bytes { OnOk result (Agrees (option_map (λ disk. take (length into.old) (drop at disk)) (told self.old).disk) into.new) }
+        ensures input { (told self.new).input ≡ (told self.old).input }
+        ensures sent { (told self.new).sent ≡ (told self.old).sent }
+        ensures disk { (told self.new).disk ≡ (told self.old).disk }
+        ensures moments { Elapses (told self.old) (told self.new) (Stays (told self.old)) }
+        ensures continues { Continues (told self.old) (told self.new) }
+        ensures cause { OnErr result (Rose (told self.old).disk_faults (told self.new).disk_faults) }
+        ensures ledger { MatchResult result
+            (λ _. IsSpared Call.DiskRead (ledger_of self.old) (ledger_of self.new))
+            (λ _. IsRefused Call.DiskRead (ledger_of self.old) (ledger_of self.new)) }
+    {
+        if self.ledger.begin(Call::DiskRead) {
+            return self.ledger.fail(Call::DiskRead);
+        }
+        let at = at as usize;
+        into.copy_from_slice(&self.disk[at..at + into.len()]);
+        Ok(())
+    }
+
+    fn disk_write(&mut self, at: u64, piece: &[u8]) -> Result<(), Failed>
+        requires within { (disk : List ℕ) → (told self.old).disk ≡ Some disk → at ≤ length disk }
+        requires fits { at + length piece.now < 2 ^ 64 }
+        ensures written { OnOk result ((told self.new).disk ≡ option_map (written at piece.now) (told self.old).disk) }
+        ensures input { (told self.new).input ≡ (told self.old).input }
+        ensures sent { (told self.new).sent ≡ (told self.old).sent }
+        ensures moments { Elapses (told self.old) (told self.new) (Changes (Torn at (length piece.now)) (told self.old)) }
+        ensures continues { Continues (told self.old) (told self.new) }
+        ensures cause { OnErr result (Rose (told self.old).disk_faults (told self.new).disk_faults) }
+        ensures unwritten { OnErr result ((told self.new).disk ≡ (told self.old).disk) }
+        ensures ledger { MatchResult result
+            (λ _. IsSpared Call.Write (ledger_of self.old) (ledger_of self.new))
+            (λ _. IsRefused Call.Write (ledger_of self.old) (ledger_of self.new)) }
+    {
+        if self.ledger.begin(Call::Write) {
+            return match tore_at(self.alloc, &mut self.effects, at, piece) {
+                Ok(()) => self.ledger.fail(Call::Write),
+                Err(NoMemory) => self.ledger.starve(Call::Write),
+            };
+        }
+        match wrote_at(self.alloc, &mut self.effects, &mut self.disk, at, piece) {
+            Ok(()) => Ok(()),
+            Err(NoMemory) => self.ledger.starve(Call::Write),
+        }
+    }
+
+    fn disk_sync(&mut self) -> Result<(), Failed>
+        ensures settled { OnOk result (IsSettled (told self.new)) }
+        ensures input { (told self.new).input ≡ (told self.old).input }
+        ensures sent { (told self.new).sent ≡ (told self.old).sent }
+        ensures disk { (told self.new).disk ≡ (told self.old).disk }
+        ensures moments { Elapses (told self.old) (told self.new) (Stays (told self.old)) }
+        ensures continues { Continues (told self.old) (told self.new) }
+        ensures cause { OnErr result (Rose (told self.old).disk_faults (told self.new).disk_faults) }
+        ensures ledger { MatchResult result
+            (λ _. IsSpared Call.Sync (ledger_of self.old) (ledger_of self.new))
+            (λ _. IsRefused Call.Sync (ledger_of self.old) (ledger_of self.new)) }
+    {
+        if self.ledger.begin(Call::Sync) {
+            return self.ledger.fail(Call::Sync);
+        }
+        match synced(&mut self.effects) {
+            Ok(()) => Ok(()),
+            Err(NoMemory) => self.ledger.starve(Call::Sync),
+        }
+    }
+}

@@ -1,0 +1,131 @@
+// The real outside: it tells nothing of what it holds, and counts its faults.
+ghost use Rattle.std.specs.Prelude.{◌≡◌, ◌<◌, ◌≤◌, length, IfOk, OnOk, OnErr, MatchResult, IsErr};
+ghost use Rattle.std.specs.Io.KnownBytes.{ReadConsumes, WriteAppends};
+ghost use Rattle.host_core.specs.Calls.{faulted, no_faults, NoneFalls};
+ghost use Rattle.host_core.specs.Silent.{silent, untold};
+ghost use Rattle.host_core.specs.Real.{reader_of, writer_of, faults_of};
+
+use crate::call::{Call, Faults};
+use crate::host::{Failed, Host};
+use std::io::{self, Read, Write};
+
+/// A reader as the input and a writer as the sink. It has no file: each call of the disk fails and is counted.
+#[derive(Drop)]
+pub struct RealHost<R, W> {
+    input: R,
+    output: W,
+    faults: Faults,
+}
+
+impl<R: Read + Drop, W: Write + Drop> RealHost<R, W> {
+    /// A host over these, with no faults yet.
+    pub fn new(input: R, output: W) -> Self
+        ensures reader { reader_of result ≡ input }
+        ensures writer { writer_of result ≡ output }
+        ensures faults { faults_of result ≡ no_faults }
+    {
+        RealHost {
+            input,
+            output,
+            faults: Faults::new(),
+        }
+    }
+}
+
+// Counts a fault of a call where there is one.
+fn counted<T: Drop>(faults: &mut Faults, call: Call, outcome: io::Result<T>) -> Result<T, Failed>
+    ensures value { MatchResult result (λ x. outcome ≡ Ok x) (λ _. IsErr outcome) }
+    ensures same { OnOk result (faults.new ≡ faults.old) }
+    ensures faults { OnErr result (faults.new ≡ faulted call faults.old) }
+    ensures later { NoneFalls faults.old faults.new }
+{
+    match outcome {
+        Ok(value) => Ok(value),
+        Err(_) => fault(faults, call),
+    }
+}
+
+// Counts a fault of a call.
+fn fault<T>(faults: &mut Faults, call: Call) -> Result<T, Failed>
+    ensures failed { IsErr result }
+    ensures faults { faults.new ≡ faulted call faults.old }
+    ensures later { NoneFalls faults.old faults.new }
+{
+    faults.count(call);
+    Err(Failed)
+}
+
+// A sink that takes nothing is a fault.
+fn send_some<W: Write>(output: &mut W, piece: &[u8]) -> io::Result<usize>
+    ensures some { IfOk result (λ n. (0 < n) × (n ≤ length piece.now)) }
+    ensures bytes { WriteAppends (W.contents output.old) (W.contents output.new) result piece.now }
+{
+    match output.write(piece)? {
+        0 => Err(io::ErrorKind::WriteZero.into()),
+        count => Ok(count),
+    }
+}
+
+impl<R: Read + Drop, W: Write + Drop> Host for RealHost<R, W> {
+    ghost outside = { λ host. silent (faults_of host).reading (faults_of host).sending (faults_of host).storing };
+
+    ghost sent_now = { λ host image bytes left. absurd left };
+
+    ghost read_passes = { λ host disk is. absurd (untold disk is) };
+
+    fn read_input(&mut self, into: &mut [u8]) -> Result<usize, Failed>
+        ensures bytes { ReadConsumes (R.remaining (reader_of self.old)) (R.remaining (reader_of self.new)) result into.new }
+        ensures bound { IfOk result (λ n. n ≤ length into.new) }
+        ensures same { OnOk result (faults_of self.new ≡ faults_of self.old) }
+        ensures faults { OnErr result (faults_of self.new ≡ faulted Call.Read (faults_of self.old)) }
+        ensures later { NoneFalls (faults_of self.old) (faults_of self.new) }
+    {
+        counted(&mut self.faults, Call::Read, self.input.read(into))
+    }
+
+    fn send(&mut self, piece: &[u8]) -> Result<usize, Failed>
+        ensures bytes { WriteAppends (W.contents (writer_of self.old)) (W.contents (writer_of self.new)) result piece.now }
+        ensures bound { IfOk result (λ n. (0 < n) × (n ≤ length piece.now)) }
+        ensures same { OnOk result (faults_of self.new ≡ faults_of self.old) }
+        ensures faults { OnErr result (faults_of self.new ≡ faulted Call.Send (faults_of self.old)) }
+        ensures later { NoneFalls (faults_of self.old) (faults_of self.new) }
+    {
+        counted(
+            &mut self.faults,
+            Call::Send,
+            send_some(&mut self.output, piece),
+        )
+    }
+
+    fn disk_len(&mut self) -> Result<u64, Failed>
+        ensures failed { IsErr result }
+        ensures faults { faults_of self.new ≡ faulted Call.Len (faults_of self.old) }
+        ensures later { NoneFalls (faults_of self.old) (faults_of self.new) }
+    {
+        fault(&mut self.faults, Call::Len)
+    }
+
+    fn disk_read(&mut self, _at: u64, _into: &mut [u8]) -> Result<(), Failed>
+        ensures failed { IsErr result }
+        ensures faults { faults_of self.new ≡ faulted Call.DiskRead (faults_of self.old) }
+        ensures later { NoneFalls (faults_of self.old) (faults_of self.new) }
+    {
+        fault(&mut self.faults, Call::DiskRead)
+    }
+
+    fn disk_write(&mut self, _at: u64, _piece: &[u8]) -> Result<(), Failed>
+        ensures failed { IsErr result }
+        ensures faults { faults_of self.new ≡ faulted Call.Write (faults_of self.old) }
+        ensures later { NoneFalls (faults_of self.old) (faults_of self.new) }
+    {
+        fault(&mut self.faults, Call::Write)
+    }
+
+    fn disk_sync(&mut self) -> Result<(), Failed>
+        ensures failed { IsErr result }
+        ensures faults { faults_of self.new ≡ faulted Call.Sync (faults_of self.old) }
+        ensures later { NoneFalls (faults_of self.old) (faults_of self.new) }
+    {
+        fault(&mut self.faults, Call::Sync)
+    }
+}

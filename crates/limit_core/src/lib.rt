@@ -1,0 +1,10 @@
+//! Limit states and straddle states: where a quotation stands to the price bands, and how long a limit state lasts.
+#![tactic(auto)]
+
+mod limit;
+#[cfg(test)]
+mod tests;
+mod timer;
+
+pub use limit::{at_limit, straddles};
+pub use timer::LimitTimer;

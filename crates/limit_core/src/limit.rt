@@ -1,0 +1,41 @@
+ghost use Rattle.std.specs.Prelude.{◌≡◌, ◌↔◌, ◌<◌, Some, IsTrue};
+ghost use Rattle.limit_core.specs.Limits.{is_at_lower, is_at_upper, is_crossed, is_straddling, side_at};
+
+use price_core::{Bands, Price, Quotation, Side};
+
+/// The side of the bands that a quotation is at: an offer at or below the lower band, or a bid at or above the upper
+/// (LULD Plan, Section VI). None exactly where it is at neither, or crossed.
+pub fn at_limit(q: &Quotation, b: &Bands) -> Option<Side>
+    requires { b.now.lower < b.now.upper }
+    ensures value { result ≡ side_at q.now b.now }
+    ensures low { (result ≡ Some Side.Low) ↔ IsTrue (is_at_lower q.now b.now) }
+    ensures high { (result ≡ Some Side.High) ↔ IsTrue (is_at_upper q.now b.now) }
+{
+    if is_crossed(q) {
+        None
+    } else if q.offer.is_some_and(|offer| offer <= b.lower) {
+        Some(Side::Low)
+    } else if q.bid.is_some_and(|bid| b.upper <= bid) {
+        Some(Side::High)
+    } else {
+        None
+    }
+}
+
+/// Whether a quotation straddles the bands: a bid below the lower band or an offer above the upper (LULD Plan,
+/// Section VII).
+pub fn straddles(q: &Quotation, b: &Bands) -> bool
+    ensures { result ≡ is_straddling q.now b.now }
+{
+    q.bid.is_some_and(|bid| bid < b.lower) || q.offer.is_some_and(|offer| b.upper < offer)
+}
+
+/// Whether a bid is above its own offer.
+fn is_crossed(q: &Quotation) -> bool
+    ensures { result ≡ is_crossed q.now }
+{
+    match (q.bid, q.offer) {
+        (Some(bid), Some(offer)) => offer < bid,
+        _ => false,
+    }
+}

@@ -1,0 +1,47 @@
+ghost use Rattle.std.specs.Prelude.{◌≡◌, ◌≤◌};
+ghost use Rattle.limit_core.specs.Timers.{has_lasted};
+
+use price_core::Side;
+use session_core::{Moment, age};
+use std::marker::Model;
+
+/// A limit state: when it was entered, and at which side of the bands.
+#[derive(Clone, Copy, Debug, PartialEq, Eq)]
+pub struct LimitTimer {
+    entered: Moment,
+    side: Side,
+}
+
+impl Model for LimitTimer {
+    ghost use Rattle.limit_core.specs.Timers.{LimitState};
+
+    ghost Value = { LimitState };
+
+    ghost view = { λ timer. record { entered = timer.entered; side = timer.side } };
+
+    ghost inverse = { λ state. record { entered = state.entered; side = state.side } };
+}
+
+impl LimitTimer {
+    /// The limit state that is entered at a moment.
+    pub fn enter(t: Moment, side: Side) -> LimitTimer
+        ensures { result ≡ record { entered = t; side = side } }
+    {
+        LimitTimer { entered: t, side }
+    }
+
+    /// The side of the bands.
+    pub fn side(&self) -> Side
+        ensures { result ≡ self.now.side }
+    {
+        self.side
+    }
+
+    /// Whether the limit state has lasted for 15 seconds, which are enough for a pause (LULD Plan, Section VII).
+    pub fn expired(&self, t: Moment) -> bool
+        requires { self.now.entered ≤ t }
+        ensures { result ≡ has_lasted self.now.entered t }
+    {
+        age(t, self.entered) >= 15_000_000_000
+    }
+}

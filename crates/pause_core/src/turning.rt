@@ -1,0 +1,76 @@
+ghost use Rattle.std.specs.Prelude.{◌≡◌, ◌++◌, option_to_list};
+ghost use Rattle.pause_core.specs.Turns.{halt, phase_after_halt, in_order, starts, stops, turns};
+
+use crate::phases::{can_start, can_stop, is_done, is_in_halt};
+use session_core::Phase;
+
+/// What brakes a stock: the close has come, it is in the session, a market-wide halt is in effect, a regulatory halt is in
+/// effect.
+#[derive(Clone, Copy, Debug, PartialEq, Eq)]
+pub struct Brakes {
+    pub closed: bool,
+    pub in_session: bool,
+    pub stopped: bool,
+    pub halted: bool,
+}
+
+/// The phases that the brakes bring, in order.
+#[derive(Clone, Copy, Debug, PartialEq, Eq)]
+pub struct Turned {
+    pub first: Option<Phase>,
+    pub second: Option<Phase>,
+}
+
+/// The phases that the close, a market-wide halt, the start of trading and a regulatory halt bring, one rule after the
+/// other (NYSE Rule 7.12 for the market-wide halt).
+pub fn turn(phase: Phase, b: &Brakes) -> Turned
+    ensures all { option_to_list result.first ++ option_to_list result.second ≡ turns phase b.now }
+    ensures value { result ≡ in_order (turns phase b.now) }
+{
+    let (first, second) = if is_done(phase) {
+        (None, None)
+    } else if b.closed {
+        (Some(Phase::Closed), None)
+    } else if stops(phase, b) {
+        (Some(Phase::Stopped), halt(Phase::Stopped, b))
+    } else if starts(phase, b) {
+        (Some(Phase::Trading), halt(Phase::Trading, b))
+    } else {
+        (halt(phase, b), None)
+    };
+    Turned { first, second }
+}
+
+fn stops(phase: Phase, b: &Brakes) -> bool
+    ensures { result ≡ stops phase b.now }
+{
+    b.stopped && can_stop(phase)
+}
+
+fn starts(phase: Phase, b: &Brakes) -> bool
+    ensures { result ≡ starts phase b.now }
+{
+    can_start(phase) && b.in_session && !b.stopped
+}
+
+fn halt(phase: Phase, b: &Brakes) -> Option<Phase>
+    ensures { result ≡ halt phase b.now }
+{
+    if b.halted {
+        (!is_in_halt(phase)).then_some(Phase::Halted)
+    } else {
+        is_in_halt(phase).then_some(after_halt(b))
+    }
+}
+
+fn after_halt(b: &Brakes) -> Phase
+    ensures { result ≡ phase_after_halt b.now }
+{
+    if b.stopped {
+        Phase::Stopped
+    } else if b.in_session {
+        Phase::Trading
+    } else {
+        Phase::Shut
+    }
+}

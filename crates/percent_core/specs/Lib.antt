@@ -1,0 +1,3 @@
+pub mod Percentages
+pub mod PriceBands
+pub mod Keys

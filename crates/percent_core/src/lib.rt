@@ -1,0 +1,10 @@
+//! The percentage parameters of the price bands, and the price bands of a reference price.
+#![tactic(auto)]
+
+mod parameter;
+mod price_bands;
+#[cfg(test)]
+mod tests;
+
+pub use parameter::{category, percent, span};
+pub use price_bands::bands;

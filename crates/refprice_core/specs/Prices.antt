@@ -1,0 +1,48 @@
+-- The reference price of a stock (LULD Plan, Section V).
+use Rattle.std.specs.Prelude.{ℕ, Bool, Option, Some, None, ◌+◌, nat_lt, nat_le, if◌then◌else◌, ◌&&◌, option_map, option_and_then}
+use Rattle.std.specs.Option.{option_map_or}
+use Rattle.price_core.specs.Moves.{has_moved_one_percent}
+use Rattle.price_core.specs.declared.quote.Cause.{Cause}
+use Rattle.price_core.specs.declared.quote.Cause.TheVariants.{First, Moved, Forced}
+use Rattle.session_core.specs.Moments.{seconds}
+use Rattle.refprice_core.specs.declared.reference.Adoption.{Adoption}
+
+-- a new reference price, and why
+pub record Priced : Type 0 where
+  pub cause : Cause
+  pub price : ℕ
+
+abbrev pub because : Cause → Option ℕ → Option Priced
+because cause price = option_map (λ p. record { cause = cause; price = p }) price
+
+-- the first price of a run: within five minutes after its begin the price that is offered, by an opening trade or an
+-- opening on quotations, and then the mean
+abbrev pub first_price : ℕ → ℕ → Option ℕ → Option ℕ → Option ℕ
+first_price begun t offered mean = if nat_lt t (begun + seconds 300) then offered else mean
+
+-- whether a mean is a new reference price: it has moved by one per cent, and 30 seconds have passed
+abbrev pub has_moved : Adoption → ℕ → ℕ → Bool
+has_moved last t mean = has_moved_one_percent mean last.price && nat_le (last.moment + seconds 30) t
+
+abbrev pub moved_price : Adoption → ℕ → Option ℕ → Option ℕ
+moved_price last t mean = option_and_then (λ m. if has_moved last t m then Some m else None) mean
+
+-- the new reference price at t, where last is the last adoption of the run
+abbrev pub observed : ℕ → Option Adoption → ℕ → Option ℕ → Option ℕ → Option Priced
+observed begun None t offered mean = because First (first_price begun t offered mean)
+observed begun (Some last) t offered mean = because Moved (moved_price last t mean)
+
+-- the new reference price at the end of a limit state
+abbrev pub forced : Option ℕ → Option Priced
+forced mean = because Forced mean
+
+abbrev pub cause_of : Option Priced → Option Cause
+cause_of priced = option_map (λ p. p.cause) priced
+
+-- the price that an adoption gave
+abbrev pub price_of : Option Adoption → Option ℕ
+price_of last = option_map (λ a. a.price) last
+
+-- the moment of an adoption, or that of the run's begin where there is none
+abbrev pub adopted_at : ℕ → Option Adoption → ℕ
+adopted_at begun last = option_map_or (λ a. a.moment) last begun

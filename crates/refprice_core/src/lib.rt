@@ -1,0 +1,8 @@
+//! The reference price of a stock's price bands (LULD Plan, Section V).
+#![tactic(auto)]
+
+mod reference;
+#[cfg(test)]
+mod tests;
+
+pub use reference::{Adoption, Reference};

@@ -1,0 +1,148 @@
+ghost use Rattle.std.specs.Prelude.{◌≡◌, ◌∷◌, List, None, Some};
+ghost use Rattle.refprice_core.specs.Prices.{observed, forced, first_price, cause_of, price_of, adopted_at};
+ghost use Rattle.refprice_core.specs.Runs.{Call, Begin, Release, Observe, Force, events, begun_in, last_in};
+
+use price_core::{Cause, Price, moved_one_percent};
+use session_core::Moment;
+use std::marker::Model;
+
+/// A reference price in ten-thousandths of a dollar, and the moment of its adoption.
+#[derive(Clone, Copy, Debug, PartialEq, Eq)]
+pub struct Adoption {
+    pub moment: Moment,
+    pub price: Price,
+}
+
+/// The reference price of a run of continuous trading (LULD Plan, Section V).
+#[derive(Clone, Copy, Debug, PartialEq, Eq)]
+pub struct Reference {
+    begun: Moment,
+    last: Option<Adoption>,
+}
+
+impl Model for Reference {
+    ghost use Rattle.refprice_core.specs.Kept.{Kept};
+
+    ghost Value = { Kept };
+
+    ghost view = { λ r. record { begun = r.begun; last = r.last } };
+
+    ghost inverse = { λ kept. record { begun = kept.begun; last = kept.last } };
+}
+
+/// The first price of a run: within five minutes the price that is offered, and then the mean.
+fn first_price(
+    begun: Moment,
+    t: Moment,
+    offered: Option<Price>,
+    mean: Option<Price>,
+) -> Option<Price>
+    ensures { result ≡ first_price begun t offered mean }
+{
+    if t.nanos() < begun.nanos() + 300_000_000_000 {
+        offered
+    } else {
+        mean
+    }
+}
+
+impl Adoption {
+    ghost use Rattle.refprice_core.specs.Prices.{moved_price};
+
+    /// The mean, where it has moved by one per cent and 30 seconds have passed.
+    fn moved_price(&self, t: Moment, mean: Option<Price>) -> Option<Price>
+        ensures { result ≡ moved_price self.now t mean }
+    {
+        mean.filter(|price| {
+            moved_one_percent(*price, self.price)
+                && t.nanos() >= self.moment.nanos() + 30_000_000_000
+        })
+    }
+}
+
+impl Reference {
+    ghost use Rattle.refprice_core.specs.Kept.{with_adopted, Stands};
+
+    /// A run that begins with no price yet.
+    pub fn begin(t: Moment) -> Reference
+        ensures value { result ≡ record { begun = t; last = None } }
+        ensures stands { (calls : List Call) → Stands result (Begin t ∷ calls) }
+    {
+        Reference {
+            begun: t,
+            last: None,
+        }
+    }
+
+    /// A run that begins at the price of a reopening, in ten-thousandths of a dollar.
+    pub fn released(t: Moment, p: Price) -> Reference
+        ensures value { result ≡ record { begun = t; last = Some (record { moment = t; price = p }) } }
+        ensures stands { (calls : List Call) → Stands result (Release t p ∷ calls) }
+    {
+        Reference {
+            begun: t,
+            last: Some(Adoption {
+                moment: t,
+                price: p,
+            }),
+        }
+    }
+
+    /// Takes what is known at a moment: the price that an opening trade or an opening on quotations offers, and the mean.
+    /// The answer is the cause of the new reference price, None exactly where there is none (LULD Plan, Section V(A) and
+    /// (B)).
+    pub fn observe(
+        &mut self,
+        t: Moment,
+        offered: Option<Price>,
+        mean: Option<Price>,
+    ) -> Option<Cause>
+        ensures cause { result ≡ cause_of (observed self.old.begun self.old.last t offered mean) }
+        ensures value { self.new ≡ with_adopted t (observed self.old.begun self.old.last t offered mean) self.old }
+        ensures answer { (calls : List Call) → Stands self.old calls
+            → result ≡ cause_of (observed (begun_in (events calls)) (last_in (events calls)) t offered mean) }
+        ensures stands { (calls : List Call) → Stands self.old calls → Stands self.new (Observe t offered mean ∷ calls) }
+    {
+        let (price, cause) = match &self.last {
+            None => (first_price(self.begun, t, offered, mean)?, Cause::First),
+            Some(last) => (last.moved_price(t, mean)?, Cause::Moved),
+        };
+        self.adopt(t, price);
+        Some(cause)
+    }
+
+    /// Takes the mean at the end of a limit state, as the new reference price; None exactly where there is no mean
+    /// (LULD Plan, Section VI).
+    pub fn force(&mut self, t: Moment, mean: Option<Price>) -> Option<Cause>
+        ensures cause { result ≡ cause_of (forced mean) }
+        ensures value { self.new ≡ with_adopted t (forced mean) self.old }
+        ensures stands { (calls : List Call) → Stands self.old calls → Stands self.new (Force t mean ∷ calls) }
+    {
+        self.adopt(t, mean?);
+        Some(Cause::Forced)
+    }
+
+    /// Takes a new reference price.
+    fn adopt(&mut self, t: Moment, price: Price)
+        ensures { self.new ≡ record self.old { last = Some (record { moment = t; price = price }) } }
+    {
+        self.last = Some(Adoption { moment: t, price });
+    }
+
+    /// The price last adopted in ten-thousandths of a dollar, None exactly where there was none.
+    pub fn current(&self) -> Option<Price>
+        ensures value { result ≡ price_of self.now.last }
+        ensures answer { (calls : List Call) → Stands self.now calls → result ≡ price_of (last_in (events calls)) }
+    {
+        self.last.map(|last| last.price)
+    }
+
+    /// The moment of the last adoption, or that of the begin where there was none.
+    pub fn adopted(&self) -> Moment
+        ensures value { result ≡ adopted_at self.now.begun self.now.last }
+        ensures answer { (calls : List Call) → Stands self.now calls
+            → result ≡ adopted_at (begun_in (events calls)) (last_in (events calls)) }
+    {
+        self.last.map_or(self.begun, |last| last.moment)
+    }
+}

@@ -1,0 +1,9 @@
+//! Reopening auctions after a trading pause, with collars that widen (after Nasdaq Rule 4120).
+#![tactic(auto)]
+
+mod auction;
+mod collars;
+#[cfg(test)]
+mod tests;
+
+pub use auction::{Auction, Indication, Origin, Round, Trial};

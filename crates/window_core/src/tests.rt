@@ -1,0 +1,91 @@
+ghost use Rattle.std.specs.Prelude.{◌≡◌, ◌+◌, ◌≤◌, ◌<◌, IfOk, OnOk};
+
+use super::*;
+use price_core::Price;
+use session_core::Moment;
+use std::test::Fail;
+
+/// A moment that many nanoseconds after 09:30:00.
+fn after(nanos: u64) -> Result<Moment, Fail>
+    requires { nanos < 1000000000000 }
+    ensures { IfOk result (λ t. t ≡ 34200000000000 + nanos) }
+{
+    Ok(Moment::new(34_200_000_000_000 + nanos)?)
+}
+
+fn price(units: u64) -> Result<Option<Price>, Fail> {
+    Ok(Some(Price::new(units)?))
+}
+
+fn trade(window: &mut Window, t: Moment, number: u32, units: u64) -> Result<(), Fail>
+    requires { window.old.moment ≤ t }
+    ensures { OnOk result (window.new.moment ≡ t) }
+{
+    window.advance(t);
+    window.reserve()?;
+    window.add(Deal {
+        moment: t,
+        number,
+        price: Price::new(units)?,
+    });
+    Ok(())
+}
+
+#[test]
+fn a_mean_is_rounded_half_up(rt: HostRuntime) -> Result<(), Fail> {
+    let mut window = Window::new(rt.alloc())?;
+    assert_eq!(rt; window.mean(), None);
+    assert_eq!(rt; window.oldest(), None);
+    trade(&mut window, after(0)?, 1, 500_000)?;
+    trade(&mut window, after(29_999_999_999)?, 2, 510_000)?;
+    assert_eq!(rt; window.mean(), price(505_000)?);
+    window.cancel(2);
+    trade(&mut window, after(30_000_000_000)?, 3, 500_001)?;
+    assert_eq!(rt; window.mean(), price(500_001)?);
+    assert_eq!(rt; window.oldest(), Some(after(0)?));
+    Ok(())
+}
+
+#[test]
+fn a_trade_of_exactly_five_minutes_does_not_count(rt: HostRuntime) -> Result<(), Fail> {
+    let mut window = Window::new(rt.alloc())?;
+    trade(&mut window, after(0)?, 1, 490_000)?;
+    trade(&mut window, after(1)?, 2, 500_000)?;
+    window.advance(after(299_999_999_999)?);
+    assert_eq!(rt; window.mean(), price(495_000)?);
+    window.advance(after(300_000_000_000)?);
+    assert_eq!(rt; window.mean(), price(500_000)?);
+    assert_eq!(rt; window.oldest(), Some(after(1)?));
+    window.cancel(2);
+    assert_eq!(rt; window.mean(), None);
+    Ok(())
+}
+
+#[test]
+fn a_cancel_takes_away_each_trade_of_its_number(rt: HostRuntime) -> Result<(), Fail> {
+    let mut window = Window::new(rt.alloc())?;
+    window.cancel(2);
+    trade(&mut window, after(0)?, 2, 490_000)?;
+    trade(&mut window, after(0)?, 1, 500_000)?;
+    trade(&mut window, after(0)?, 2, 510_000)?;
+    assert_eq!(rt; window.mean(), price(500_000)?);
+    window.cancel(2);
+    assert_eq!(rt; window.mean(), price(500_000)?);
+    window.cancel(2);
+    assert_eq!(rt; window.mean(), price(500_000)?);
+    window.cancel(1);
+    assert_eq!(rt; window.mean(), None);
+    Ok(())
+}
+
+#[test]
+fn a_restart_begins_a_new_day(rt: HostRuntime) -> Result<(), Fail> {
+    let mut window = Window::new(rt.alloc())?;
+    trade(&mut window, after(600_000_000_000)?, 1, 490_000)?;
+    window.restart();
+    assert_eq!(rt; window.mean(), None);
+    trade(&mut window, after(0)?, 1, 99_999_999_999)?;
+    assert_eq!(rt; window.mean(), price(99_999_999_999)?);
+    assert_eq!(rt; window.oldest(), Some(after(0)?));
+    Ok(())
+}

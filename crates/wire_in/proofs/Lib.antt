@@ -1,0 +1,5 @@
+pub mod Values
+pub mod Found
+pub mod Again
+pub mod Cuts
+pub mod Streams

@@ -1,0 +1,214 @@
+//! From a body to its record.
+
+ghost use Rattle.std.specs.Prelude.{◌≡◌, ◌+◌, ◌≤◌, length, IfOk, Ok};
+ghost use Rattle.wire_in.specs.Reading.{date_at, day_of, listing_of, trade_of, cancel_of, quote_of, index_tick_of, clock_of, notice_of, indication_of, record_of};
+ghost use Rattle.wire_in.specs.Spelling.{Spells};
+ghost use Rattle.wire_in.specs.declared.record.Record.{Record};
+
+use crate::code::{
+    close_of_byte, flags_of_number, kind_of_byte, leverage_of_byte, profile_of_byte, tier_of_byte,
+    unmatched_of_byte,
+};
+use crate::record::{Record, Refusal};
+use session_core::{BadDate, Date, Day};
+use wire_core::{index_at, moment_at, name_at, optional_price_at, price_at, u16_at, u32_at};
+
+#[tactic(auto, unfolding(crate::specs::Reading::date_at))]
+fn date_at(body: &[u8], at: usize) -> Result<Date, Refusal>
+    requires { at + 4 ≤ length body.now }
+    ensures { result ≡ date_at at body.now }
+{
+    match Date::of(u16_at(body, at), body[at + 2], body[at + 3]) {
+        Ok(date) => Ok(date),
+        Err(BadDate::Year) => Err(Refusal::BadField(2)),
+        Err(BadDate::Month) => Err(Refusal::BadField(3)),
+        Err(BadDate::DayOfMonth) => Err(Refusal::BadField(4)),
+    }
+}
+
+#[tactic(auto, unfolding(crate::specs::Reading::day_of))]
+fn day(body: &[u8]) -> Result<Record, Refusal>
+    ensures { result ≡ day_of body.now }
+{
+    if body.len() != 19 {
+        return Err(Refusal::BadLength);
+    }
+    let moment = moment_at(body, 1).ok_or(Refusal::BadField(1))?;
+    let date = date_at(body, 9)?;
+    let close = close_of_byte(body[13]).ok_or(Refusal::BadField(5))?;
+    let profile = profile_of_byte(body[14]).ok_or(Refusal::BadField(6))?;
+    let index_close = index_at(body, 15).ok_or(Refusal::BadField(7))?;
+    let day = Day {
+        date,
+        close,
+        profile,
+    };
+    Ok(Record::Day {
+        moment,
+        day,
+        index_close,
+    })
+}
+
+#[tactic(auto, unfolding(crate::specs::Reading::listing_of))]
+fn listing(body: &[u8]) -> Result<Record, Refusal>
+    ensures { result ≡ listing_of body.now }
+{
+    if body.len() != 27 {
+        return Err(Refusal::BadLength);
+    }
+    let moment = moment_at(body, 1).ok_or(Refusal::BadField(1))?;
+    let name = name_at(body, 9).ok_or(Refusal::BadField(2))?;
+    let tier = tier_of_byte(body[17]).ok_or(Refusal::BadField(3))?;
+    let leverage = leverage_of_byte(body[18]).ok_or(Refusal::BadField(4))?;
+    let close = optional_price_at(body, 19).ok_or(Refusal::BadField(5))?;
+    Ok(Record::Listing {
+        moment,
+        name,
+        tier,
+        leverage,
+        close,
+    })
+}
+
+#[tactic(auto, unfolding(crate::specs::Reading::trade_of))]
+fn trade(body: &[u8]) -> Result<Record, Refusal>
+    ensures { result ≡ trade_of body.now }
+{
+    if body.len() != 29 {
+        return Err(Refusal::BadLength);
+    }
+    let moment = moment_at(body, 1).ok_or(Refusal::BadField(1))?;
+    let price = price_at(body, 15).ok_or(Refusal::BadField(4))?;
+    let flags = flags_of_number(u16_at(body, 27)).ok_or(Refusal::BadField(6))?;
+    Ok(Record::Trade {
+        moment,
+        symbol: u16_at(body, 9),
+        number: u32_at(body, 11),
+        price,
+        size: u32_at(body, 23),
+        flags,
+    })
+}
+
+#[tactic(auto, unfolding(crate::specs::Reading::cancel_of))]
+fn cancel(body: &[u8]) -> Result<Record, Refusal>
+    ensures { result ≡ cancel_of body.now }
+{
+    if body.len() != 15 {
+        return Err(Refusal::BadLength);
+    }
+    let moment = moment_at(body, 1).ok_or(Refusal::BadField(1))?;
+    Ok(Record::Cancel {
+        moment,
+        symbol: u16_at(body, 9),
+        number: u32_at(body, 11),
+    })
+}
+
+#[tactic(auto, unfolding(crate::specs::Reading::quote_of))]
+fn quote(body: &[u8]) -> Result<Record, Refusal>
+    ensures { result ≡ quote_of body.now }
+{
+    if body.len() != 35 {
+        return Err(Refusal::BadLength);
+    }
+    let moment = moment_at(body, 1).ok_or(Refusal::BadField(1))?;
+    let bid = optional_price_at(body, 11).ok_or(Refusal::BadField(3))?;
+    let offer = optional_price_at(body, 19).ok_or(Refusal::BadField(4))?;
+    Ok(Record::Quote {
+        moment,
+        symbol: u16_at(body, 9),
+        bid,
+        offer,
+        bid_size: u32_at(body, 27),
+        offer_size: u32_at(body, 31),
+    })
+}
+
+#[tactic(auto, unfolding(crate::specs::Reading::index_tick_of))]
+fn index_tick(body: &[u8]) -> Result<Record, Refusal>
+    ensures { result ≡ index_tick_of body.now }
+{
+    if body.len() != 13 {
+        return Err(Refusal::BadLength);
+    }
+    let moment = moment_at(body, 1).ok_or(Refusal::BadField(1))?;
+    let value = index_at(body, 9).ok_or(Refusal::BadField(2))?;
+    Ok(Record::IndexTick { moment, value })
+}
+
+#[tactic(auto, unfolding(crate::specs::Reading::clock_of))]
+fn clock(body: &[u8]) -> Result<Record, Refusal>
+    ensures { result ≡ clock_of body.now }
+{
+    if body.len() != 9 {
+        return Err(Refusal::BadLength);
+    }
+    let moment = moment_at(body, 1).ok_or(Refusal::BadField(1))?;
+    Ok(Record::Clock { moment })
+}
+
+#[tactic(auto, unfolding(crate::specs::Reading::notice_of))]
+fn notice(body: &[u8]) -> Result<Record, Refusal>
+    ensures { result ≡ notice_of body.now }
+{
+    if body.len() != 12 {
+        return Err(Refusal::BadLength);
+    }
+    let moment = moment_at(body, 1).ok_or(Refusal::BadField(1))?;
+    let kind = kind_of_byte(body[11]).ok_or(Refusal::BadField(3))?;
+    Ok(Record::Notice {
+        moment,
+        symbol: u16_at(body, 9),
+        kind,
+    })
+}
+
+#[tactic(auto, unfolding(crate::specs::Reading::indication_of))]
+fn indication(body: &[u8]) -> Result<Record, Refusal>
+    ensures { result ≡ indication_of body.now }
+{
+    if body.len() != 20 {
+        return Err(Refusal::BadLength);
+    }
+    let moment = moment_at(body, 1).ok_or(Refusal::BadField(1))?;
+    let price = price_at(body, 11).ok_or(Refusal::BadField(3))?;
+    let unmatched = unmatched_of_byte(body[19]).ok_or(Refusal::BadField(4))?;
+    Ok(Record::Indication {
+        moment,
+        symbol: u16_at(body, 9),
+        price,
+        unmatched,
+    })
+}
+
+#[tactic(auto, unfolding(crate::specs::Reading::record_of))]
+fn record(body: &[u8]) -> Result<Record, Refusal>
+    ensures { result ≡ record_of body.now }
+{
+    match body {
+        [] => Err(Refusal::BadLength),
+        [1, ..] => day(body),
+        [2, ..] => listing(body),
+        [3, ..] => trade(body),
+        [4, ..] => cancel(body),
+        [5, ..] => quote(body),
+        [6, ..] => index_tick(body),
+        [7, ..] => clock(body),
+        [8, ..] => notice(body),
+        [9, ..] => indication(body),
+        [_, ..] => Err(Refusal::UnknownType),
+    }
+}
+
+/// The record that a body says, or the first refusal: of its type, of its length, or of its first field that is outside
+/// its range. An empty body has a bad length. Each record has one body, and each body that decodes is that of its record.
+pub fn decode(body: &[u8]) -> Result<Record, Refusal>
+    requires { length body.now ≤ 255 }
+    ensures exact { result ≡ record_of body.now }
+    ensures found { IfOk result (Spells body.now) }
+    ensures only { (x : Record) → Spells body.now x → result ≡ Ok x }
+{
+    record(body)
+}

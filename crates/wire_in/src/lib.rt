@@ -1,0 +1,17 @@
+//! Input frames: from pieces of a stream to bodies, from a body to its record, and from a record to its frame.
+#![tactic(auto)]
+
+mod code;
+mod cutter;
+mod decoding;
+mod encoding;
+mod law;
+mod record;
+#[cfg(test)]
+mod tests;
+
+pub use cutter::{Cut, Cutter};
+pub use decoding::decode;
+pub use encoding::encode;
+pub use law::{cutting_goes_on, frames_differ, there_is_one_cut};
+pub use record::{NoticeKind, Record, Refusal};
