@@ -1,6 +1,6 @@
 -- A body that is read is the body of its frame, which is in its ranges. Each body is rebuilt from its end.
-use Rattle.std.proofs.Common.{◌≡◌, ℕ, ◌+◌, ◌^◌, ◌<◌, ◌≤◌, Bool, true, false, cond, eqb, List, [], ◌∷◌, ◌++◌, length, get_or, take, drop, Option, Some, None, refl, sym, subst, ◌∙◌, ◌⊎◌, inl, inr, arith}
-use Rattle.std.specs.Int.{w16, w32, w64, to_be_bytes}
+use Rattle.std.proofs.Common.{◌≡◌, ℕ, ◌^◌, ◌<◌, ◌≤◌, Bool, true, false, cond, eqb, List, [], ◌∷◌, ◌++◌, length, get_or, drop, Option, Some, None, refl, subst, ◌∙◌, ◌⊎◌, inl, inr, arith}
+use Rattle.std.specs.Int.{w16, w64, to_be_bytes}
 use Rattle.std.proofs.lemmas.Bool.{eqb-true}
 use Rattle.std.proofs.lemmas.List.{append-nil}
 use Rattle.wire_core.specs.Fields.{number}
@@ -39,8 +39,8 @@ listed_found body m fits kind e =
     let s = sized_ok 27 body _ m e in
     let a = step _ _ m _ (name_ok 19 body) s.1 in
     let fields =
-      cell wide16 17 body _ (number w16 17 body) fits refl (omega arith) (
-      text_cell 8 19 body _ a.0 a.1.0 (ended 27 body s.0) ∙ append-nil a.0) in
+    cell wide16 17 body _ (number w16 17 body) fits refl (omega arith) (
+    text_cell 8 19 body _ a.0 a.1.0 (ended 27 body s.0) ∙ append-nil a.0) in
     subst (Tells body) (some_is _ m a.2) (record { types = number_below wide16 17 body fits; ranges = (name_length 19 body a.0 a.1.0 (omega arith), a.1.1); room = omega arith; bytes = behind_head 0x11 body _ fits (omega arith) kind fields })
 
 state_found : (body : List ℕ) (m : Message) → IsBytes body → get_or body 0 0 ≡ 0x12 → state_of body ≡ Some m → Tells body m
@@ -49,9 +49,9 @@ state_found body m fits kind e =
     let s = sized_ok 20 body _ m e in
     let p = step _ _ m _ (phase_ok (get_or body 19 0)) s.1 in
     let fields =
-      cell wide16 17 body _ (number w16 17 body) fits refl (omega arith) (
-      byte_cell 19 body _ _ p.1 (omega arith) (
-      ended 20 body s.0)) in
+    cell wide16 17 body _ (number w16 17 body) fits refl (omega arith) (
+    byte_cell 19 body _ _ p.1 (omega arith) (
+    ended 20 body s.0)) in
     subst (Tells body) (some_is _ m p.2) (record { types = number_below wide16 17 body fits; ranges = tt; room = omega arith; bytes = behind_head 0x12 body _ fits (omega arith) kind fields })
 
 band_found : (body : List ℕ) (m : Message) → IsBytes body → get_or body 0 0 ≡ 0x13 → band_of body ≡ Some m → Tells body m
@@ -63,12 +63,12 @@ band_found body m fits kind e =
     let l = step _ _ m _ (price_ok 28 body) r.2 in
     let u = step _ _ m _ (price_ok 36 body) l.2 in
     let fields =
-      cell wide16 17 body _ (number w16 17 body) fits refl (omega arith) (
-      byte_cell 19 body _ _ c.1 (omega arith) (
-      cell wide64 20 body _ r.0 fits r.1.0 (omega arith) (
-      cell wide64 28 body _ l.0 fits l.1.0 (omega arith) (
-      cell wide64 36 body _ u.0 fits u.1.0 (omega arith) (
-      ended 44 body s.0))))) in
+    cell wide16 17 body _ (number w16 17 body) fits refl (omega arith) (
+    byte_cell 19 body _ _ c.1 (omega arith) (
+    cell wide64 20 body _ r.0 fits r.1.0 (omega arith) (
+    cell wide64 28 body _ l.0 fits l.1.0 (omega arith) (
+    cell wide64 36 body _ u.0 fits u.1.0 (omega arith) (
+    ended 44 body s.0))))) in
     subst (Tells body) (some_is _ m u.2) (record { types = (number_below wide16 17 body fits, r.1.1, l.1.1, u.1.1); ranges = tt; room = omega arith; bytes = behind_head 0x13 body _ fits (omega arith) kind fields })
 
 straddle_found : (body : List ℕ) (m : Message) → IsBytes body → get_or body 0 0 ≡ 0x14 → straddle_of body ≡ Some m → Tells body m
@@ -77,9 +77,9 @@ straddle_found body m fits kind e =
     let s = sized_ok 20 body _ m e in
     let on = step _ _ m _ (straddle_ok (get_or body 19 0)) s.1 in
     let fields =
-      cell wide16 17 body _ (number w16 17 body) fits refl (omega arith) (
-      byte_cell 19 body _ _ on.1 (omega arith) (
-      ended 20 body s.0)) in
+    cell wide16 17 body _ (number w16 17 body) fits refl (omega arith) (
+    byte_cell 19 body _ _ on.1 (omega arith) (
+    ended 20 body s.0)) in
     subst (Tells body) (some_is _ m on.2) (record { types = number_below wide16 17 body fits; ranges = tt; room = omega arith; bytes = behind_head 0x14 body _ fits (omega arith) kind fields })
 
 collar_found : (body : List ℕ) (m : Message) → IsBytes body → get_or body 0 0 ≡ 0x15 → collar_of body ≡ Some m → Tells body m
@@ -89,11 +89,11 @@ collar_found body m fits kind e =
     let l = step _ _ m _ (price_ok 21 body) s.1 in
     let u = step _ _ m _ (price_ok 29 body) l.2 in
     let fields =
-      cell wide16 17 body _ (number w16 17 body) fits refl (omega arith) (
-      cell wide16 19 body _ (number w16 19 body) fits refl (omega arith) (
-      cell wide64 21 body _ l.0 fits l.1.0 (omega arith) (
-      cell wide64 29 body _ u.0 fits u.1.0 (omega arith) (
-      ended 37 body s.0)))) in
+    cell wide16 17 body _ (number w16 17 body) fits refl (omega arith) (
+    cell wide16 19 body _ (number w16 19 body) fits refl (omega arith) (
+    cell wide64 21 body _ l.0 fits l.1.0 (omega arith) (
+    cell wide64 29 body _ u.0 fits u.1.0 (omega arith) (
+    ended 37 body s.0)))) in
     subst (Tells body) (some_is _ m u.2) (record { types = (number_below wide16 17 body fits, number_below wide16 19 body fits, l.1.1, u.1.1); ranges = tt; room = omega arith; bytes = behind_head 0x15 body _ fits (omega arith) kind fields })
 
 release_found : (body : List ℕ) (m : Message) → IsBytes body → get_or body 0 0 ≡ 0x16 → release_of body ≡ Some m → Tells body m
@@ -102,9 +102,9 @@ release_found body m fits kind e =
     let s = sized_ok 27 body _ m e in
     let p = step _ _ m _ (price_ok 19 body) s.1 in
     let fields =
-      cell wide16 17 body _ (number w16 17 body) fits refl (omega arith) (
-      cell wide64 19 body _ p.0 fits p.1.0 (omega arith) (
-      ended 27 body s.0)) in
+    cell wide16 17 body _ (number w16 17 body) fits refl (omega arith) (
+    cell wide64 19 body _ p.0 fits p.1.0 (omega arith) (
+    ended 27 body s.0)) in
     subst (Tells body) (some_is _ m p.2) (record { types = (number_below wide16 17 body fits, p.1.1); ranges = tt; room = omega arith; bytes = behind_head 0x16 body _ fits (omega arith) kind fields })
 
 short_found : (body : List ℕ) (m : Message) → IsBytes body → get_or body 0 0 ≡ 0x17 → short_of body ≡ Some m → Tells body m
@@ -113,9 +113,9 @@ short_found body m fits kind e =
     let s = sized_ok 20 body _ m e in
     let k = step _ _ m _ (kind_ok (get_or body 19 0)) s.1 in
     let fields =
-      cell wide16 17 body _ (number w16 17 body) fits refl (omega arith) (
-      byte_cell 19 body _ _ k.1 (omega arith) (
-      ended 20 body s.0)) in
+    cell wide16 17 body _ (number w16 17 body) fits refl (omega arith) (
+    byte_cell 19 body _ _ k.1 (omega arith) (
+    ended 20 body s.0)) in
     subst (Tells body) (some_is _ m k.2) (record { types = number_below wide16 17 body fits; ranges = tt; room = omega arith; bytes = behind_head 0x17 body _ fits (omega arith) kind fields })
 
 breaker_found : (body : List ℕ) (m : Message) → IsBytes body → get_or body 0 0 ≡ 0x18 → breaker_of body ≡ Some m → Tells body m
@@ -125,9 +125,9 @@ breaker_found body m fits kind e =
     let v = step _ _ m _ (level_ok (get_or body 17 0)) s.1 in
     let i = step _ _ m _ (index_ok 18 body) v.2 in
     let fields =
-      byte_cell 17 body _ _ v.1 (omega arith) (
-      cell wide32 18 body _ i.0 fits i.1.0 (omega arith) (
-      ended 22 body s.0)) in
+    byte_cell 17 body _ _ v.1 (omega arith) (
+    cell wide32 18 body _ i.0 fits i.1.0 (omega arith) (
+    ended 22 body s.0)) in
     subst (Tells body) (some_is _ m i.2) (record { types = i.1.1; ranges = tt; room = omega arith; bytes = behind_head 0x18 body _ fits (omega arith) kind fields })
 
 market_resume_found : (body : List ℕ) (m : Message) → IsBytes body → get_or body 0 0 ≡ 0x19 → market_resume_of body ≡ Some m → Tells body m
@@ -147,31 +147,40 @@ message_found (t ∷ rest) m fits e =
     elim (chosen (eqb t 0x11) _ _ _ e) [
       | inl w ↦ listed_found (t ∷ rest) m fits (eqb-true _ _ w.0) w.1
       | inr w0 ↦
-    elim (chosen (eqb t 0x12) _ _ _ w0.1) [
-      | inl w ↦ state_found (t ∷ rest) m fits (eqb-true _ _ w.0) w.1
-      | inr w1 ↦
-    elim (chosen (eqb t 0x13) _ _ _ w1.1) [
-      | inl w ↦ band_found (t ∷ rest) m fits (eqb-true _ _ w.0) w.1
-      | inr w2 ↦
-    elim (chosen (eqb t 0x14) _ _ _ w2.1) [
-      | inl w ↦ straddle_found (t ∷ rest) m fits (eqb-true _ _ w.0) w.1
-      | inr w3 ↦
-    elim (chosen (eqb t 0x15) _ _ _ w3.1) [
-      | inl w ↦ collar_found (t ∷ rest) m fits (eqb-true _ _ w.0) w.1
-      | inr w4 ↦
-    elim (chosen (eqb t 0x16) _ _ _ w4.1) [
-      | inl w ↦ release_found (t ∷ rest) m fits (eqb-true _ _ w.0) w.1
-      | inr w5 ↦
-    elim (chosen (eqb t 0x17) _ _ _ w5.1) [
-      | inl w ↦ short_found (t ∷ rest) m fits (eqb-true _ _ w.0) w.1
-      | inr w6 ↦
-    elim (chosen (eqb t 0x18) _ _ _ w6.1) [
-      | inl w ↦ breaker_found (t ∷ rest) m fits (eqb-true _ _ w.0) w.1
-      | inr w7 ↦
-    elim (chosen (eqb t 0x19) _ _ _ w7.1) [
-      | inl w ↦ market_resume_found (t ∷ rest) m fits (eqb-true _ _ w.0) w.1
-      | inr w8 ↦
-    absurd (let unknown = w8.1 in cc) ] ] ] ] ] ] ] ] ]
+          elim (chosen (eqb t 0x12) _ _ _ w0.1) [
+            | inl w ↦ state_found (t ∷ rest) m fits (eqb-true _ _ w.0) w.1
+            | inr w1 ↦
+                elim (chosen (eqb t 0x13) _ _ _ w1.1) [
+                  | inl w ↦ band_found (t ∷ rest) m fits (eqb-true _ _ w.0) w.1
+                  | inr w2 ↦
+                      elim (chosen (eqb t 0x14) _ _ _ w2.1) [
+                        | inl w ↦ straddle_found (t ∷ rest) m fits (eqb-true _ _ w.0) w.1
+                        | inr w3 ↦
+                            elim (chosen (eqb t 0x15) _ _ _ w3.1) [
+                              | inl w ↦ collar_found (t ∷ rest) m fits (eqb-true _ _ w.0) w.1
+                              | inr w4 ↦
+                                  elim (chosen (eqb t 0x16) _ _ _ w4.1) [
+                                    | inl w ↦ release_found (t ∷ rest) m fits (eqb-true _ _ w.0) w.1
+                                    | inr w5 ↦
+                                        elim (chosen (eqb t 0x17) _ _ _ w5.1) [
+                                          | inl w ↦ short_found (t ∷ rest) m fits (eqb-true _ _ w.0) w.1
+                                          | inr w6 ↦
+                                              elim (chosen (eqb t 0x18) _ _ _ w6.1) [
+                                                | inl w ↦ breaker_found (t ∷ rest) m fits (eqb-true _ _ w.0) w.1
+                                                | inr w7 ↦
+                                                    elim (chosen (eqb t 0x19) _ _ _ w7.1) [
+                                                      | inl w ↦ market_resume_found (t ∷ rest) m fits (eqb-true _ _ w.0) w.1
+                                                      | inr w8 ↦
+                                                          absurd (let unknown = w8.1 in cc)
+                                                    ]
+                                              ]
+                                        ]
+                                  ]
+                            ]
+                      ]
+                ]
+          ]
+    ]
 
 pub numbered_found : (body : List ℕ) (f : Frame) → IsBytes body → numbered_of body ≡ Some f → Spells body f
 unfolding numbered_of
@@ -187,10 +196,10 @@ unfolding hello_of
 hello_found body f fits kind e =
     let s = sized_ok 17 body _ f e in
     let bytes =
-      byte_cell 0 body _ 0x81 kind (omega arith) (
-      cell wide64 1 body _ (number w64 1 body) fits refl (omega arith) (
-      cell wide64 9 body _ (number w64 9 body) fits refl (omega arith) (
-      ended 17 body s.0))) in
+    byte_cell 0 body _ 0x81 kind (omega arith) (
+    cell wide64 1 body _ (number w64 1 body) fits refl (omega arith) (
+    cell wide64 9 body _ (number w64 9 body) fits refl (omega arith) (
+    ended 17 body s.0))) in
     subst (Spells body) (some_is _ f s.1) (record { types = (number_below wide64 1 body fits, number_below wide64 9 body fits); ranges = tt; bytes = bytes })
 
 ack_found : (body : List ℕ) (f : Frame) → IsBytes body → get_or body 0 0 ≡ 0x82 → ack_of body ≡ Some f → Spells body f
@@ -200,9 +209,9 @@ ack_found body f fits kind e =
     let i = step _ _ f _ (count_ok 1 body) s.1 in
     let below : i.0 < 2 ^ 64 = subst (λ (k : ℕ). k < 2 ^ 64) i.1.0 (number_below wide64 1 body fits) in
     let bytes =
-      byte_cell 0 body _ 0x82 kind (omega arith) (
-      cell wide64 1 body _ i.0 fits i.1.0 (omega arith) (
-      ended 9 body s.0)) in
+    byte_cell 0 body _ 0x82 kind (omega arith) (
+    cell wide64 1 body _ i.0 fits i.1.0 (omega arith) (
+    ended 9 body s.0)) in
     subst (Spells body) (some_is _ f i.2) (record { types = below; ranges = i.1.1; bytes = bytes })
 
 refused_found : (body : List ℕ) (f : Frame) → IsBytes body → get_or body 0 0 ≡ 0x83 → refused_of body ≡ Some f → Spells body f
@@ -216,11 +225,11 @@ refused_found body f fits kind e =
     let code : c.0 < 2 ^ 8 = subst (λ (n : ℕ). n < 2 ^ 8) c.1.0 (fits 9) in
     let field : k.0 < 2 ^ 8 = subst (λ (n : ℕ). n < 2 ^ 8) k.1.0 (fits 10) in
     let bytes =
-      byte_cell 0 body _ 0x83 kind (omega arith) (
-      cell wide64 1 body _ p.0 fits p.1.0 (omega arith) (
-      byte_cell 9 body _ c.0 c.1.0 (omega arith) (
-      byte_cell 10 body _ k.0 k.1.0 (omega arith) (
-      ended 11 body s.0)))) in
+    byte_cell 0 body _ 0x83 kind (omega arith) (
+    cell wide64 1 body _ p.0 fits p.1.0 (omega arith) (
+    byte_cell 9 body _ c.0 c.1.0 (omega arith) (
+    byte_cell 10 body _ k.0 k.1.0 (omega arith) (
+    ended 11 body s.0)))) in
     subst (Spells body) (some_is _ f k.2) (record { types = (below, code, field); ranges = (p.1.1, c.1.1, k.1.1); bytes = bytes })
 
 pub frame_found : (body : List ℕ) (f : Frame) → IsBytes body → frame_of body ≡ Some f → Spells body f
@@ -230,9 +239,12 @@ frame_found (t ∷ rest) f fits e =
     elim (chosen (eqb t 0x81) _ _ _ e) [
       | inl w ↦ hello_found (t ∷ rest) f fits (eqb-true _ _ w.0) w.1
       | inr w0 ↦
-    elim (chosen (eqb t 0x82) _ _ _ w0.1) [
-      | inl w ↦ ack_found (t ∷ rest) f fits (eqb-true _ _ w.0) w.1
-      | inr w1 ↦
-    elim (chosen (eqb t 0x83) _ _ _ w1.1) [
-      | inl w ↦ refused_found (t ∷ rest) f fits (eqb-true _ _ w.0) w.1
-      | inr w2 ↦ numbered_found (t ∷ rest) f fits w2.1 ] ] ]
+          elim (chosen (eqb t 0x82) _ _ _ w0.1) [
+            | inl w ↦ ack_found (t ∷ rest) f fits (eqb-true _ _ w.0) w.1
+            | inr w1 ↦
+                elim (chosen (eqb t 0x83) _ _ _ w1.1) [
+                  | inl w ↦ refused_found (t ∷ rest) f fits (eqb-true _ _ w.0) w.1
+                  | inr w2 ↦ numbered_found (t ∷ rest) f fits w2.1
+                ]
+          ]
+    ]

@@ -1,5 +1,5 @@
 -- How long frames are, and that they differ.
-use Rattle.std.proofs.Common.{◌≡◌, ℕ, ◌+◌, ◌≤◌, List, ◌∷◌, ◌++◌, length, take, drop, Option, Some, refl, sym, ap, ◌∙◌, arith}
+use Rattle.std.proofs.Common.{◌≡◌, ℕ, List, ◌++◌, length, take, drop, refl, sym, ap, ◌∙◌, arith}
 use Rattle.std.proofs.lemmas.List.{take_at, drop_at}
 use Rattle.wire_core.specs.Frames.{framed}
 use Rattle.wire_out.specs.Laws.{FramesFit, FramesDiffer, IsBetween}
@@ -7,7 +7,7 @@ use Rattle.wire_out.specs.Reading.{frame_of}
 use Rattle.wire_out.specs.Spelling.{IsSayable, body_of, numbered_body, spelling}
 use Rattle.wire_out.specs.declared.message.Message.{Message}
 use Rattle.wire_out.specs.declared.message.Message.TheVariants.{Listed}
-use Rattle.wire_out.specs.declared.message.Frame.TheVariants.{Hello, Numbered, Ack, Refused}
+use Rattle.wire_out.specs.declared.message.Frame.TheVariants.{Numbered}
 use Rattle.wire_out.proofs.Again.{body_again}
 use Rattle.wire_out.proofs.Values.{some_is}
 
@@ -23,10 +23,9 @@ frames_fit _ r = record { from = omega arith; to = omega arith }
 framed_once : (a b more rest : List ℕ) → framed a ++ more ≡ framed b ++ rest → (a ≡ b) × (more ≡ rest)
 framed_once a b more rest e =
     let len : length a ≡ length b = cc in
-    let text : a ++ more ≡ b ++ rest = cc in
-    (
+    let text : a ++ more ≡ b ++ rest = cc in (
       sym (take_at a more (length b) len) ∙ ap (λ (t : List ℕ). take (length b) t) text ∙ take_at b rest (length b) refl,
-      sym (drop_at a more (length b) len) ∙ ap (λ (t : List ℕ). drop (length b) t) text ∙ drop_at b rest (length b) refl
+      sym (drop_at a more (length b) len) ∙ ap (λ (t : List ℕ). drop (length b) t) text ∙ drop_at b rest (length b) refl,
     )
 
 pub frames_differ : FramesDiffer

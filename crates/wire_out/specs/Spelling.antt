@@ -8,25 +8,24 @@ use Rattle.wire_core.specs.Names.{is_name}
 use Rattle.wire_out.specs.Codes.{phase_byte, cause_byte, straddle_byte, kind_byte, level_byte, is_code, is_field}
 use Rattle.wire_out.specs.declared.message.Message.{Message}
 use Rattle.wire_out.specs.declared.message.Message.TheVariants.{Listed, State, Band, Straddle, Collar, Release, Short, Breaker, MarketResume}
-use Rattle.wire_out.specs.declared.message.Stamped.{Stamped}
 use Rattle.wire_out.specs.declared.message.Frame.{Frame}
 use Rattle.wire_out.specs.declared.message.Frame.TheVariants.{Hello, Numbered, Ack, Refused}
 
--- the type byte of a message, and the fields behind its number and its moment
-abbrev pub said : Message → ℕ × List ℕ
-said (Listed s name) = (0x11, to_be_bytes w16 s ++ name)
-said (State s p) = (0x12, to_be_bytes w16 s ++ phase_byte p ∷ [])
-said (Band s c r l u) = (0x13, to_be_bytes w16 s ++ cause_byte c ∷ to_be_bytes w64 r ++ to_be_bytes w64 l ++ to_be_bytes w64 u)
-said (Straddle s on) = (0x14, to_be_bytes w16 s ++ straddle_byte on ∷ [])
-said (Collar s n l u) = (0x15, to_be_bytes w16 s ++ to_be_bytes w16 n ++ to_be_bytes w64 l ++ to_be_bytes w64 u)
-said (Release s p) = (0x16, to_be_bytes w16 s ++ to_be_bytes w64 p)
-said (Short s k) = (0x17, to_be_bytes w16 s ++ kind_byte k ∷ [])
-said (Breaker v i) = (0x18, level_byte v ∷ to_be_bytes w32 i)
-said MarketResume = (0x19, [])
+-- The type byte of a message, and the fields behind its number and its moment.
+abbrev pub type_and_fields : Message → ℕ × List ℕ
+type_and_fields (Listed s name) = (0x11, to_be_bytes w16 s ++ name)
+type_and_fields (State s p) = (0x12, to_be_bytes w16 s ++ phase_byte p ∷ [])
+type_and_fields (Band s c r l u) = (0x13, to_be_bytes w16 s ++ cause_byte c ∷ to_be_bytes w64 r ++ to_be_bytes w64 l ++ to_be_bytes w64 u)
+type_and_fields (Straddle s on) = (0x14, to_be_bytes w16 s ++ straddle_byte on ∷ [])
+type_and_fields (Collar s n l u) = (0x15, to_be_bytes w16 s ++ to_be_bytes w16 n ++ to_be_bytes w64 l ++ to_be_bytes w64 u)
+type_and_fields (Release s p) = (0x16, to_be_bytes w16 s ++ to_be_bytes w64 p)
+type_and_fields (Short s k) = (0x17, to_be_bytes w16 s ++ kind_byte k ∷ [])
+type_and_fields (Breaker v i) = (0x18, level_byte v ∷ to_be_bytes w32 i)
+type_and_fields MarketResume = (0x19, [])
 
 -- a numbered message has its number and its moment behind its type byte
 abbrev pub numbered_body : ℕ → ℕ → Message → List ℕ
-numbered_body n t m = (said m).0 ∷ to_be_bytes w64 n ++ to_be_bytes w64 t ++ (said m).1
+numbered_body n t m = (type_and_fields m).0 ∷ to_be_bytes w64 n ++ to_be_bytes w64 t ++ (type_and_fields m).1
 
 abbrev pub body_of : Frame → List ℕ
 body_of (Hello i m) = 0x81 ∷ to_be_bytes w64 i ++ to_be_bytes w64 m

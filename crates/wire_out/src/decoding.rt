@@ -244,7 +244,6 @@ fn frame(body: &[u8]) -> Option<Frame>
 
 /// The frame that a body spells; an error exactly where it spells none. Each frame has one body.
 pub fn get_frame(body: &[u8]) -> Result<Frame, BadFrame>
-    requires { length body.now ≤ 255 }
     ensures exact { result_ok result ≡ frame_of body.now }
     ensures found { IfOk result (Spells body.now) }
     ensures only { (f : Frame) → Spells body.now f → result ≡ Ok f }

@@ -199,6 +199,7 @@ fn put_refused(into: &mut [u8; 64], place: u64, code: u8, field: u8) -> usize
     put(into, at, &[code, field])
 }
 
+/// As put_frame, of any frame.
 fn put_any(f: &Frame, into: &mut [u8; 64]) -> usize
     ensures types { HasTypes f.now }
     ensures frame { Frames (framed (body_of f.now)) into.old result into.new }
@@ -221,6 +222,7 @@ fn put_any(f: &Frame, into: &mut [u8; 64]) -> usize
 #[tactic(auto, unfolding(crate::specs::Spelling::spelling))]
 pub fn put_frame(f: &Frame, into: &mut [u8; 64]) -> usize
     requires { InRange f.now }
+    ensures types { HasTypes f.now }
     ensures frame { Frames (spelling f.now) into.old result into.new }
     ensures bound { result ≤ 64 }
     ensures read { frame_of (body_of f.now) ≡ Some f.now }

@@ -1,4 +1,4 @@
-use Rattle.std.proofs.Common.{◌∙◌, ap, sym, arith}
+use Rattle.std.proofs.Common.{◌∙◌, sym, arith}
 use Rattle.wire_out.proofs.Again.{frame_again}
 use Rattle.wire_out.proofs.Found.{frame_found}
 use Rattle.wire_out.proofs.decoding.get_frame.Goals as goal
