@@ -1,5 +1,5 @@
 -- The body of a record in its ranges is read as that record.
-use Rattle.std.proofs.Common.{◌≡◌, ℕ, ◌+◌, List, ◌∷◌, ◌++◌, length, get_or, take, drop, Option, Ok, refl, sym, ap, subst, ◌∙◌, arith}
+use Rattle.std.proofs.Common.{◌≡◌, ℕ, ◌+◌, List, ◌∷◌, ◌++◌, length, get_or, take, drop, Option, Result, Ok, refl, sym, ap, subst, ◌∙◌, arith}
 use Rattle.std.specs.Int.{w64, from_be_bytes, to_be_bytes}
 use Rattle.std.proofs.lemmas.Grind.{common_steps}
 use Rattle.std.proofs.lemmas.List.{length-append, take_at}
@@ -16,10 +16,15 @@ use Rattle.wire_in.specs.Reading.{day_of, listing_of, trade_of, cancel_of, quote
 use Rattle.wire_in.specs.Spelling.{HasTypes, InRange, Spells, body_of}
 use Rattle.wire_in.specs.declared.record.NoticeKind.{NoticeKind}
 use Rattle.wire_in.specs.declared.record.Record.{Record}
+use Rattle.wire_in.specs.declared.record.Refusal.{Refusal}
 use Rattle.wire_in.specs.declared.record.Record.TheVariants.{Day, Listing, Trade, Cancel, Quote, IndexTick, Clock, Notice, Indication}
 use Rattle.wire_in.proofs.Values.{date_again, close_again, profile_again, tier_again, leverage_again, flags_again, kind_again, unmatched_again}
 
-day_again : (m : ℕ) (d : DayOf) (v : ℕ) → HasTypes (Day m d v) → InRange (Day m d v) → day_of (body_of (Day m d v)) ≡ Ok (Day m d v)
+-- the body of a record is read as that record
+abbrev ReadsBack : (List ℕ → Result Record Refusal) → Record → Type 0
+ReadsBack read x = HasTypes x → InRange x → read (body_of x) ≡ Ok x
+
+day_again : (m : ℕ) (d : DayOf) (v : ℕ) → ReadsBack day_of (Day m d v)
 unfolding day_of
 day_again m d v h r =
     let body = body_of (Day m d v) in
@@ -28,7 +33,7 @@ day_again m d v h r =
     let at_15 = index_again 15 body v (wide32.read v (omega arith)) h.2 in
     rw (at_1, at_9, close_again d.close, profile_again d.profile r, at_15) refl
 
-trade_again : (m : ℕ) (s : ℕ) (n : ℕ) (p : ℕ) (z : ℕ) (f : ℕ) → HasTypes (Trade m s n p z f) → InRange (Trade m s n p z f) → trade_of (body_of (Trade m s n p z f)) ≡ Ok (Trade m s n p z f)
+trade_again : (m s n p z f : ℕ) → ReadsBack trade_of (Trade m s n p z f)
 unfolding trade_of
 trade_again m s n p z f h r =
     let body = body_of (Trade m s n p z f) in
@@ -37,14 +42,14 @@ trade_again m s n p z f h r =
     let at_27 = flags_again _ f (wide16.read f (omega arith)) r in
     rw (at_1, at_15, at_27, wide16.read s h.1, wide32.read n h.2, wide32.read z h.4) refl
 
-cancel_again : (m : ℕ) (s : ℕ) (n : ℕ) → HasTypes (Cancel m s n) → InRange (Cancel m s n) → cancel_of (body_of (Cancel m s n)) ≡ Ok (Cancel m s n)
+cancel_again : (m s n : ℕ) → ReadsBack cancel_of (Cancel m s n)
 unfolding cancel_of
 cancel_again m s n h r =
     let body = body_of (Cancel m s n) in
     let at_1 = moment_again 1 body m (wide64.read m (omega arith)) h.0 in
     rw (at_1, wide16.read s h.1, wide32.read n h.2) refl
 
-quote_again : (m : ℕ) (s : ℕ) (b : Option ℕ) (o : Option ℕ) (y : ℕ) (z : ℕ) → HasTypes (Quote m s b o y z) → InRange (Quote m s b o y z) → quote_of (body_of (Quote m s b o y z)) ≡ Ok (Quote m s b o y z)
+quote_again : (m s : ℕ) (b o : Option ℕ) (y z : ℕ) → ReadsBack quote_of (Quote m s b o y z)
 unfolding quote_of
 quote_again m s b o y z h r =
     let body = body_of (Quote m s b o y z) in
@@ -53,7 +58,7 @@ quote_again m s b o y z h r =
     let at_19 = optional_again 19 body o (wide64.read (units_or_zero o) (optional_below o h.3)) h.3 in
     rw (at_1, at_11, at_19, wide16.read s h.1, wide32.read y h.4, wide32.read z h.5) refl
 
-index_tick_again : (m : ℕ) (v : ℕ) → HasTypes (IndexTick m v) → InRange (IndexTick m v) → index_tick_of (body_of (IndexTick m v)) ≡ Ok (IndexTick m v)
+index_tick_again : (m v : ℕ) → ReadsBack index_tick_of (IndexTick m v)
 unfolding index_tick_of
 index_tick_again m v h r =
     let body = body_of (IndexTick m v) in
@@ -61,21 +66,21 @@ index_tick_again m v h r =
     let at_9 = index_again 9 body v (wide32.read v (omega arith)) h.1 in
     rw (at_1, at_9) refl
 
-clock_again : (m : ℕ) → HasTypes (Clock m) → InRange (Clock m) → clock_of (body_of (Clock m)) ≡ Ok (Clock m)
+clock_again : (m : ℕ) → ReadsBack clock_of (Clock m)
 unfolding clock_of
 clock_again m h r =
     let body = body_of (Clock m) in
     let at_1 = moment_again 1 body m (wide64.read m (omega arith)) h in
     rw (at_1) refl
 
-notice_again : (m : ℕ) (s : ℕ) (k : NoticeKind) → HasTypes (Notice m s k) → InRange (Notice m s k) → notice_of (body_of (Notice m s k)) ≡ Ok (Notice m s k)
+notice_again : (m s : ℕ) (k : NoticeKind) → ReadsBack notice_of (Notice m s k)
 unfolding notice_of
 notice_again m s k h r =
     let body = body_of (Notice m s k) in
     let at_1 = moment_again 1 body m (wide64.read m (omega arith)) h.0 in
     rw (at_1, kind_again k, wide16.read s h.1) refl
 
-indication_again : (m : ℕ) (s : ℕ) (p : ℕ) (u : Unmatched) → HasTypes (Indication m s p u) → InRange (Indication m s p u) → indication_of (body_of (Indication m s p u)) ≡ Ok (Indication m s p u)
+indication_again : (m s p : ℕ) (u : Unmatched) → ReadsBack indication_of (Indication m s p u)
 unfolding indication_of
 indication_again m s p u h r =
     let body = body_of (Indication m s p u) in
@@ -90,7 +95,7 @@ behind n rest k e = ap (λ (j : ℕ). drop (j + k) (n ++ rest)) (sym e) ∙ drop
 byte_behind : (n rest : List ℕ) (k : ℕ) → length n ≡ 8 → get_or (n ++ rest) (8 + k) 0 ≡ get_or rest k 0
 byte_behind n rest k e = grind (arith, common_steps)
 
-listing_again : (m : ℕ) (n : List ℕ) (t : Tier) (l : ℕ) (c : Option ℕ) → HasTypes (Listing m n t l c) → InRange (Listing m n t l c) → listing_of (body_of (Listing m n t l c)) ≡ Ok (Listing m n t l c)
+listing_again : (m : ℕ) (n : List ℕ) (t : Tier) (l : ℕ) (c : Option ℕ) → ReadsBack listing_of (Listing m n t l c)
 unfolding listing_of
 listing_again m n t l c h r =
     let body = body_of (Listing m n t l c) in
@@ -105,7 +110,7 @@ listing_again m n t l c h r =
     let at_19 = optional_again 19 body c units h.2 in
     rw (size, at_1, at_9, at_17, at_18, at_19) refl
 
-pub body_again : (x : Record) → HasTypes x → InRange x → record_of (body_of x) ≡ Ok x
+pub body_again : (x : Record) → ReadsBack record_of x
 unfolding record_of
 body_again (Day m d v) h r = day_again m d v h r
 body_again (Listing m n t l c) h r = listing_again m n t l c h r

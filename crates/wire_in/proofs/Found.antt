@@ -1,5 +1,5 @@
 -- A body that is read is the body of its record, which is in its ranges. Each record's body is rebuilt from its end.
-use Rattle.std.proofs.Common.{◌≡◌, ℕ, Bool, true, false, cond, eqb, List, [], ◌∷◌, length, get_or, Result, Ok, Err, refl, sym, subst, ◌⊎◌, inl, inr, arith}
+use Rattle.std.proofs.Common.{◌≡◌, ℕ, Bool, true, false, cond, eqb, List, [], ◌∷◌, length, get_or, Result, Ok, Err, refl, sym, subst, arith}
 use Rattle.std.specs.Prelude.{IfOk}
 use Rattle.std.specs.Int.{w16, w32}
 use Rattle.std.proofs.lemmas.Bool.{eqb-true}
@@ -14,13 +14,17 @@ use Rattle.wire_in.specs.declared.record.Refusal.{Refusal}
 use Rattle.wire_in.specs.declared.record.Refusal.TheVariants.{BadLength}
 use Rattle.wire_in.proofs.Values.{step, date_ok, close_ok, profile_ok, tier_ok, leverage_ok, flags_ok, kind_ok, unmatched_ok}
 
+-- a body of that type is read only where it spells the record
+abbrev Finds : ℕ → (List ℕ → Result Record Refusal) → Type 0
+Finds type_byte read = (body : List ℕ) (x : Record) → IsBytes body → get_or body 0 0 ≡ type_byte → read body ≡ Ok x → Spells body x
+
 sized_ok : (n : ℕ) (body : List ℕ) (read : Result Record Refusal) (x : Record) → sized n body read ≡ Ok x → (length body ≡ n) × (read ≡ Ok x)
 sized_ok n body read x e = in_case (eqb (length body) n) refl e where
   in_case : (b : Bool) → eqb (length body) n ≡ b → cond b read (Err BadLength) ≡ Ok x → (length body ≡ n) × (read ≡ Ok x)
   in_case true t h = (eqb-true _ _ t, h)
   in_case false t h = absurd cc
 
-day_found : (body : List ℕ) (x : Record) → IsBytes body → get_or body 0 0 ≡ 1 → day_of body ≡ Ok x → Spells body x
+day_found : Finds 1 day_of
 unfolding day_of
 day_found body x fits kind e =
     let s = sized_ok 19 body _ x e in
@@ -40,9 +44,13 @@ day_found body x fits kind e =
     byte_cell 14 body _ _ p.1.0 (omega arith) (
     cell wide32 15 body _ v.0 fits v.1.0 (omega arith) (
     ended 19 body s.0)))))))) in
-    subst (Spells body) (ok_is _ x v.2) (record { types = (m.1.1, is_date.3, v.1.1); ranges = p.1.1; bytes = bytes })
+    subst (Spells body) (ok_is _ x v.2) (record {
+      types = (m.1.1, is_date.3, v.1.1);
+      ranges = p.1.1;
+      bytes = bytes;
+    })
 
-listing_found : (body : List ℕ) (x : Record) → IsBytes body → get_or body 0 0 ≡ 2 → listing_of body ≡ Ok x → Spells body x
+listing_found : Finds 2 listing_of
 unfolding listing_of
 listing_found body x fits kind e =
     let s = sized_ok 27 body _ x e in
@@ -59,15 +67,22 @@ listing_found body x fits kind e =
     byte_cell 18 body _ l.0 l.1.0 (omega arith) (
     cell wide64 19 body _ _ fits c.1.0 (omega arith) (
     ended 27 body s.0)))))) in
-    subst (Spells body) (ok_is _ x c.2) (record { types = (m.1.1, l.1.1, c.1.1); ranges = (name_length 9 body n.0 n.1.0 (omega arith), n.1.1); bytes = bytes })
+    subst (Spells body) (ok_is _ x c.2) (record {
+      types = (m.1.1, l.1.1, c.1.1);
+      ranges = (name_length 9 body n.0 n.1.0 (omega arith), n.1.1);
+      bytes = bytes;
+    })
 
-trade_found : (body : List ℕ) (x : Record) → IsBytes body → get_or body 0 0 ≡ 3 → trade_of body ≡ Ok x → Spells body x
+trade_found : Finds 3 trade_of
 unfolding trade_of
 trade_found body x fits kind e =
     let s = sized_ok 29 body _ x e in
     let m = step _ _ _ x _ (moment_ok 1 body) s.1 in
     let p = step _ _ _ x _ (price_ok 15 body) m.2 in
     let f = step _ _ _ x _ (flags_ok (number w16 27 body)) p.2 in
+    let symbol = number_below wide16 9 body fits in
+    let trade = number_below wide32 11 body fits in
+    let size = number_below wide32 23 body fits in
     let bytes =
     byte_cell 0 body _ 3 kind (omega arith) (
     cell wide64 1 body _ m.0 fits m.1.0 (omega arith) (
@@ -77,28 +92,41 @@ trade_found body x fits kind e =
     cell wide32 23 body _ (number w32 23 body) fits refl (omega arith) (
     cell wide16 27 body _ f.0 fits f.1.0 (omega arith) (
     ended 29 body s.0))))))) in
-    subst (Spells body) (ok_is _ x f.2) (record { types = (m.1.1, number_below wide16 9 body fits, number_below wide32 11 body fits, p.1.1, number_below wide32 23 body fits); ranges = f.1.1; bytes = bytes })
+    subst (Spells body) (ok_is _ x f.2) (record {
+      types = (m.1.1, symbol, trade, p.1.1, size);
+      ranges = f.1.1;
+      bytes = bytes;
+    })
 
-cancel_found : (body : List ℕ) (x : Record) → IsBytes body → get_or body 0 0 ≡ 4 → cancel_of body ≡ Ok x → Spells body x
+cancel_found : Finds 4 cancel_of
 unfolding cancel_of
 cancel_found body x fits kind e =
     let s = sized_ok 15 body _ x e in
     let m = step _ _ _ x _ (moment_ok 1 body) s.1 in
+    let symbol = number_below wide16 9 body fits in
+    let trade = number_below wide32 11 body fits in
     let bytes =
     byte_cell 0 body _ 4 kind (omega arith) (
     cell wide64 1 body _ m.0 fits m.1.0 (omega arith) (
     cell wide16 9 body _ (number w16 9 body) fits refl (omega arith) (
     cell wide32 11 body _ (number w32 11 body) fits refl (omega arith) (
     ended 15 body s.0)))) in
-    subst (Spells body) (ok_is _ x m.2) (record { types = (m.1.1, number_below wide16 9 body fits, number_below wide32 11 body fits); ranges = tt; bytes = bytes })
+    subst (Spells body) (ok_is _ x m.2) (record {
+      types = (m.1.1, symbol, trade);
+      ranges = tt;
+      bytes = bytes;
+    })
 
-quote_found : (body : List ℕ) (x : Record) → IsBytes body → get_or body 0 0 ≡ 5 → quote_of body ≡ Ok x → Spells body x
+quote_found : Finds 5 quote_of
 unfolding quote_of
 quote_found body x fits kind e =
     let s = sized_ok 35 body _ x e in
     let m = step _ _ _ x _ (moment_ok 1 body) s.1 in
     let b = step _ _ _ x _ (optional_ok 11 body) m.2 in
     let o = step _ _ _ x _ (optional_ok 19 body) b.2 in
+    let symbol = number_below wide16 9 body fits in
+    let bid_size = number_below wide32 27 body fits in
+    let offer_size = number_below wide32 31 body fits in
     let bytes =
     byte_cell 0 body _ 5 kind (omega arith) (
     cell wide64 1 body _ m.0 fits m.1.0 (omega arith) (
@@ -108,9 +136,13 @@ quote_found body x fits kind e =
     cell wide32 27 body _ (number w32 27 body) fits refl (omega arith) (
     cell wide32 31 body _ (number w32 31 body) fits refl (omega arith) (
     ended 35 body s.0))))))) in
-    subst (Spells body) (ok_is _ x o.2) (record { types = (m.1.1, number_below wide16 9 body fits, b.1.1, o.1.1, number_below wide32 27 body fits, number_below wide32 31 body fits); ranges = tt; bytes = bytes })
+    subst (Spells body) (ok_is _ x o.2) (record {
+      types = (m.1.1, symbol, b.1.1, o.1.1, bid_size, offer_size);
+      ranges = tt;
+      bytes = bytes;
+    })
 
-index_tick_found : (body : List ℕ) (x : Record) → IsBytes body → get_or body 0 0 ≡ 6 → index_tick_of body ≡ Ok x → Spells body x
+index_tick_found : Finds 6 index_tick_of
 unfolding index_tick_of
 index_tick_found body x fits kind e =
     let s = sized_ok 13 body _ x e in
@@ -121,9 +153,13 @@ index_tick_found body x fits kind e =
     cell wide64 1 body _ m.0 fits m.1.0 (omega arith) (
     cell wide32 9 body _ v.0 fits v.1.0 (omega arith) (
     ended 13 body s.0))) in
-    subst (Spells body) (ok_is _ x v.2) (record { types = (m.1.1, v.1.1); ranges = tt; bytes = bytes })
+    subst (Spells body) (ok_is _ x v.2) (record {
+      types = (m.1.1, v.1.1);
+      ranges = tt;
+      bytes = bytes;
+    })
 
-clock_found : (body : List ℕ) (x : Record) → IsBytes body → get_or body 0 0 ≡ 7 → clock_of body ≡ Ok x → Spells body x
+clock_found : Finds 7 clock_of
 unfolding clock_of
 clock_found body x fits kind e =
     let s = sized_ok 9 body _ x e in
@@ -132,29 +168,39 @@ clock_found body x fits kind e =
     byte_cell 0 body _ 7 kind (omega arith) (
     cell wide64 1 body _ m.0 fits m.1.0 (omega arith) (
     ended 9 body s.0)) in
-    subst (Spells body) (ok_is _ x m.2) (record { types = m.1.1; ranges = tt; bytes = bytes })
+    subst (Spells body) (ok_is _ x m.2) (record {
+      types = m.1.1;
+      ranges = tt;
+      bytes = bytes;
+    })
 
-notice_found : (body : List ℕ) (x : Record) → IsBytes body → get_or body 0 0 ≡ 8 → notice_of body ≡ Ok x → Spells body x
+notice_found : Finds 8 notice_of
 unfolding notice_of
 notice_found body x fits kind e =
     let s = sized_ok 12 body _ x e in
     let m = step _ _ _ x _ (moment_ok 1 body) s.1 in
     let k = step _ _ _ x _ (kind_ok (get_or body 11 0)) m.2 in
+    let symbol = number_below wide16 9 body fits in
     let bytes =
     byte_cell 0 body _ 8 kind (omega arith) (
     cell wide64 1 body _ m.0 fits m.1.0 (omega arith) (
     cell wide16 9 body _ (number w16 9 body) fits refl (omega arith) (
     byte_cell 11 body _ _ k.1 (omega arith) (
     ended 12 body s.0)))) in
-    subst (Spells body) (ok_is _ x k.2) (record { types = (m.1.1, number_below wide16 9 body fits); ranges = tt; bytes = bytes })
+    subst (Spells body) (ok_is _ x k.2) (record {
+      types = (m.1.1, symbol);
+      ranges = tt;
+      bytes = bytes;
+    })
 
-indication_found : (body : List ℕ) (x : Record) → IsBytes body → get_or body 0 0 ≡ 9 → indication_of body ≡ Ok x → Spells body x
+indication_found : Finds 9 indication_of
 unfolding indication_of
 indication_found body x fits kind e =
     let s = sized_ok 20 body _ x e in
     let m = step _ _ _ x _ (moment_ok 1 body) s.1 in
     let p = step _ _ _ x _ (price_ok 11 body) m.2 in
     let u = step _ _ _ x _ (unmatched_ok (get_or body 19 0)) p.2 in
+    let symbol = number_below wide16 9 body fits in
     let bytes =
     byte_cell 0 body _ 9 kind (omega arith) (
     cell wide64 1 body _ m.0 fits m.1.0 (omega arith) (
@@ -162,53 +208,33 @@ indication_found body x fits kind e =
     cell wide64 11 body _ p.0 fits p.1.0 (omega arith) (
     byte_cell 19 body _ _ u.1 (omega arith) (
     ended 20 body s.0))))) in
-    subst (Spells body) (ok_is _ x u.2) (record { types = (m.1.1, number_below wide16 9 body fits, p.1.1); ranges = tt; bytes = bytes })
+    subst (Spells body) (ok_is _ x u.2) (record {
+      types = (m.1.1, symbol, p.1.1);
+      ranges = tt;
+      bytes = bytes;
+    })
 
-chosen : {A : Type 0} (b : Bool) (x y z : A) → cond b x y ≡ z → ((b ≡ true) × (x ≡ z)) ⊎ ((b ≡ false) × (y ≡ z))
-chosen true x y z e = inl (refl, e)
-chosen false x y z e = inr (refl, e)
+-- what was read by the first of two readings, or by the second
+by_type : {P : Type 0} (t k : ℕ) (first second : Result Record Refusal) (x : Record) → (t ≡ k → first ≡ Ok x → P) → (second ≡ Ok x → P) → cond (eqb t k) first second ≡ Ok x → P
+by_type {P = P} t k first second x is_it is_other e = in_case (eqb t k) refl e where
+  in_case : (b : Bool) → eqb t k ≡ b → cond b first second ≡ Ok x → P
+  in_case true same h = is_it (eqb-true _ _ same) h
+  in_case false other h = is_other h
 
 pub record_found : (body : List ℕ) (x : Record) → IsBytes body → record_of body ≡ Ok x → Spells body x
 unfolding record_of
 record_found [] x fits e = absurd cc
 record_found (t ∷ rest) x fits e =
-    elim (chosen (eqb t 1) _ _ _ e) [
-      | inl w ↦ day_found (t ∷ rest) x fits (eqb-true _ _ w.0) w.1
-      | inr w0 ↦
-          elim (chosen (eqb t 2) _ _ _ w0.1) [
-            | inl w ↦ listing_found (t ∷ rest) x fits (eqb-true _ _ w.0) w.1
-            | inr w1 ↦
-                elim (chosen (eqb t 3) _ _ _ w1.1) [
-                  | inl w ↦ trade_found (t ∷ rest) x fits (eqb-true _ _ w.0) w.1
-                  | inr w2 ↦
-                      elim (chosen (eqb t 4) _ _ _ w2.1) [
-                        | inl w ↦ cancel_found (t ∷ rest) x fits (eqb-true _ _ w.0) w.1
-                        | inr w3 ↦
-                            elim (chosen (eqb t 5) _ _ _ w3.1) [
-                              | inl w ↦ quote_found (t ∷ rest) x fits (eqb-true _ _ w.0) w.1
-                              | inr w4 ↦
-                                  elim (chosen (eqb t 6) _ _ _ w4.1) [
-                                    | inl w ↦ index_tick_found (t ∷ rest) x fits (eqb-true _ _ w.0) w.1
-                                    | inr w5 ↦
-                                        elim (chosen (eqb t 7) _ _ _ w5.1) [
-                                          | inl w ↦ clock_found (t ∷ rest) x fits (eqb-true _ _ w.0) w.1
-                                          | inr w6 ↦
-                                              elim (chosen (eqb t 8) _ _ _ w6.1) [
-                                                | inl w ↦ notice_found (t ∷ rest) x fits (eqb-true _ _ w.0) w.1
-                                                | inr w7 ↦
-                                                    elim (chosen (eqb t 9) _ _ _ w7.1) [
-                                                      | inl w ↦ indication_found (t ∷ rest) x fits (eqb-true _ _ w.0) w.1
-                                                      | inr w8 ↦
-                                                          absurd (let unknown = w8.1 in cc)
-                                                    ]
-                                              ]
-                                        ]
-                                  ]
-                            ]
-                      ]
-                ]
-          ]
-    ]
+    by_type t 1 _ _ x (day_found (t ∷ rest) x fits) (
+    by_type t 2 _ _ x (listing_found (t ∷ rest) x fits) (
+    by_type t 3 _ _ x (trade_found (t ∷ rest) x fits) (
+    by_type t 4 _ _ x (cancel_found (t ∷ rest) x fits) (
+    by_type t 5 _ _ x (quote_found (t ∷ rest) x fits) (
+    by_type t 6 _ _ x (index_tick_found (t ∷ rest) x fits) (
+    by_type t 7 _ _ x (clock_found (t ∷ rest) x fits) (
+    by_type t 8 _ _ x (notice_found (t ∷ rest) x fits) (
+    by_type t 9 _ _ x (indication_found (t ∷ rest) x fits) (
+    λ unknown. absurd cc))))))))) e
 
 pub is_found : (body : List ℕ) (r : Result Record Refusal) → IsBytes body → r ≡ record_of body → IfOk r (Spells body)
 is_found body (Ok x) fits e = record_found body x fits (sym e)
