@@ -218,14 +218,13 @@ fn put_any(f: &Frame, into: &mut [u8; 64]) -> usize
 }
 
 /// Writes a frame at the front of a buffer, its length byte first, and answers how many bytes it has. The other bytes
-/// are kept. What is written is read as the frame.
+/// are kept. What is written for a frame in its ranges is read as that frame.
 #[tactic(auto, unfolding(crate::specs::Spelling::spelling))]
 pub fn put_frame(f: &Frame, into: &mut [u8; 64]) -> usize
-    requires { InRange f.now }
     ensures types { HasTypes f.now }
     ensures frame { Frames (spelling f.now) into.old result into.new }
     ensures bound { result ≤ 64 }
-    ensures read { frame_of (body_of f.now) ≡ Some f.now }
+    ensures read { InRange f.now → frame_of (body_of f.now) ≡ Some f.now }
 {
     put_any(f, into)
 }
