@@ -1,0 +1,60 @@
+//! Trading halts of US equities over a live input.
+#![tactic(auto)]
+
+mod engine;
+mod outbox;
+mod run;
+mod serve;
+mod session;
+
+use host_core::{RealHost, Status};
+use run::run;
+use std::env::{self, Env};
+use std::io;
+use std::process::ExitCode;
+use std::thread::Threads;
+
+/// Does what the words behind the journal's path say, over the standard streams.
+fn start<Rt: Env + Input + Print + AllocGlobal + Threads + Sync>(rt: &Rt) -> io::Result<Status> {
+    let alloc = rt.alloc();
+    let mut words = Vec::new(alloc);
+    for word in env::args(rt)? {
+        words.push(word)?;
+    }
+    if words.len() < 2 {
+        return Ok(Status::Usage);
+    }
+    let mut rest = Vec::new(alloc);
+    for word in &words[2..] {
+        rest.push(word.as_str())?;
+    }
+    let mut host = RealHost::new(rt.reader(), io::writer(rt));
+    Ok(run(rt, alloc, &rest, &mut host))
+}
+
+/// Tells on standard error how a run ended that didn't go well.
+fn tell<Rt: Eprint>(rt: &Rt, status: Status) -> io::Result<()> {
+    match status {
+        Status::Done => Ok(()),
+        Status::Usage => eprintln!(rt; "halts: usage: halts <journal> serve"),
+        Status::Truncated => eprintln!(rt; "halts: the input ends inside a frame"),
+        Status::ReadFault => eprintln!(rt; "halts: the input could not be read"),
+        Status::SendFault => eprintln!(rt; "halts: the output could not be written"),
+        Status::DiskFault => eprintln!(rt; "halts: the journal could not be read or written"),
+        Status::SessionFull => eprintln!(rt; "halts: the bytes of the session are used up"),
+        Status::Damaged { at } => eprintln!(rt; "halts: the journal is damaged at {at}"),
+        Status::NoJournal => eprintln!(rt; "halts: there is no journal"),
+        Status::NoMemory => eprintln!(rt; "halts: out of memory"),
+        Status::BadText { line } => eprintln!(rt; "halts: line {line} is not understood"),
+    }
+}
+
+fn main(rt: HostRuntime) -> ExitCode {
+    let status = match start(&rt) {
+        Ok(status) => status,
+        Err(_) => Status::Usage,
+    };
+    // The exit code stands where the line can't be written.
+    let _ = tell(&rt, status);
+    ExitCode::from(status.code())
+}

@@ -1,0 +1,280 @@
+//! A session: from pieces of the input to what is sent.
+
+ghost use Rattle.std.specs.Prelude.{◌≡◌, ◌+◌, ◌*◌, ◌<◌, ◌≤◌, ◌^◌, ◌++◌, ◌∷◌, [], ℕ, List, Option, None, OnOk, OnErr, IfOk, IfErr, length, take};
+ghost use Rattle.wire_in.specs.declared.record.Record.{Record};
+ghost use Rattle.wire_out.specs.declared.message.Stamped.{Stamped};
+ghost use Rattle.host_core.specs.Outside.{Rose};
+ghost use Rattle.rulebook.specs.Sent.{spelled, numbered, reply, judged, with_record, accepted, refused};
+ghost use Rattle.market_core.specs.Admitted.{refusal_of};
+ghost use Rattle.halts.specs.Kept.{IsOf, Follows};
+ghost use Rattle.halts.specs.Text.{session_text};
+ghost use Rattle.halts.specs.Owed.{Owes, SentPart, OnlySends};
+
+use crate::engine::{Engine, judge};
+use crate::outbox::Outbox;
+use host_core::{Failed, Host};
+use price_core::NoMemory;
+use std::alloc::Global;
+use wire_in::{Cutter, Record, Refusal};
+use wire_out::{Frame, Stamped};
+
+/// Why a session ends before its input does.
+#[derive(Clone, Copy, Debug, PartialEq, Eq)]
+pub enum Interruption {
+    SendFault,
+    NoMemory,
+}
+
+impl From<Failed> for Interruption {
+    fn from(_: Failed) -> Interruption {
+        Interruption::SendFault
+    }
+}
+
+impl From<NoMemory> for Interruption {
+    fn from(_: NoMemory) -> Interruption {
+        Interruption::NoMemory
+    }
+}
+
+/// Puts messages, numbered on from those before them.
+fn put_messages<H: Host>(
+    outbox: &mut Outbox,
+    host: &mut H,
+    before: u64,
+    messages: &[Stamped],
+) -> Result<(), Failed>
+    requires { before + length messages.now < 2 ^ 64 }
+    ensures owes { (begin : Option (List ℕ)) (text : List ℕ) → Owes begin (H.outside host.old).sent outbox.old text
+        → OnOk result (Owes begin (H.outside host.new).sent outbox.new (text ++ spelled (numbered before messages.now))) }
+    ensures part { (begin : Option (List ℕ)) (text : List ℕ) → Owes begin (H.outside host.old).sent outbox.old text
+        → OnErr result (SentPart begin (H.outside host.new).sent (text ++ spelled (numbered before messages.now))) }
+    ensures keeps { OnlySends (H.outside host.old) (H.outside host.new) }
+    ensures cause { OnErr result (Rose (H.outside host.old).send_faults (H.outside host.new).send_faults) }
+{
+    let mut number = before;
+    for message in messages {
+        number += 1;
+        let frame = Frame::Numbered {
+            number,
+            stamped: *message,
+        };
+        match outbox.put(host, &frame) {
+            Ok(()) => {}
+            Err(e) => return Err(e),
+        }
+    }
+    Ok(())
+}
+
+/// Puts the messages of a step and its acknowledgement.
+fn put_step<H: Host>(
+    outbox: &mut Outbox,
+    host: &mut H,
+    before: u64,
+    messages: &[Stamped],
+    input: u64,
+) -> Result<(), Failed>
+    requires { before + length messages.now < 2 ^ 64 }
+    ensures owes { (begin : Option (List ℕ)) (text : List ℕ) → Owes begin (H.outside host.old).sent outbox.old text
+        → OnOk result (Owes begin (H.outside host.new).sent outbox.new (text ++ spelled (numbered before messages.now ++ Frame.Ack input ∷ []))) }
+    ensures part { (begin : Option (List ℕ)) (text : List ℕ) → Owes begin (H.outside host.old).sent outbox.old text
+        → OnErr result (SentPart begin (H.outside host.new).sent (text ++ spelled (numbered before messages.now ++ Frame.Ack input ∷ []))) }
+    ensures keeps { OnlySends (H.outside host.old) (H.outside host.new) }
+    ensures cause { OnErr result (Rose (H.outside host.old).send_faults (H.outside host.new).send_faults) }
+{
+    match put_messages(outbox, host, before, messages) {
+        Ok(()) => outbox.put(host, &Frame::Ack { input }),
+        Err(e) => Err(e),
+    }
+}
+
+/// Accepts a record that is admissible next, and puts its messages and its acknowledgement.
+fn accept<H: Host>(
+    engine: &mut Engine,
+    outbox: &mut Outbox,
+    host: &mut H,
+    x: &Record,
+) -> Result<(), Interruption>
+    requires admissible { refusal_of engine.old.admission x.now ≡ None }
+    requires room { engine.old.published + 524292 < 2 ^ 64 }
+    ensures owes { (limit : ℕ) (held : List Record) (begin : Option (List ℕ)) (text : List ℕ) → IsOf engine.old limit held
+        → Owes begin (H.outside host.old).sent outbox.old text
+        → OnOk result (Owes begin (H.outside host.new).sent outbox.new (text ++ spelled (accepted held x.now))) }
+    ensures part { (limit : ℕ) (held : List Record) (begin : Option (List ℕ)) (text : List ℕ) → IsOf engine.old limit held
+        → Owes begin (H.outside host.old).sent outbox.old text
+        → OnErr result (SentPart begin (H.outside host.new).sent (text ++ spelled (accepted held x.now))) }
+    ensures stands { (limit : ℕ) (held : List Record) → IsOf engine.old limit held → OnOk result (IsOf engine.new limit (x.now ∷ held)) }
+    ensures few { OnOk result (engine.new.published ≤ engine.old.published + 262146) }
+    ensures keeps { OnlySends (H.outside host.old) (H.outside host.new) }
+    ensures cause { result ≡ Err Interruption.SendFault → Rose (H.outside host.old).send_faults (H.outside host.new).send_faults }
+{
+    let before = engine.published;
+    match engine.accept(x) {
+        Ok(()) => {}
+        Err(_) => return Err(Interruption::NoMemory),
+    }
+    let input = engine.admission.count();
+    match put_step(outbox, host, before, &engine.messages, input) {
+        Ok(()) => Ok(()),
+        Err(_) => Err(Interruption::SendFault),
+    }
+}
+
+/// Puts a refusal.
+fn refuse<H: Host>(
+    outbox: &mut Outbox,
+    host: &mut H,
+    place: u64,
+    refusal: Refusal,
+) -> Result<(), Interruption>
+    ensures owes { (begin : Option (List ℕ)) (text : List ℕ) → Owes begin (H.outside host.old).sent outbox.old text
+        → OnOk result (Owes begin (H.outside host.new).sent outbox.new (text ++ spelled (refused place refusal))) }
+    ensures part { (begin : Option (List ℕ)) (text : List ℕ) → Owes begin (H.outside host.old).sent outbox.old text
+        → OnErr result (SentPart begin (H.outside host.new).sent (text ++ spelled (refused place refusal))) }
+    ensures keeps { OnlySends (H.outside host.old) (H.outside host.new) }
+    ensures cause { OnErr result (Rose (H.outside host.old).send_faults (H.outside host.new).send_faults) }
+{
+    let frame = Frame::Refused {
+        place,
+        code: refusal.code(),
+        field: refusal.field(),
+    };
+    match outbox.put(host, &frame) {
+        Ok(()) => Ok(()),
+        Err(_) => Err(Interruption::SendFault),
+    }
+}
+
+/// Puts what is sent for a frame: its messages and its acknowledgement, or its refusal.
+fn answer<H: Host>(
+    engine: &mut Engine,
+    outbox: &mut Outbox,
+    host: &mut H,
+    place: u64,
+    body: &[u8],
+) -> Result<(), Interruption>
+    requires body { length body.now ≤ 255 }
+    requires room { engine.old.published + 524292 < 2 ^ 64 }
+    ensures owes { (limit : ℕ) (held : List Record) (begin : Option (List ℕ)) (text : List ℕ) → IsOf engine.old limit held
+        → Owes begin (H.outside host.old).sent outbox.old text
+        → OnOk result (Owes begin (H.outside host.new).sent outbox.new (text ++ spelled (reply place held (judged limit held body.now)))) }
+    ensures part { (limit : ℕ) (held : List Record) (begin : Option (List ℕ)) (text : List ℕ) → IsOf engine.old limit held
+        → Owes begin (H.outside host.old).sent outbox.old text
+        → OnErr result (SentPart begin (H.outside host.new).sent (text ++ spelled (reply place held (judged limit held body.now)))) }
+    ensures stands { (limit : ℕ) (held : List Record) → IsOf engine.old limit held → OnOk result (IsOf engine.new limit (with_record held (judged limit held body.now))) }
+    ensures few { OnOk result (engine.new.published ≤ engine.old.published + 262146) }
+    ensures keeps { OnlySends (H.outside host.old) (H.outside host.new) }
+    ensures cause { result ≡ Err Interruption.SendFault → Rose (H.outside host.old).send_faults (H.outside host.new).send_faults }
+{
+    match judge(&engine.admission, body) {
+        Ok(x) => accept(engine, outbox, host, &x),
+        Err(refusal) => refuse(outbox, host, place, refusal),
+    }
+}
+
+/// What is kept from piece to piece: the frame begun, the accepted records' engine, what waits to be sent, and how many
+/// frames were read.
+#[derive(Drop)]
+pub struct Session {
+    pub cutter: Cutter,
+    pub engine: Engine,
+    pub outbox: Outbox,
+    pub place: u64,
+}
+
+impl Session {
+    ghost use Rattle.halts.specs.Kept.{Follows};
+    ghost use Rattle.halts.specs.Text.{session_text};
+
+    /// A session that has read nothing, under a limit of records. Its buffers are taken here.
+    pub fn new(alloc: Global, limit: u64) -> Result<Session, NoMemory>
+        ensures follows { IfOk result (λ session. Follows session limit []) }
+        ensures outbox { IfOk result (λ session. session.outbox ≡ []) }
+        ensures few { IfOk result (λ session. (session.place ≡ 0) × (session.engine.published ≡ 0)) }
+    {
+        Ok(Session {
+            cutter: Cutter::new(),
+            engine: Engine::new(alloc, limit)?,
+            outbox: Outbox::new(alloc)?,
+            place: 0,
+        })
+    }
+
+    /// Puts the first frame of a session, which tells how many records and messages there are.
+    pub fn greet<H: Host>(&mut self, host: &mut H) -> Result<(), Failed>
+        ensures owes { (limit : ℕ) (begin : Option (List ℕ)) → Follows self.old limit [] → Owes begin (H.outside host.old).sent self.old.outbox []
+            → OnOk result (Owes begin (H.outside host.new).sent self.new.outbox (session_text limit [])) }
+        ensures part { (limit : ℕ) (begin : Option (List ℕ)) → Follows self.old limit [] → Owes begin (H.outside host.old).sent self.old.outbox []
+            → OnErr result (SentPart begin (H.outside host.new).sent (session_text limit [])) }
+        ensures rest { self.new ≡ record self.old { outbox = self.new.outbox } }
+        ensures keeps { OnlySends (H.outside host.old) (H.outside host.new) }
+        ensures cause { OnErr result (Rose (H.outside host.old).send_faults (H.outside host.new).send_faults) }
+    {
+        let hello = Frame::Hello {
+            inputs: self.engine.admission.count(),
+            messages: self.engine.published,
+        };
+        self.outbox.put(host, &hello)
+    }
+
+    /// Takes bytes up to the end of a frame or of the piece, and answers the frame if it is whole.
+    fn advance<H: Host>(&mut self, host: &mut H, piece: &[u8]) -> Result<usize, Interruption>
+        requires small { self.old.place < 2 ^ 42 }
+        requires few { self.old.engine.published ≤ 262146 * self.old.place }
+        ensures used { IfOk result (λ n. (n ≤ length piece.now) × (0 < length piece.now → 0 < n)) }
+        ensures owes { (limit : ℕ) (read : List ℕ) (begin : Option (List ℕ)) → Follows self.old limit read
+            → Owes begin (H.outside host.old).sent self.old.outbox (session_text limit read)
+            → IfOk result (λ n. Owes begin (H.outside host.new).sent self.new.outbox (session_text limit (read ++ take n piece.now))) }
+        ensures part { (limit : ℕ) (read : List ℕ) (begin : Option (List ℕ)) → Follows self.old limit read
+            → Owes begin (H.outside host.old).sent self.old.outbox (session_text limit read)
+            → OnErr result (SentPart begin (H.outside host.new).sent (session_text limit (read ++ piece.now))) }
+        ensures follows { (limit : ℕ) (read : List ℕ) → Follows self.old limit read → IfOk result (λ n. Follows self.new limit (read ++ take n piece.now)) }
+        ensures place { self.new.place ≤ self.old.place + 1 }
+        ensures few { OnOk result (self.new.engine.published ≤ 262146 * self.new.place) }
+        ensures keeps { OnlySends (H.outside host.old) (H.outside host.new) }
+        ensures cause { result ≡ Err Interruption.SendFault → Rose (H.outside host.old).send_faults (H.outside host.new).send_faults }
+    {
+        let cut = self.cutter.take(piece);
+        if !cut.whole {
+            return Ok(cut.used);
+        }
+        self.place += 1;
+        match answer(
+            &mut self.engine,
+            &mut self.outbox,
+            host,
+            self.place,
+            self.cutter.body(),
+        ) {
+            Ok(()) => Ok(cut.used),
+            Err(e) => Err(e),
+        }
+    }
+}
+
+/// Takes all bytes of a piece, and puts what is sent for each frame that is whole.
+pub fn feed<H: Host>(session: &mut Session, host: &mut H, piece: &[u8]) -> Result<(), Interruption>
+    requires small { session.old.place + length piece.now < 2 ^ 42 }
+    requires few { session.old.engine.published ≤ 262146 * session.old.place }
+    ensures owes { (limit : ℕ) (read : List ℕ) (begin : Option (List ℕ)) → Follows session.old limit read
+        → Owes begin (H.outside host.old).sent session.old.outbox (session_text limit read)
+        → OnOk result (Owes begin (H.outside host.new).sent session.new.outbox (session_text limit (read ++ piece.now))) }
+    ensures part { (limit : ℕ) (read : List ℕ) (begin : Option (List ℕ)) → Follows session.old limit read
+        → Owes begin (H.outside host.old).sent session.old.outbox (session_text limit read)
+        → OnErr result (SentPart begin (H.outside host.new).sent (session_text limit (read ++ piece.now))) }
+    ensures follows { (limit : ℕ) (read : List ℕ) → Follows session.old limit read → OnOk result (Follows session.new limit (read ++ piece.now)) }
+    ensures place { session.new.place ≤ session.old.place + length piece.now }
+    ensures few { OnOk result (session.new.engine.published ≤ 262146 * session.new.place) }
+    ensures keeps { OnlySends (H.outside host.old) (H.outside host.new) }
+    ensures cause { result ≡ Err Interruption.SendFault → Rose (H.outside host.old).send_faults (H.outside host.new).send_faults }
+{
+    let mut at = 0;
+    while at < piece.len() {
+        match session.advance(host, &piece[at..]) {
+            Ok(used) => at += used,
+            Err(e) => return Err(e),
+        }
+    }
+    Ok(())
+}
