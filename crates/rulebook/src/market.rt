@@ -60,9 +60,10 @@ fn greatest_in(h: &[Event]) -> u32
         return 0;
     };
     match *last {
-        Event::Published(Message::Breaker { level, .. }) => percent_of(level).max(greatest_in(
-            earlier,
-        )),
+        Event::Published(Message::Breaker { level, .. }) => {
+            let before = greatest_in(earlier);
+            percent_of(level).max(before)
+        }
         _ => greatest_in(earlier),
     }
 }
