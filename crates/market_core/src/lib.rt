@@ -4,6 +4,8 @@
 mod admission;
 mod directory;
 mod market;
+#[cfg(test)]
+mod tests;
 
 pub use admission::Admission;
 pub use directory::Directory;

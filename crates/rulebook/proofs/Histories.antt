@@ -54,6 +54,7 @@ pub records-step : (x : Record) (h : List Event) → records (step x h) ≡ x �
 records-step x h = by (is_tick x) where
   resumed : List Event
   resumed = publish (resume_at x (Accepted x ∷ h)) (Accepted x ∷ h)
+
   by : (b : Bool) → records (cond b (evaluate_market x (Accepted x ∷ h)) (announce x (Accepted x ∷ h))) ≡ x ∷ records h
   by true = records-publish (declare_at x resumed) resumed ∙ records-publish (resume_at x (Accepted x ∷ h)) (Accepted x ∷ h)
   by false = records-announce x (Accepted x ∷ h)
@@ -90,12 +91,15 @@ pub messages-step : (x : Record) (h : List Event) → messages (step x h) ≡ me
 messages-step x h = by (is_tick x) where
   opened : List Event
   opened = Accepted x ∷ h
+
   at_once : messages opened ≡ messages h ++ step_messages opened
   at_once = sym (append-nil (messages h))
+
   by_name : (o : Option (List ℕ)) → messages (option_map_or (λ name. publish (announcement (records opened) name) opened) o opened)
       ≡ messages h ++ step_messages (option_map_or (λ name. publish (announcement (records opened) name) opened) o opened)
   by_name None = at_once
   by_name (Some name) = said_so_far (announcement (records opened) name) h opened at_once
+
   by : (b : Bool) → messages (cond b (evaluate_market x opened) (announce x opened)) ≡ messages h ++ step_messages (cond b (evaluate_market x opened) (announce x opened))
   by true = said_so_far (declare_at x (publish (resume_at x opened) opened)) h (publish (resume_at x opened) opened) (said_so_far (resume_at x opened) h opened at_once)
   by false = by_name (name_of x)

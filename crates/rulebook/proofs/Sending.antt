@@ -28,7 +28,7 @@ replies-append limit place held [] b = ap (λ (k : ℕ). replies limit k held b)
 replies-append limit place held (body ∷ a) b =
     let next = with_record held (judged limit held body) in
     ap (λ later. reply place held (judged limit held body) ++ later)
-      (replies-append limit (place + 1) next a b ∙ ap (λ (k : ℕ). replies limit (place + 1) next a ++ replies limit k (accepted_of limit next a) b) (omega arith))
+    (replies-append limit (place + 1) next a b ∙ ap (λ (k : ℕ). replies limit (place + 1) next a ++ replies limit k (accepted_of limit next a) b) (omega arith))
     ∙ sym (append_assoc (reply place held (judged limit held body)) (replies limit (place + 1) next a) (replies limit (place + length (body ∷ a)) (accepted_of limit next a) b))
 
 -- all that a session sends, and what further frames add

@@ -1,5 +1,5 @@
 -- What may follow a list of accepted records, the newest first.
-use Rattle.std.specs.Prelude.{ℕ, Bool, true, false, Option, Some, None, List, [], ◌∷◌, ◌++◌, nat_lt, nat_le, if◌then◌else◌, not, ◌&&◌, length, is_none, position, slice_get}
+use Rattle.std.specs.Prelude.{◌≡◌, ℕ, Bool, true, false, Option, Some, None, List, [], ◌∷◌, ◌++◌, nat_lt, nat_le, if◌then◌else◌, not, ◌&&◌, length, is_none, position, slice_get}
 use Rattle.std.specs.List.{list_any}
 use Rattle.std.specs.Option.{option_map_or}
 use Rattle.std.specs.Str.{bytes_eq}
@@ -80,3 +80,8 @@ verdict limit accepted x =
 abbrev pub accepted : ℕ → List Record → List Record → List Record
 accepted limit held [] = held
 accepted limit held (x ∷ later) = accepted limit (if is_none (verdict limit held x) then x ∷ held else held) later
+
+-- each record is admissible after those before it
+abbrev pub IsLawful : ℕ → List Record → Type 0
+IsLawful limit [] = Unit {0}
+IsLawful limit (x ∷ earlier) = (verdict limit earlier x ≡ None) × IsLawful limit earlier

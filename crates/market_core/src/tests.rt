@@ -1,0 +1,433 @@
+ghost use Rattle.std.specs.Prelude.{◌<◌};
+
+use super::*;
+use price_core::{Index, Leverage, Price, Tier};
+use rulebook::{afresh, is_lawful};
+use session_core::{Close, Date, Day, Level, Moment, Profile};
+use std::alloc::Global;
+use std::process::Abort;
+use std::test::Fail;
+use wire_in::{Record, Refusal};
+use wire_out::{Message, Stamped};
+
+/// A time of the day, and nanoseconds after it.
+fn at(hour: u8, minute: u8, second: u8, nanos: u32) -> Result<Moment, Fail> {
+    let minutes = u64::from(hour) * 60 + u64::from(minute);
+    let seconds = minutes * 60 + u64::from(second);
+    Ok(Moment::new(seconds * 1_000_000_000 + u64::from(nanos))?)
+}
+
+/// A day of June 2024 begins at a moment, after an index close of 5000.00.
+fn day_at(moment: Moment, day: u8, close: Close) -> Result<Record, Fail> {
+    Ok(Record::Day {
+        moment,
+        day: Day {
+            date: Date::of(2024, 6, day)?,
+            close,
+            profile: Profile::Since18,
+        },
+        index_close: Index::new(500_000)?,
+    })
+}
+
+/// A day of June 2024 begins at 04:00:00.
+fn day(day: u8) -> Result<Record, Fail> {
+    day_at(at(4, 0, 0, 0)?, day, Close::Regular)
+}
+
+fn clock(moment: Moment) -> Record {
+    Record::Clock { moment }
+}
+
+fn tick(moment: Moment, hundredths: u32) -> Result<Record, Fail> {
+    let value = Index::new(hundredths)?;
+    Ok(Record::IndexTick { moment, value })
+}
+
+fn listing_after(close: Option<Price>, moment: Moment, name: [u8; 8]) -> Result<Record, Fail> {
+    Ok(Record::Listing {
+        moment,
+        name,
+        tier: Tier::One,
+        leverage: Leverage::new(10)?,
+        close,
+    })
+}
+
+fn listing(moment: Moment, name: [u8; 8]) -> Result<Record, Fail> {
+    listing_after(Some(Price::new(200_000)?), moment, name)
+}
+
+fn trade(moment: Moment, symbol: u16) -> Result<Record, Fail> {
+    Ok(Record::Trade {
+        moment,
+        symbol,
+        number: 1,
+        price: Price::new(200_000)?,
+        size: 100,
+        flags: 0,
+    })
+}
+
+/// A name of three letters for a number.
+fn name(number: u16) -> [u8; 8] {
+    let letter = |n: u16| b'A' + (n % 26) as u8;
+    [
+        letter(number / 676),
+        letter(number / 26),
+        letter(number),
+        0,
+        0,
+        0,
+        0,
+        0,
+    ]
+}
+
+/// The verdict on a record, which is admitted where there is none.
+fn tried(admission: &mut Admission, x: &Record) -> Result<Option<Refusal>, Fail> {
+    let verdict = admission.verdict(x);
+    if verdict.is_none() {
+        admission.admit(x)?;
+    }
+    Ok(verdict)
+}
+
+/// The admission of these records under a limit, with exactly these verdicts.
+fn expect_verdicts<R: Abort + AllocGlobal>(
+    rt: &R,
+    limit: u64,
+    cases: &[(Record, Option<Refusal>)],
+) -> Result<Admission, Fail> {
+    let mut admission = Admission::new(rt.alloc(), limit)?;
+    for (x, want) in cases {
+        assert_eq!(rt; tried(&mut admission, x)?, *want, "at {x:?}");
+    }
+    Ok(admission)
+}
+
+#[test]
+fn before_any_day_nothing_else_is_refused(rt: HostRuntime) -> Result<(), Fail> {
+    let t = at(10, 0, 0, 0)?;
+    let no_day = Some(Refusal::NoDay);
+    for limit in [0, 100] {
+        let admission = expect_verdicts(
+            &rt,
+            limit,
+            &[
+                (clock(t), no_day),
+                (listing(t, name(0))?, no_day),
+                (trade(t, 0)?, no_day),
+            ],
+        )?;
+        assert_eq!(rt; admission.count(), 0);
+        assert_eq!(rt; admission.today(), None);
+    }
+    Ok(())
+}
+
+#[test]
+fn dates_ascend_and_moments_do_within_a_day(rt: HostRuntime) -> Result<(), Fail> {
+    let early = Some(Refusal::OutOfOrder);
+    let t = at(10, 0, 0, 0)?;
+    let before = at(9, 59, 59, 999_999_999)?;
+    let admission = expect_verdicts(
+        &rt,
+        100,
+        &[
+            (day(3)?, None),
+            (day(3)?, early),
+            (day(2)?, early),
+            (clock(t), None),
+            (clock(before), early),
+            (clock(t), None),
+            (day(4)?, None),
+            (clock(before), None),
+        ],
+    )?;
+    assert_eq!(rt; admission.count(), 5);
+    assert_eq!(rt; admission.today().map(|day| day.date.day()), Some(4));
+    Ok(())
+}
+
+#[test]
+fn only_symbols_of_the_day_are_known(rt: HostRuntime) -> Result<(), Fail> {
+    let t = at(10, 0, 0, 0)?;
+    let unknown = Some(Refusal::UnknownSymbol);
+    expect_verdicts(
+        &rt,
+        100,
+        &[
+            (day(3)?, None),
+            (trade(t, 0)?, unknown),
+            (listing(t, name(0))?, None),
+            (trade(t, 0)?, None),
+            (trade(t, 1)?, unknown),
+            (day(4)?, None),
+            (listing(t, name(1))?, None),
+            (trade(t, 0)?, unknown),
+            (trade(t, 1)?, None),
+        ],
+    )?;
+    Ok(())
+}
+
+#[test]
+fn a_name_is_listed_once_a_day(rt: HostRuntime) -> Result<(), Fail> {
+    let t = at(5, 0, 0, 0)?;
+    let again = Some(Refusal::AlreadyListed);
+    let admission = expect_verdicts(
+        &rt,
+        100,
+        &[
+            (day(3)?, None),
+            (listing(t, name(7))?, None),
+            (listing(t, name(7))?, again),
+            (day(4)?, None),
+            (listing(t, name(7))?, None),
+            (day(5)?, None),
+            (listing(t, name(7))?, None),
+            (listing(t, name(7))?, again),
+            (trade(t, 0)?, None),
+        ],
+    )?;
+    assert_eq!(rt; admission.names(), 1);
+    Ok(())
+}
+
+#[test]
+fn a_journal_of_three_records_takes_no_fourth(rt: HostRuntime) -> Result<(), Fail> {
+    let t = at(10, 0, 0, 0)?;
+    let admission = expect_verdicts(
+        &rt,
+        3,
+        &[
+            (day(3)?, None),
+            (listing(t, name(0))?, None),
+            (clock(t), None),
+            (clock(t), Some(Refusal::JournalFull)),
+            (listing(t, name(1))?, Some(Refusal::JournalFull)),
+            (listing(t, name(0))?, Some(Refusal::AlreadyListed)),
+            (trade(t, 1)?, Some(Refusal::UnknownSymbol)),
+            (day(3)?, Some(Refusal::OutOfOrder)),
+        ],
+    )?;
+    assert_eq!(rt; admission.count(), 3);
+    Ok(())
+}
+
+#[test]
+fn an_early_record_is_out_of_order_whatever_else_it_is(rt: HostRuntime) -> Result<(), Fail> {
+    let t = at(10, 0, 0, 0)?;
+    let before = at(9, 0, 0, 0)?;
+    let early = Some(Refusal::OutOfOrder);
+    expect_verdicts(
+        &rt,
+        100,
+        &[
+            (day(3)?, None),
+            (listing(t, name(0))?, None),
+            (listing(before, name(0))?, early),
+            (trade(before, 9)?, early),
+        ],
+    )?;
+    Ok(())
+}
+
+/// Listings of names for the numbers below one.
+fn listings(alloc: Global, moment: Moment, end: u16) -> Result<Vec<Record>, Fail> {
+    let close = Some(Price::new(200_000)?);
+    let mut xs = Vec::new(alloc);
+    for number in 0..end {
+        xs.push(listing_after(close, moment, name(number))?)?;
+    }
+    Ok(xs)
+}
+
+/// An admission of a day and of these listings, each of which is admitted.
+fn admitted<R: Abort + AllocGlobal>(rt: &R, limit: u64, xs: &[Record]) -> Result<Admission, Fail> {
+    let mut admission = expect_verdicts(rt, limit, &[(day(3)?, None)])?;
+    for x in xs {
+        assert_eq!(rt; tried(&mut admission, x)?, None, "at {x:?}");
+    }
+    Ok(admission)
+}
+
+#[test]
+fn the_directory_takes_16_384_names(rt: HostRuntime) -> Result<(), Fail> {
+    let t = at(5, 0, 0, 0)?;
+    let xs = listings(rt.alloc(), t, 16_384)?;
+    let mut admission = admitted(&rt, 16_386, &xs)?;
+    assert_eq!(rt; admission.names(), 16_384);
+    for (x, want) in [
+        (listing(t, name(16_384))?, Some(Refusal::DirectoryFull)),
+        (listing(t, name(0))?, Some(Refusal::AlreadyListed)),
+        (day(4)?, None),
+        (listing(t, name(16_384))?, Some(Refusal::DirectoryFull)),
+        (listing(t, name(0))?, Some(Refusal::JournalFull)),
+    ] {
+        assert_eq!(rt; tried(&mut admission, &x)?, want, "at {x:?}");
+    }
+    Ok(())
+}
+
+/// The messages of a market that is given each of these records.
+fn applied(alloc: Global, xs: &[Record]) -> Result<Vec<Stamped>, Fail> {
+    let mut market = Market::new(alloc)?;
+    let mut out = Vec::new(alloc);
+    for x in xs {
+        market.apply(x, &mut out)?;
+    }
+    Ok(out)
+}
+
+fn breaker(moment: Moment, level: Level, hundredths: u32) -> Result<Stamped, Fail> {
+    let index = Index::new(hundredths)?;
+    let message = Message::Breaker { level, index };
+    Ok(Stamped { moment, message })
+}
+
+fn resumption(moment: Moment) -> Stamped {
+    let message = Message::MarketResume;
+    Stamped { moment, message }
+}
+
+/// A market gives exactly these messages.
+fn expect_messages<R: Abort + AllocGlobal>(
+    rt: &R,
+    xs: &[Record],
+    want: &[Stamped],
+) -> Result<(), Fail> {
+    let given = applied(rt.alloc(), xs)?;
+    assert_eq!(rt; given.as_slice(), want);
+    Ok(())
+}
+
+#[test]
+fn on_an_early_close_brief_halts_are_declared_up_to_12_25(rt: HostRuntime) -> Result<(), Fail> {
+    let opening = day_at(at(4, 0, 0, 0)?, 3, Close::Early)?;
+    let last = at(12, 25, 0, 0)?;
+    let late = at(12, 25, 0, 1)?;
+    let declared = [breaker(last, Level::Two, 435_000)?];
+    expect_messages(&rt, &[opening, tick(last, 435_000)?], &declared)?;
+    expect_messages(&rt, &[opening, tick(late, 435_000)?], &[])
+}
+
+#[test]
+fn a_halt_bars_other_levels_until_it_ends(rt: HostRuntime) -> Result<(), Fail> {
+    let t = at(10, 0, 0, 0)?;
+    let end = at(10, 15, 0, 0)?;
+    expect_messages(
+        &rt,
+        &[
+            day(3)?,
+            tick(t, 465_000)?,
+            tick(at(10, 14, 59, 999_999_999)?, 400_000)?,
+            tick(end, 400_000)?,
+        ],
+        &[
+            breaker(t, Level::One, 465_000)?,
+            resumption(end),
+            breaker(end, Level::Three, 400_000)?,
+        ],
+    )
+}
+
+#[test]
+fn a_new_day_ends_halts_and_levels(rt: HostRuntime) -> Result<(), Fail> {
+    let t = at(10, 0, 0, 0)?;
+    expect_messages(
+        &rt,
+        &[day(3)?, tick(t, 400_000)?, day(4)?, tick(t, 465_000)?],
+        &[
+            breaker(t, Level::Three, 400_000)?,
+            breaker(t, Level::One, 465_000)?,
+        ],
+    )
+}
+
+/// Records that are drawn by a linear congruence.
+#[derive(Drop)]
+struct Draw {
+    state: u64,
+    date: u8,
+    seconds: u64,
+}
+
+impl Draw {
+    /// A number below n.
+    fn below(&mut self, n: u64) -> u64
+        requires { 0 < n }
+        ensures { result < n }
+    {
+        self.state = self
+            .state
+            .wrapping_mul(6_364_136_223_846_793_005)
+            .wrapping_add(1_442_695_040_888_963_407);
+        (self.state >> 33) % n
+    }
+
+    /// An index tick near a level.
+    fn tick(&mut self, moment: Moment) -> Result<Record, Fail> {
+        let values = [
+            500_000, 465_001, 465_000, 435_001, 435_000, 400_001, 400_000,
+        ];
+        tick(moment, values[self.below(7) as usize])
+    }
+
+    /// A day, or a record of the day up to half an hour after the last; close is that of listings.
+    fn record(&mut self, close: Option<Price>) -> Result<Record, Fail> {
+        if self.below(12) == 0 {
+            self.date = self.date.wrapping_add(1);
+            self.seconds = 32_400;
+            return day_at(at(9, 0, 0, 0)?, self.date, Close::Regular);
+        }
+        let later = self.seconds.min(84_000) + 300 * self.below(7);
+        self.seconds = later;
+        let moment = Moment::new(later * 1_000_000_000)?;
+        match self.below(10) {
+            0 | 1 => listing_after(close, moment, name(self.below(5) as u16)),
+            2 => trade(moment, self.below(5) as u16),
+            3 | 4 => Ok(clock(moment)),
+            _ => self.tick(moment),
+        }
+    }
+}
+
+/// Records that are drawn, one after the other.
+fn drawn(alloc: Global, count: u32) -> Result<Vec<Record>, Fail> {
+    let close = Some(Price::new(200_000)?);
+    let mut draw = Draw {
+        state: 1,
+        date: 0,
+        seconds: 0,
+    };
+    let mut xs = Vec::new(alloc);
+    for _ in 0..count {
+        xs.push(draw.record(close)?)?;
+    }
+    Ok(xs)
+}
+
+/// Those that are admitted of these records.
+fn admissible(alloc: Global, xs: &[Record]) -> Result<Vec<Record>, Fail> {
+    let mut admission = Admission::new(alloc, u64::MAX)?;
+    let mut taken = Vec::new(alloc);
+    for x in xs {
+        if tried(&mut admission, x)?.is_none() {
+            taken.push(*x)?;
+        }
+    }
+    Ok(taken)
+}
+
+#[test]
+fn a_market_gives_the_messages_that_the_list_gives(rt: HostRuntime) -> Result<(), Fail> {
+    let all = drawn(rt.alloc(), 300)?;
+    let xs = admissible(rt.alloc(), &all)?;
+    assert!(rt; is_lawful(rt.alloc(), &xs)?);
+    let want = afresh(rt.alloc(), &xs)?;
+    let given = applied(rt.alloc(), &xs)?;
+    assert_eq!(rt; given.as_slice(), want.as_slice());
+    Ok(())
+}

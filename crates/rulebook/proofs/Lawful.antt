@@ -1,0 +1,55 @@
+-- Lawful lists of records.
+use Rattle.std.proofs.Common.{◌≡◌, ℕ, ◌+◌, ◌<◌, ◌≤◌, Bool, true, false, cond, List, [], ◌∷◌, ◌++◌, length, Option, Some, None, not, refl, sym, ap, subst, ◌∙◌, arith, length-append}
+use Rattle.std.specs.Prelude.{◌&&◌, nat_le}
+use Rattle.std.proofs.lemmas.Bool.Decides.{nat_tests}
+use Rattle.wire_in.specs.declared.record.Record.{Record}
+use Rattle.wire_in.specs.declared.record.Record.TheVariants as in_
+use Rattle.wire_in.specs.declared.record.Refusal.{Refusal}
+use Rattle.wire_in.specs.Records.{is_day}
+use Rattle.rulebook.specs.declared.event.Event.{Event}
+use Rattle.rulebook.specs.Admission.{names, with_name, is_among, is_early, is_unknown, lists_again, finds_no_id, verdict, IsLawful}
+use Rattle.rulebook.specs.History.{records}
+use Rattle.rulebook.specs.Steps.{history}
+use Rattle.rulebook.proofs.Histories.{records-history}
+
+-- a refusal that doesn't apply leaves the others to be tried
+passed : (b : Bool) (refusal : Refusal) (others : Option Refusal) → cond b (Some refusal) others ≡ None → (b ≡ false) × (others ≡ None)
+passed true refusal others e = absurd cc
+passed false refusal others e = (refl, e)
+
+finds_id : (limit : ℕ) (A : List Record) (x : Record) → verdict limit A x ≡ None → finds_no_id A x ≡ false
+finds_id limit A x e =
+    let after_day = (passed _ _ _ e).1 in
+    let after_order = (passed (is_early A x) _ _ after_day).1 in
+    let after_unknown = (passed (is_unknown A x) _ _ after_order).1 in
+    let after_again = (passed (lists_again A x) _ _ after_unknown).1 in
+    (passed (finds_no_id A x) _ _ after_again).0
+
+with_one_more : (ns : List (List ℕ)) (name : List ℕ) → length ns ≤ 16384 → (not (is_among ns name) && nat_le 16384 (length ns)) ≡ false → length (with_name ns name) ≤ 16384
+with_one_more ns name few room = by (is_among ns name) room where
+  at_number : (n : ℕ) → nat_le 16384 n ≡ false → n + 1 ≤ 16384
+  at_number n e = grind (arith, nat_tests)
+
+  by : (b : Bool) → (not b && nat_le 16384 (length ns)) ≡ false → length (cond b ns (ns ++ name ∷ [])) ≤ 16384
+  by true e = few
+  by false e = subst (λ (n : ℕ). n ≤ 16384) (sym (length-append ns (name ∷ []))) (at_number (length ns) e)
+
+-- a lawful list has at most 16,384 names
+pub few_names : (limit : ℕ) (A : List Record) → IsLawful limit A → length (names A) ≤ 16384
+few_names limit [] lawful = omega arith
+few_names limit (in_.Listing t name k l c ∷ A) lawful = with_one_more (names A) name (few_names limit A lawful.1) (finds_id limit A (in_.Listing t name k l c) lawful.0)
+few_names limit (in_.Day t d c ∷ A) lawful = few_names limit A lawful.1
+few_names limit (in_.Trade t s n p q f ∷ A) lawful = few_names limit A lawful.1
+few_names limit (in_.Cancel t s n ∷ A) lawful = few_names limit A lawful.1
+few_names limit (in_.Quote t s b o x y ∷ A) lawful = few_names limit A lawful.1
+few_names limit (in_.IndexTick t v ∷ A) lawful = few_names limit A lawful.1
+few_names limit (in_.Clock t ∷ A) lawful = few_names limit A lawful.1
+few_names limit (in_.Notice t s k ∷ A) lawful = few_names limit A lawful.1
+few_names limit (in_.Indication t s p u ∷ A) lawful = few_names limit A lawful.1
+
+-- and so has the history of all but its last record, with that one opened
+pub few_names_opened : (limit : ℕ) (accepted earlier : List Record) (x : Record) (h : List Event) → IsLawful limit accepted → accepted ≡ x ∷ earlier → h ≡ history earlier
+    → length (names (x ∷ records h)) ≤ 16384
+few_names_opened limit accepted earlier x h lawful last is =
+    let same : accepted ≡ x ∷ records h = last ∙ ap (λ (older : List Record). x ∷ older) (sym (ap records is ∙ records-history earlier)) in
+    subst (λ (newer : List Record). length (names newer) ≤ 16384) same (few_names limit accepted lawful)
