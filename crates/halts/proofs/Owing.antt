@@ -57,3 +57,8 @@ text-spelled text a b = append_assoc text (spelled a) (spelled b) ∙ ap (λ byt
 pub ok_owes : {T E : Type 0} (r : Result T E) (begin now : Option (List ℕ)) (held text same : List ℕ) → text ≡ same → OnOk r (Owes begin now held text) → OnOk r (Owes begin now held same)
 ok_owes (Ok x) begin now held text same is owes = subst (λ t. Owes begin now held t) is owes
 ok_owes (Err e) begin now held text same is owes = tt
+
+-- what holds at a failure, whatever the failure is
+pub at_failure : {A B : Type 0} (r : Result A B) {P : Type 0} → P → OnErr r P
+at_failure (Ok x) p = tt
+at_failure (Err e) p = p

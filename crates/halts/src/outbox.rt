@@ -54,13 +54,9 @@ impl Outbox {
         ensures keeps { OnlySends (H.outside host.old) (H.outside host.new) }
         ensures cause { OnErr result (Rose (H.outside host.old).send_faults (H.outside host.new).send_faults) }
     {
-        match send_all(host, &self.bytes) {
-            Ok(()) => {
-                self.bytes.clear();
-                Ok(())
-            }
-            Err(e) => Err(e),
-        }
+        send_all(host, &self.bytes)?;
+        self.bytes.clear();
+        Ok(())
     }
 
     /// Sends what waits where there may be no room for a frame.
@@ -98,12 +94,8 @@ impl Outbox {
         ensures keeps { OnlySends (H.outside host.old) (H.outside host.new) }
         ensures cause { OnErr result (Rose (H.outside host.old).send_faults (H.outside host.new).send_faults) }
     {
-        match self.make_room(host) {
-            Ok(()) => {
-                self.append(frame);
-                Ok(())
-            }
-            Err(e) => Err(e),
-        }
+        self.make_room(host)?;
+        self.append(frame);
+        Ok(())
     }
 }

@@ -26,14 +26,10 @@ pub enum Interruption {
 }
 
 impl From<Failed> for Interruption {
-    fn from(_: Failed) -> Interruption {
+    fn from(_: Failed) -> Interruption
+        ensures { result ≡ Interruption.SendFault }
+    {
         Interruption::SendFault
-    }
-}
-
-impl From<NoMemory> for Interruption {
-    fn from(_: NoMemory) -> Interruption {
-        Interruption::NoMemory
     }
 }
 
@@ -59,10 +55,7 @@ fn put_messages<H: Host>(
             number,
             stamped: *message,
         };
-        match outbox.put(host, &frame) {
-            Ok(()) => {}
-            Err(e) => return Err(e),
-        }
+        outbox.put(host, &frame)?;
     }
     Ok(())
 }
@@ -83,10 +76,8 @@ fn put_step<H: Host>(
     ensures keeps { OnlySends (H.outside host.old) (H.outside host.new) }
     ensures cause { OnErr result (Rose (H.outside host.old).send_faults (H.outside host.new).send_faults) }
 {
-    match put_messages(outbox, host, before, messages) {
-        Ok(()) => outbox.put(host, &Frame::Ack { input }),
-        Err(e) => Err(e),
-    }
+    put_messages(outbox, host, before, messages)?;
+    outbox.put(host, &Frame::Ack { input })
 }
 
 /// Accepts a record that is admissible next, and puts its messages and its acknowledgement.
@@ -115,10 +106,8 @@ fn accept<H: Host>(
         Err(_) => return Err(Interruption::NoMemory),
     }
     let input = engine.admission.count();
-    match put_step(outbox, host, before, &engine.messages, input) {
-        Ok(()) => Ok(()),
-        Err(_) => Err(Interruption::SendFault),
-    }
+    put_step(outbox, host, before, &engine.messages, input)?;
+    Ok(())
 }
 
 /// Puts a refusal.
@@ -140,10 +129,8 @@ fn refuse<H: Host>(
         code: refusal.code(),
         field: refusal.field(),
     };
-    match outbox.put(host, &frame) {
-        Ok(()) => Ok(()),
-        Err(_) => Err(Interruption::SendFault),
-    }
+    outbox.put(host, &frame)?;
+    Ok(())
 }
 
 /// Puts what is sent for a frame: its messages and its acknowledgement, or its refusal.
@@ -240,16 +227,14 @@ impl Session {
             return Ok(cut.used);
         }
         self.place += 1;
-        match answer(
+        answer(
             &mut self.engine,
             &mut self.outbox,
             host,
             self.place,
             self.cutter.body(),
-        ) {
-            Ok(()) => Ok(cut.used),
-            Err(e) => Err(e),
-        }
+        )?;
+        Ok(cut.used)
     }
 }
 
@@ -271,10 +256,7 @@ pub fn feed<H: Host>(session: &mut Session, host: &mut H, piece: &[u8]) -> Resul
 {
     let mut at = 0;
     while at < piece.len() {
-        match session.advance(host, &piece[at..]) {
-            Ok(used) => at += used,
-            Err(e) => return Err(e),
-        }
+        at += session.advance(host, &piece[at..])?;
     }
     Ok(())
 }
