@@ -6,6 +6,8 @@ mod outbox;
 mod run;
 mod serve;
 mod session;
+#[cfg(test)]
+mod tests;
 
 use host_core::{RealHost, Status};
 use run::run;
