@@ -1,0 +1,4 @@
+mod FrameLemmas
+mod Images
+mod Alone
+mod Appended

@@ -1,0 +1,4 @@
+pub mod Batch
+pub mod Layout
+pub mod Laws
+pub mod Journal

@@ -1,0 +1,14 @@
+//! The journal: accepted records on a disk, in batches that a stop at any moment leaves whole or out.
+#![tactic(auto)]
+
+mod batch;
+mod error;
+mod frames;
+mod journal;
+mod law;
+mod store;
+
+pub use batch::Batch;
+pub use error::{AppendError, FormatError, ScanError};
+pub use journal::{Journal, format};
+pub use law::an_image_holds_one_list;
