@@ -2,3 +2,8 @@ mod FrameLemmas
 mod Images
 mod Alone
 mod Appended
+mod FrontLemmas
+mod AheadLemmas
+mod ScanLemmas
+mod Settled
+mod HeaderLemmas

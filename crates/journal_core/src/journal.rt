@@ -13,6 +13,9 @@ use host_core::{Failed, Host};
 use std::marker::Model;
 use wire_in::Record;
 
+/// The most records that a journal may take.
+pub const LIMIT_MAX: u64 = 2_000_000_000;
+
 /// Makes an empty journal that takes up to a number of records, 1 to 2,000,000,000, over what stands there.
 pub fn format<H: Host>(host: &mut H, limit: u64) -> Result<(), FormatError>
     requires { IsLimit limit }

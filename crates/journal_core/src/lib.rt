@@ -1,14 +1,18 @@
 //! The journal: accepted records on a disk, in batches that a stop at any moment leaves whole or out.
 #![tactic(auto)]
 
+mod ahead;
 mod batch;
 mod error;
 mod frames;
+mod front;
 mod journal;
 mod law;
+mod scan;
 mod store;
 
 pub use batch::Batch;
 pub use error::{AppendError, FormatError, ScanError};
 pub use journal::{Journal, format};
 pub use law::an_image_holds_one_list;
+pub use scan::Scan;
