@@ -10,6 +10,8 @@ mod journal;
 mod law;
 mod scan;
 mod store;
+#[cfg(test)]
+mod tests;
 
 pub use batch::Batch;
 pub use error::{AppendError, FormatError, ScanError};
