@@ -1,9 +1,9 @@
 mod FrameLemmas
-mod Images
-mod Alone
+pub mod Images
+pub mod Alone
 mod Appended
 mod FrontLemmas
 mod AheadLemmas
 mod ScanLemmas
-mod Settled
+pub mod Settled
 mod HeaderLemmas
