@@ -9,7 +9,7 @@ use Rattle.journal_core.specs.Laws.{HoldsOneList}
 use Rattle.journal_core.proofs.FrameLemmas.{frames_alone, frames_most}
 
 -- two lists that begin with parts of one length
-front_of : (a b c d : List ℕ) → a ++ b ≡ c ++ d → length a ≡ length c → (a ≡ c) × (b ≡ d)
+pub front_of : (a b c d : List ℕ) → a ++ b ≡ c ++ d → length a ≡ length c → (a ≡ c) × (b ≡ d)
 front_of a b c d is len = (
   sym (take_at a b (length a) refl) ∙ ap (take (length a)) is ∙ take_at c d (length a) (sym len),
   sym (drop_at a b (length a) refl) ∙ ap (drop (length a)) is ∙ drop_at c d (length a) (sym len),
@@ -19,7 +19,7 @@ frames_short : (batch : List Record) → IsBatch batch → length (frames_of bat
 frames_short batch valid = omega (arith, frames_most batch valid.sound, valid.most)
 
 -- one batch stands behind a gate
-one_content : (a b : List Record) (more rest : List ℕ) → IsBatch a → IsBatch b → content a ++ more ≡ content b ++ rest → (a ≡ b) × (more ≡ rest)
+pub one_content : (a b : List Record) (more rest : List ℕ) → IsBatch a → IsBatch b → content a ++ more ≡ content b ++ rest → (a ≡ b) × (more ≡ rest)
 one_content a b more rest ha hb is =
     let m = length (frames_of a) in
     let n = length (frames_of b) in

@@ -16,5 +16,5 @@ mod tests;
 pub use batch::Batch;
 pub use error::{AppendError, FormatError, ScanError};
 pub use journal::{Journal, format};
-pub use law::an_image_holds_one_list;
+pub use law::{a_held_list_is_read, an_image_holds_one_list};
 pub use scan::Scan;
