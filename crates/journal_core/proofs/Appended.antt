@@ -1,0 +1,112 @@
+-- The two steps of an append, over what a host tells before, between and after them.
+use Rattle.std.proofs.Common.{◌≡◌, inl, ℕ, ◌+◌, List, [], ◌∷◌, ◌++◌, length, get_or, drop, sym, ◌∙◌, ap, subst, arith, append_assoc, length-append}
+use Rattle.std.specs.Prelude.{Option, Some, option_map, reverse}
+use Rattle.std.proofs.lemmas.List.{length-reverse}
+use Rattle.host_core.specs.Outside.{Outside, MayLeave, Stays, Changes, IsSettled, Torn, written}
+use Rattle.host_core.proofs.Told.{mapped}
+use Rattle.wire_in.specs.declared.record.Record.{Record}
+use Rattle.journal_core.specs.Layout.{IsBatch, LeadsTo, HoldsTo, frames_of, content, with_batch}
+use Rattle.journal_core.specs.Journal.{Kept, Keeps, IsOf, IsAtRest, IsGateOf, IsSettledAt, Appends, Grown}
+use Rattle.journal_core.proofs.Images.{closed, torn_behind, written_behind, torn_gate, written_gate, grown, either}
+
+-- what an append writes behind a gate
+abbrev pub body : List Record → List ℕ
+body batch = content batch ++ 0 ∷ []
+
+-- where the next gate stands
+abbrev pub next_gate : ℕ → List Record → ℕ
+next_gate gate batch = gate + (length (frames_of batch) + 5)
+
+module _ {limit gate : ℕ} {records : List Record} {disk : List ℕ} (batch : List Record) (valid : IsBatch batch) (held : HoldsTo limit gate records disk) where
+  staged : LeadsTo limit gate held.batches (written (gate + 1) (body batch) disk) (0 ∷ (content batch ++ 0 ∷ drop (gate + 1 + length (body batch)) disk))
+  staged = subst (λ l. LeadsTo limit gate held.batches (written (gate + 1) (body batch) disk) (0 ∷ l)) (append_assoc (content batch) (0 ∷ []) (drop (gate + 1 + length (body batch)) disk)) (written_behind held.leads (body batch))
+
+  opened_torn : (image : List ℕ) (torn : Torn gate 1 (written (gate + 1) (body batch) disk) image) → LeadsTo limit gate held.batches image (get_or image gate 0 ∷ (content batch ++ 0 ∷ (drop (gate + 1 + length (body batch)) disk ++ torn.more)))
+  opened_torn image torn = subst (λ l. LeadsTo limit gate held.batches image (get_or image gate 0 ∷ l)) (append_assoc (content batch) (0 ∷ drop (gate + 1 + length (body batch)) disk) torn.more) (torn_gate staged image torn)
+
+  pub with_it : HoldsTo limit (next_gate gate batch) (with_batch records batch) (written gate (1 ∷ []) (written (gate + 1) (body batch) disk))
+  with_it = grown batch (drop (gate + 1 + length (body batch)) disk) held.same (written_gate staged 1) (omega arith) valid
+
+module _ (old mid new : Option (List ℕ)) (gate : ℕ) (batch : List Record)
+    (first : mid ≡ option_map (written (gate + 1) (body batch)) old) (second : new ≡ option_map (written gate (1 ∷ [])) mid) where
+  pub staged_from : (disk : List ℕ) → mid ≡ Some disk → (before : List ℕ) × (old ≡ Some before) × (written (gate + 1) (body batch) before ≡ disk)
+  staged_from disk is = mapped (written (gate + 1) (body batch)) old disk (sym first ∙ is)
+
+  pub grown_from : (disk : List ℕ) → new ≡ Some disk → (before : List ℕ) × (old ≡ Some before) × (written gate (1 ∷ []) (written (gate + 1) (body batch) before) ≡ disk)
+  grown_from disk is =
+      let later = mapped (written gate (1 ∷ [])) mid disk (sym second ∙ is) in
+      let earlier = staged_from later.0 later.1 in
+      (earlier.0, earlier.1, ap (written gate (1 ∷ [])) earlier.2 ∙ later.2)
+
+  pub grown_with : IsBatch batch → (disk : List ℕ) → new ≡ Some disk → Grown gate (next_gate gate batch) batch old disk
+  grown_with valid disk is =
+      let from = grown_from disk is in
+      record {
+        before = from.0;
+        told = from.1;
+        grows = λ limit records held. subst (HoldsTo limit (next_gate gate batch) (with_batch records batch)) from.2 (with_it batch valid held);
+      }
+
+-- a journal at rest has its gate at rest
+pub settled_at : {now : Outside} {records : List Record} (journal : Kept) (gate : ℕ) → gate ≡ journal.gate → IsAtRest journal records now → IsSettledAt journal.limit gate records now
+settled_at {now} {records} journal gate is rest = record {
+  settled = rest.settled;
+  holds = λ disk told. subst (λ (g : ℕ). HoldsTo journal.limit g records disk) (sym is) (rest.keeps disk told).held;
+}
+
+pub gate_of_disk : (journal : Kept) (gate : ℕ) (told : Option (List ℕ)) → gate ≡ journal.gate → IsOf journal told → IsGateOf gate told
+gate_of_disk journal gate told is of_disk disk known =
+    let kept = of_disk disk known in
+    (journal.limit, kept.0, subst (λ (g : ℕ). HoldsTo journal.limit g kept.0 disk) (sym is) kept.1.held)
+
+pub grown_by : {gate next : ℕ} {list batch : List Record} {old : Option (List ℕ)} {disk : List ℕ} → list ≡ batch → Grown gate next list old disk → Grown gate next batch old disk
+grown_by {gate} {next} {old = old} {disk = disk} is grows = subst (λ (b : List Record). Grown gate next b old disk) is grows
+
+-- a journal with a batch more
+module _ (old new : Kept) (batch : List Record) (gate : ℕ) (gates : gate ≡ old.gate) (limits : new.limit ≡ old.limit) (counts : new.count ≡ old.count + length batch) where
+  kept_with : {records : List Record} {before disk : List ℕ} → ((limit : ℕ) (held : List Record) → HoldsTo limit gate held before → HoldsTo limit new.gate (with_batch held batch) disk)
+      → Keeps old records before → Keeps new (with_batch records batch) disk
+  kept_with {records} {before} {disk} grows keeps = record {
+    held = subst (λ (l : ℕ). HoldsTo l new.gate (with_batch records batch) disk) (sym limits)
+        (grows old.limit records (subst (λ (g : ℕ). HoldsTo old.limit g records before) (sym gates) keeps.held));
+    count = omega (arith, counts, keeps.count, length-append (reverse batch) records, length-reverse batch);
+  }
+
+  module _ (before now : Outside) (grown_to : (disk : List ℕ) → now.disk ≡ Some disk → Grown gate new.gate batch before.disk disk) where
+    pub of_disk_with : IsOf old before.disk → IsOf new now.disk
+    of_disk_with of_disk disk told =
+        let from = grown_to disk told in
+        let keeps = of_disk from.before from.told in
+        (with_batch keeps.0 batch, kept_with from.grows keeps.1)
+
+    pub rest_with : IsSettled now → (records : List Record) → IsAtRest old records before → IsAtRest new (with_batch records batch) now
+    rest_with settled records rest = record {
+      settled = settled;
+      keeps = λ disk told. let from = grown_to disk told in kept_with from.grows (rest.keeps from.before from.told);
+    }
+
+pub before_steps : (old : Outside) (limit gate : ℕ) (records batch : List Record) → IsSettledAt limit gate records old → (image bytes : List ℕ) → Stays old image bytes → Appends limit records batch old image bytes
+before_steps old limit gate records batch rest image bytes stays = record {
+  holds = inl (record { gate = gate; held = rest.holds image (rest.settled.only image stays.was) });
+  sent = stays.sent;
+}
+
+module _ (old : Outside) (limit gate : ℕ) (records batch : List Record) (valid : IsBatch batch) (rest : IsSettledAt limit gate records old) where
+  held : (image : List ℕ) → MayLeave old image → HoldsTo limit gate records image
+  held image left = rest.holds image (rest.settled.only image left)
+
+  pub first_step : (n : ℕ) (image bytes : List ℕ) → Changes (Torn (gate + 1) n) old image bytes → Appends limit records batch old image bytes
+  first_step n image bytes step =
+      let before = held step.before step.was in
+      record { holds = inl (record { gate = gate; held = closed before.same (torn_behind before.leads n image step.changed) }); sent = step.sent }
+
+  module _ (mid : Outside) (first : mid.disk ≡ option_map (written (gate + 1) (body batch)) old.disk) (settled : IsSettled mid) (same : mid.sent ≡ old.sent) where
+    pub second_step : (image bytes : List ℕ) → Changes (Torn gate 1) mid image bytes → Appends limit records batch old image bytes
+    second_step image bytes step =
+        let from = mapped (written (gate + 1) (body batch)) old.disk step.before (sym first ∙ settled.only step.before step.was) in
+        let before = rest.holds from.0 from.1 in
+        let torn : Torn gate 1 (written (gate + 1) (body batch) from.0) image = subst (λ d. Torn gate 1 d image) (sym from.2) step.changed in
+        record {
+          holds = either batch (drop (gate + 1 + length (body batch)) from.0 ++ torn.more) before.same (opened_torn batch valid before image torn) valid;
+          sent = rw (sym same) step.sent;
+        }

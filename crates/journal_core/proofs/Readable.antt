@@ -1,0 +1,61 @@
+-- A disk that holds a list is read to its end.
+use Rattle.std.proofs.Common.{◌≡◌, inl, inr, ℕ, List, [], ◌∷◌, ◌++◌, length, get_or, take, drop, refl, sym, ap, subst, ◌∙◌, arith, append_assoc, length-append}
+use Rattle.std.specs.Prelude.{IsTrue}
+use Rattle.std.specs.Int.{w64}
+use Rattle.wire_core.specs.Fields.{number}
+use Rattle.wire_core.proofs.Cells.{wide64}
+use Rattle.wire_in.specs.declared.record.Record.{Record}
+use Rattle.journal_core.specs.Layout.{IsLimit, AreBatches, Holds, content, header, records_of}
+use Rattle.journal_core.specs.Front.{IsDamaged}
+use Rattle.journal_core.specs.Scan.{Scanned, HasRead, HasNoHeader}
+use Rattle.journal_core.specs.Laws.{IsReadable}
+use Rattle.journal_core.proofs.Images.{moved, from_gate}
+use Rattle.journal_core.proofs.Alone.{front_of, one_content, one_way}
+
+-- behind batches that were read, what is left of a list that ends with a closed gate begins with one or with a batch
+not_damaged : (seen held : List (List Record)) (g f rest more : List ℕ) → AreBatches seen g → AreBatches held f → g ++ rest ≡ f ++ 0 ∷ more → IsDamaged rest → ⊥
+not_damaged [] [] g f rest more hg hf is damaged = damaged.not_closed more (sym (ap (λ (l : List ℕ). l ++ rest) hg) ∙ is ∙ ap (λ (l : List ℕ). l ++ 0 ∷ more) hf)
+not_damaged [] (b ∷ held) g f rest more hg (tail, opens, spelled) is damaged =
+    damaged.no_batch b (tail ++ 0 ∷ more) (record {
+      gate = opens.gate;
+      not_closed = opens.not_closed;
+      valid = opens.valid;
+      whole = sym (ap (λ (l : List ℕ). l ++ rest) hg) ∙ is ∙ ap (λ (l : List ℕ). l ++ 0 ∷ more) opens.whole ∙ ap (λ (l : List ℕ). opens.gate ∷ l) (append_assoc (content b) tail (0 ∷ more));
+    })
+not_damaged (a ∷ seen) [] g f rest more (tail, opens, spelled) hf is damaged =
+    opens.not_closed (ap (λ (l : List ℕ). get_or l 0 0) (sym (ap (λ (l : List ℕ). l ++ rest) opens.whole) ∙ is ∙ ap (λ (l : List ℕ). l ++ 0 ∷ more) hf))
+not_damaged (a ∷ seen) (b ∷ held) g f rest more (tail, opens, spelled) (tail', opens', spelled') is damaged =
+    let both = sym (ap (λ (l : List ℕ). l ++ rest) opens.whole) ∙ is ∙ ap (λ (l : List ℕ). l ++ 0 ∷ more) opens'.whole in
+    let behind : content a ++ (tail ++ rest) ≡ content b ++ (tail' ++ 0 ∷ more) =
+    sym (append_assoc (content a) tail rest) ∙ ap (drop 1) both ∙ append_assoc (content b) tail' (0 ∷ more) in
+    let same = one_content a b (tail ++ rest) (tail' ++ 0 ∷ more) opens.valid opens'.valid behind in
+    not_damaged seen held tail tail' rest more spelled spelled' same.1 damaged
+
+undamaged : (disk : List ℕ) (limit : ℕ) (records : List Record) (scan : Scanned) (batches : List (List Record)) → Holds disk limit records → HasRead scan batches disk → IsDamaged (drop scan.gate disk) → ⊥
+undamaged disk limit records scan batches holds read damaged =
+    let p = read.leads in
+    let q = holds.held.leads in
+    let rest = scan.ahead ++ read.rest in
+    let parts = front_of (header scan.limit) (p.front ++ rest) (header limit) (q.front ++ 0 ∷ holds.held.rest)
+    (sym (append_assoc (header scan.limit) p.front rest) ∙ sym p.whole ∙ q.whole ∙ append_assoc (header limit) q.front (0 ∷ holds.held.rest)) refl in
+    not_damaged batches holds.held.batches p.front q.front rest holds.held.rest p.spelled q.spelled parts.1 (subst IsDamaged (from_gate p) damaged)
+
+has_header : (disk : List ℕ) (limit : ℕ) (records : List Record) → Holds disk limit records → HasNoHeader disk → ⊥
+has_header disk limit records holds (inl short) =
+    let p = holds.held.leads in
+    omega (arith, short, ap length p.whole, length-append (header limit ++ p.front) (0 ∷ holds.held.rest), length-append (header limit) p.front)
+has_header disk limit records holds (inr (inl other)) = other (ap (take 8) holds.held.leads.whole)
+has_header disk limit records holds (inr (inr outside)) =
+    let p = holds.held.leads in
+    outside (subst IsLimit (sym (ap (number w64 8) p.whole ∙ wide64.read limit (omega (arith, p.range.most)))) p.range)
+
+all_read : (disk : List ℕ) (limit : ℕ) (records : List Record) (scan : Scanned) (batches : List (List Record)) → Holds disk limit records → HasRead scan batches disk → IsTrue scan.is_closed
+    → (scan.limit ≡ limit) × (records_of batches ≡ records)
+all_read disk limit records scan batches holds read is_closed =
+    let zero = read.closed is_closed in
+    let p = moved read.leads disk (0 ∷ zero.0) (read.leads.whole ∙ ap (λ (l : List ℕ). (header scan.limit ++ read.leads.front) ++ l) zero.1) in
+    let way = one_way disk scan.limit scan.gate batches zero.0 limit holds.gate holds.held.batches holds.held.rest p holds.held.leads in
+    (way.0, ap records_of way.1 ∙ holds.held.same)
+
+pub readable : IsReadable
+readable = record { header = has_header; undamaged = undamaged; all = all_read }

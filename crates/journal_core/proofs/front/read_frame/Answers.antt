@@ -1,0 +1,14 @@
+use Rattle.std.proofs.Common.{ℕ, ◌+◌, ◌++◌, List, get_or, sym, ap, ◌∙◌, arith}
+use Rattle.std.proofs.lemmas.List.{take_rest}
+use Rattle.journal_core.specs.Layout.{frame_of}
+use Rattle.journal_core.proofs.FrontLemmas.{frame_read}
+use Rattle.journal_core.proofs.front.read_frame.Goals as goal
+
+pub returns : goal.returns
+returns c =
+    let frames = c.args.frames.now in
+    let x = c.in-Ok.x in
+    let found = c.in-Ok.ensures.found in (
+      record { types = found.types; ranges = found.ranges },
+      frame_read x frames _ c.requires (omega arith) (omega arith) found.bytes ∙ ap (λ (l : List ℕ). frame_of x ++ l) (sym (take_rest frames (get_or frames 0 0 + 1))),
+    )

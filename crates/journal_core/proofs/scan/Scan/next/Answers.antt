@@ -1,0 +1,33 @@
+use Rattle.std.proofs.Common.{⊎_elim, ◌++◌, ◌∷◌, [], sym, ◌∙◌}
+use Rattle.journal_core.proofs.Settled.{still_settled}
+use Rattle.journal_core.proofs.ScanLemmas.{took_batch, damaged_disk}
+use Rattle.journal_core.proofs.scan.Scan.next.Goals as goal
+
+pub returns-in_err-fill-clause-settled : goal.returns-in_err-fill-clause-settled
+returns-in_err-fill-clause-settled g c = still_settled c.fill.ensures.moments c.fill.ensures.disk
+
+pub returns-clause-settled : goal.returns-clause-settled
+returns-clause-settled g c = still_settled c.fill.ensures.moments c.fill.ensures.disk
+
+pub returns-clause-batch : goal.returns-clause-batch
+returns-clause-batch g c is batches disk told read =
+    let took = c.take_front.ensures.batch is in
+    took_batch c.fill.new.self c.take_front.new.self c.take_front.new.into took.0 took.1 took.2 c.take_front.ensures.limit c.take_front.ensures.size took.4 batches disk (c.fill.ensures.reads batches disk told read)
+
+pub returns-clause-same : goal.returns-clause-same
+returns-clause-same g c other batches disk told read =
+    ⊎_elim (λ is. absurd (other is)) (λ reads. reads batches disk (c.fill.ensures.reads batches disk told read)) c.take_front.ensures.reads
+
+pub returns-clause-damaged : goal.returns-clause-damaged
+returns-clause-damaged g c at is batches disk told read =
+    let damage = c.take_front.ensures.damaged at is in
+    rw damage.0 (damaged_disk c.fill.new.self batches disk (c.fill.ensures.reads batches disk told read) c.in_ok-fill.ensures.enough damage.2)
+
+pub returns-clause-of_disk : goal.returns-clause-of_disk
+returns-clause-of_disk g c disk told =
+    let before = c.requires disk (sym c.fill.ensures.disk ∙ told) in
+    let read = c.fill.ensures.reads before.0 disk (sym c.fill.ensures.disk ∙ told) before.1 in
+    ⊎_elim (λ is.
+    let took = c.take_front.ensures.batch is in
+    (before.0 ++ c.take_front.new.into ∷ [], took_batch c.fill.new.self c.take_front.new.self c.take_front.new.into took.0 took.1 took.2 c.take_front.ensures.limit c.take_front.ensures.size took.4 before.0 disk read))
+    (λ reads. (before.0, reads before.0 disk read)) c.take_front.ensures.reads

@@ -1,0 +1,99 @@
+//! A disk is read in large pieces.
+
+ghost use Rattle.std.specs.Prelude.{◌≡◌, ◌≤◌, ◌<◌, ◌+◌, ◌^◌, [], ℕ, List, length, min, take, drop, Some, IfOk, OnOk, OnErr};
+ghost use Rattle.host_core.specs.Outside.{Outside, Stays, Rose, Continues, Elapses};
+
+use host_core::{Failed, Host};
+use price_core::NoMemory;
+use std::alloc::Global;
+use std::marker::Model;
+
+/// The most bytes of one read.
+pub const PIECE_MAX: usize = 65536;
+
+/// Bytes that were read ahead, in a buffer whose room is taken when it is made.
+#[derive(Debug, Drop)]
+pub struct Ahead {
+    buffer: Vec<u8>,
+    start: usize,
+    end: usize,
+}
+
+impl Model for Ahead {
+    ghost use Rattle.std.specs.Prelude.{ℕ, List};
+    ghost use Rattle.std.specs.List.{between};
+    ghost use Rattle.journal_core.specs.Ahead.{IsWithin};
+
+    ghost Value = { List ℕ };
+
+    ghost view = { λ a. between a.start a.end a.buffer.items };
+
+    ghost invariant = { λ a. IsWithin a.start a.end a.buffer.items };
+}
+
+impl Ahead {
+    /// Nothing was read yet.
+    pub fn new(alloc: Global) -> Result<Ahead, NoMemory>
+        ensures { IfOk result (λ ahead. ahead ≡ []) }
+    {
+        Ok(Ahead {
+            buffer: Vec::from_elem(alloc, 0, PIECE_MAX)?,
+            start: 0,
+            end: 0,
+        })
+    }
+
+    /// The bytes.
+    pub fn bytes(&self) -> &[u8]
+        ensures { result.now ≡ self.now }
+    {
+        &self.buffer[self.start..self.end]
+    }
+
+    /// Lets go of the first bytes.
+    pub fn skip(&mut self, count: usize)
+        requires { count ≤ length self.old }
+        ensures { self.new ≡ drop count self.old }
+    {
+        self.start += count;
+    }
+
+    /// Lets go of what it holds, and reads from a place of the disk on: as many bytes as are left there, or as the buffer
+    /// takes. After a fault it holds nothing.
+    pub fn read<H: Host>(&mut self, host: &mut H, at: u64, left: u64) -> Result<(), Failed>
+        requires within { (disk : List ℕ) → (H.outside host.old).disk ≡ Some disk → at + left ≤ length disk }
+        requires fits { at + left < 2 ^ 63 }
+        ensures len { OnOk result (length self.new ≡ min left PIECE_MAX) }
+        ensures bytes { OnOk result ((disk : List ℕ) → (H.outside host.old).disk ≡ Some disk → self.new ≡ take (min left PIECE_MAX) (drop at disk)) }
+        ensures none { OnErr result (self.new ≡ []) }
+        ensures input { (H.outside host.new).input ≡ (H.outside host.old).input }
+        ensures sent { (H.outside host.new).sent ≡ (H.outside host.old).sent }
+        ensures disk { (H.outside host.new).disk ≡ (H.outside host.old).disk }
+        ensures moments { Elapses (H.outside host.old) (H.outside host.new) (Stays (H.outside host.old)) }
+        ensures continues { Continues (H.outside host.old) (H.outside host.new) }
+        ensures cause { OnErr result (Rose (H.outside host.old).disk_faults (H.outside host.new).disk_faults) }
+    {
+        self.start = 0;
+        self.end = 0;
+        let most = left.min(PIECE_MAX as u64) as usize;
+        read_front(host, at, &mut self.buffer, most)?;
+        self.end = most;
+        Ok(())
+    }
+}
+
+/// Reads so many bytes from a place of the disk on into the front of a buffer.
+fn read_front<H: Host>(host: &mut H, at: u64, buffer: &mut [u8], count: usize) -> Result<(), Failed>
+    requires room { count ≤ length buffer.old }
+    requires within { (disk : List ℕ) → (H.outside host.old).disk ≡ Some disk → at + count ≤ length disk }
+    requires fits { at + count < 2 ^ 63 }
+    ensures bytes { OnOk result ((disk : List ℕ) → (H.outside host.old).disk ≡ Some disk → take count buffer.new ≡ take count (drop at disk)) }
+    ensures input { (H.outside host.new).input ≡ (H.outside host.old).input }
+    ensures sent { (H.outside host.new).sent ≡ (H.outside host.old).sent }
+    ensures disk { (H.outside host.new).disk ≡ (H.outside host.old).disk }
+    ensures moments { Elapses (H.outside host.old) (H.outside host.new) (Stays (H.outside host.old)) }
+    ensures continues { Continues (H.outside host.old) (H.outside host.new) }
+    ensures cause { OnErr result (Rose (H.outside host.old).disk_faults (H.outside host.new).disk_faults) }
+{
+    host.disk_read(at, &mut buffer[..count])
+}

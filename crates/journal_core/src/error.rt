@@ -1,0 +1,89 @@
+ghost use Rattle.std.specs.Prelude.{◌≡◌};
+ghost use Rattle.journal_core.specs.declared.error.FormatError.TheVariants as formats;
+ghost use Rattle.journal_core.specs.declared.error.AppendError.TheVariants as appends;
+ghost use Rattle.journal_core.specs.declared.error.ScanError.TheVariants as scans;
+
+use host_core::Failed;
+use price_core::NoMemory;
+use std::alloc::AllocError;
+use thiserror::Error;
+
+/// Why no journal was made.
+#[derive(Clone, Copy, Debug, PartialEq, Eq, Error)]
+pub enum FormatError {
+    /// The disk failed.
+    #[error("the journal could not be written")]
+    DiskFault,
+}
+
+/// Why a batch was not appended.
+#[derive(Clone, Copy, Debug, PartialEq, Eq, Error)]
+pub enum AppendError {
+    /// The journal would hold more records than its limit.
+    #[error("the journal takes at most {limit} records")]
+    Full { limit: u64 },
+
+    /// The disk failed. Whether the batch is held shows at the next start.
+    #[error("the journal could not be written")]
+    DiskFault,
+}
+
+/// Why a journal could not be read.
+#[derive(Clone, Copy, Debug, PartialEq, Eq, Error)]
+pub enum ScanError {
+    /// Memory ran out.
+    #[error("out of memory")]
+    NoMemory,
+
+    /// The disk failed.
+    #[error("the journal could not be read")]
+    DiskFault,
+
+    /// No journal begins there.
+    #[error("there is no journal")]
+    NoJournal,
+
+    /// No batch and no closed gate stands at that place.
+    #[error("the journal is damaged at {at}")]
+    Damaged { at: u64 },
+}
+
+impl From<Failed> for FormatError {
+    ghost from_gives = { λ _ e. e ≡ formats.DiskFault };
+
+    fn from(_: Failed) -> FormatError {
+        FormatError::DiskFault
+    }
+}
+
+impl From<Failed> for AppendError {
+    ghost from_gives = { λ _ e. e ≡ appends.DiskFault };
+
+    fn from(_: Failed) -> AppendError {
+        AppendError::DiskFault
+    }
+}
+
+impl From<Failed> for ScanError {
+    ghost from_gives = { λ _ e. e ≡ scans.DiskFault };
+
+    fn from(_: Failed) -> ScanError {
+        ScanError::DiskFault
+    }
+}
+
+impl From<NoMemory> for ScanError {
+    ghost from_gives = { λ _ e. e ≡ scans.NoMemory };
+
+    fn from(_: NoMemory) -> ScanError {
+        ScanError::NoMemory
+    }
+}
+
+impl From<AllocError> for ScanError {
+    ghost from_gives = { λ _ e. e ≡ scans.NoMemory };
+
+    fn from(_: AllocError) -> ScanError {
+        ScanError::NoMemory
+    }
+}

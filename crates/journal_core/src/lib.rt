@@ -1,0 +1,20 @@
+//! The journal: accepted records on a disk, in batches that a stop at any moment leaves whole or out.
+#![tactic(auto)]
+
+mod ahead;
+mod batch;
+mod error;
+mod frames;
+mod front;
+mod journal;
+mod law;
+mod scan;
+mod store;
+#[cfg(test)]
+mod tests;
+
+pub use batch::Batch;
+pub use error::{AppendError, FormatError, ScanError};
+pub use journal::{Journal, format};
+pub use law::{a_held_list_is_read, an_image_holds_one_list};
+pub use scan::Scan;

@@ -1,0 +1,207 @@
+ghost use Rattle.std.specs.Prelude.{◌<◌, ◌≤◌, IfOk, IsTrue, length};
+ghost use Rattle.host_core.specs.Memory.{told};
+ghost use Rattle.journal_core.specs.Journal.{IsOf};
+
+use super::*;
+use host_core::{MemoryHost, Pick};
+use price_core::{Index, Price};
+use session_core::{Close, Date, Day, Moment, Profile};
+use std::alloc::Global;
+use std::test::Fail;
+use wire_in::Record;
+
+/// A batch of the day 2024-06-03 with an index close of 5,000.00, at 04:00:00.
+fn day(alloc: Global) -> Result<Batch, Fail>
+    ensures { IfOk result (λ batch. 0 < length batch) }
+{
+    let moment = Moment::new(14_400_000_000_000)?;
+    let date = Date::of(2024, 6, 3)?;
+    let index_close = Index::new(500_000)?;
+    let mut batch = Batch::new(alloc)?;
+    batch.push(Record::Day {
+        moment,
+        day: Day {
+            date,
+            close: Close::Regular,
+            profile: Profile::Since18,
+        },
+        index_close,
+    });
+    Ok(batch)
+}
+
+/// A batch of so many quotes, whose frames are the longest.
+fn quotes(alloc: Global, count: usize) -> Result<Batch, Fail>
+    requires least { 0 < count }
+    requires most { count ≤ 64 }
+    ensures { IfOk result (λ batch. 0 < length batch) }
+{
+    let moment = Moment::new(34_200_000_000_000)?;
+    let bid = Price::new(499_900)?;
+    let mut batch = Batch::new(alloc)?;
+    while batch.len() < count {
+        batch.push(Record::Quote {
+            moment,
+            symbol: 7,
+            bid: Some(bid),
+            offer: None,
+            bid_size: 100,
+            offer_size: 0,
+        });
+    }
+    Ok(batch)
+}
+
+/// Reads a journal to its end.
+fn open(alloc: Global, host: &mut MemoryHost) -> Result<Journal, ScanError>
+    ensures whole { IfOk result (λ journal. IsTrue journal.whole) }
+    ensures of_disk { IfOk result (λ journal. IsOf journal (told host.new).disk) }
+{
+    let mut scan = Scan::begin(alloc, host)?;
+    let mut batch = Batch::new(alloc)?;
+    while scan.next(host, &mut batch)? {}
+    Ok(scan.finish())
+}
+
+/// How many records a disk holds.
+fn count_of(alloc: Global, disk: &[u8]) -> Result<u64, ScanError> {
+    let mut host = MemoryHost::new(alloc, b"", disk)?;
+    Ok(open(alloc, &mut host)?.count())
+}
+
+#[test]
+fn a_fresh_journal_is_a_header_and_a_closed_gate(rt: HostRuntime) -> Result<(), Fail> {
+    let mut host = MemoryHost::new(rt.alloc(), b"", b"")?;
+    format(&mut host, 3)?;
+    let fresh = b"HALTJNL1\0\0\0\0\0\0\0\x03\0";
+    assert_eq!(rt; host.disk(), fresh.as_slice());
+    assert_eq!(rt; count_of(rt.alloc(), fresh), Ok(0));
+    Ok(())
+}
+
+#[test]
+fn a_batch_is_a_gate_a_length_and_frames(rt: HostRuntime) -> Result<(), Fail> {
+    let alloc = rt.alloc();
+    let mut host = MemoryHost::new(alloc, b"", b"")?;
+    format(&mut host, 3)?;
+    let mut journal = open(alloc, &mut host)?;
+    journal.append(&mut host, &day(alloc)?)?;
+    let kept =
+        b"HALTJNL1\0\0\0\0\0\0\0\x03\x01\0\0\0\x14\x13\x01\0\0\x0d\x18\xc2\xe2\x80\0\x07\xe8\x06\x03\x01\x02\0\x07\xa1\x20\0";
+    assert_eq!(rt; host.disk(), kept.as_slice());
+    assert_eq!(rt; count_of(alloc, kept), Ok(1));
+    assert_eq!(rt;
+        journal.append(&mut host, &quotes(alloc, 3)?),
+        Err(AppendError::Full { limit: 3 })
+    );
+    Ok(())
+}
+
+/// How many records are left of a batch of 64, where the append is stopped at one of its four calls.
+fn records_left(alloc: Global, stop: u64, pick: Pick) -> Result<u64, Fail>
+    requires { stop < 5 }
+{
+    let mut host = MemoryHost::new(alloc, b"", b"")?;
+    format(&mut host, 100)?;
+    let mut journal = open(alloc, &mut host)?;
+    host.stop_at(host.calls().saturating_add(stop).max(1));
+    let batch = quotes(alloc, 64)?;
+    let stopped = journal.append(&mut host, &batch).is_err();
+    let mut next = host.crash(pick, b"")?;
+    let count = open(alloc, &mut next)?.count();
+    Ok(if stopped { count } else { u64::MAX })
+}
+
+#[test]
+fn a_stop_leaves_a_batch_whole_or_out(rt: HostRuntime) -> Result<(), Fail> {
+    for (stop, pick, want) in [
+        (1, Pick::Old, 0),
+        (1, Pick::New, 0),
+        (1, Pick::Bytes(0x55), 0),
+        (2, Pick::Old, 0),
+        (2, Pick::New, 0),
+        (2, Pick::Bytes(0x55), 0),
+        (3, Pick::Old, 0),
+        (3, Pick::New, 64),
+        (3, Pick::Bytes(0x55), 64),
+        (4, Pick::Old, 0),
+        (4, Pick::New, 64),
+        (4, Pick::Bytes(0x55), 64),
+    ] {
+        assert_eq!(rt; records_left(rt.alloc(), stop, pick)?, want, "at {stop}");
+    }
+    Ok(())
+}
+
+#[test]
+fn damage_is_told_with_its_place(rt: HostRuntime) -> Result<(), Fail> {
+    for (disk, want) in [
+        (b"".as_slice(), Err(ScanError::NoJournal)),
+        (
+            b"HALTJNL1\0\0\0\0\0\0\0\x03".as_slice(),
+            Err(ScanError::NoJournal),
+        ),
+        (
+            b"HALTJNL2\0\0\0\0\0\0\0\x03\0".as_slice(),
+            Err(ScanError::NoJournal),
+        ),
+        (
+            b"HALTJNL1\0\0\0\0\0\0\0\0\0".as_slice(),
+            Err(ScanError::NoJournal),
+        ),
+        (
+            b"HALTJNL1\0\0\0\0\x77\x35\x94\x01\0".as_slice(),
+            Err(ScanError::NoJournal),
+        ),
+        (
+            b"HALTJNL1\0\0\0\0\0\0\0\x03\x01\0\0\0\0\0".as_slice(),
+            Err(ScanError::Damaged { at: 16 }),
+        ),
+        (
+            b"HALTJNL1\0\0\0\0\0\0\0\x03\x01\0\0\0\x02\x01\x0a\0".as_slice(),
+            Err(ScanError::Damaged { at: 16 }),
+        ),
+        (
+            b"HALTJNL1\0\0\0\0\0\0\0\x03\x55\0\0\0\x0a\x09\x07\0\0\x1f\x1a\xce\xd9\xf0\0\0".as_slice(),
+            Ok(1),
+        ),
+        (
+            b"HALTJNL1\0\0\0\0\0\0\0\x03\x55\0\0\0\x0a\x09\x07\0\0\x1f\x1a\xce\xd9\xf0\0".as_slice(),
+            Err(ScanError::Damaged { at: 31 }),
+        ),
+    ] {
+        assert_eq!(rt; count_of(rt.alloc(), disk), want);
+    }
+    Ok(())
+}
+
+/// Appends a batch until the journal holds so many records.
+fn fill(
+    host: &mut MemoryHost,
+    journal: &mut Journal,
+    batch: &Batch,
+    count: u64,
+) -> Result<(), AppendError>
+    requires whole { IsTrue journal.old.whole }
+    requires some { 0 < length batch.now }
+    requires of_disk { IsOf journal.old (told host.old).disk }
+{
+    while journal.count() < count {
+        journal.append(host, batch)?;
+    }
+    Ok(())
+}
+
+#[test]
+fn a_long_journal_is_read_in_large_pieces(rt: HostRuntime) -> Result<(), Fail> {
+    let alloc = rt.alloc();
+    let mut host = MemoryHost::new(alloc, b"", b"")?;
+    format(&mut host, 3_000)?;
+    let mut journal = open(alloc, &mut host)?;
+    let batch = quotes(alloc, 64)?;
+    fill(&mut host, &mut journal, &batch, 2_560)?;
+    let before = host.calls();
+    assert_eq!(rt; open(alloc, &mut host)?.count(), 2_560);
+    assert_eq!(rt; host.calls().saturating_sub(before), 4);
+    Ok(())
+}
