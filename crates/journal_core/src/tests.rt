@@ -98,9 +98,7 @@ fn a_batch_is_a_gate_a_length_and_frames(rt: HostRuntime) -> Result<(), Fail> {
 }
 
 /// How many records are left of a batch of 64, where the append is stopped at one of its four calls.
-fn records_left(alloc: Global, stop: u64, pick: Pick) -> Result<u64, Fail>
-    requires { stop < 5 }
-{
+fn records_left(alloc: Global, stop: u64, pick: Pick) -> Result<u64, Fail> {
     let mut host = MemoryHost::new(alloc, b"", b"")?;
     format(&mut host, 100)?;
     let mut journal = open(alloc, &mut host)?;
