@@ -3,6 +3,7 @@
 
 mod call;
 mod effect;
+mod file;
 mod host;
 mod keep;
 mod ledger;
@@ -16,6 +17,7 @@ mod tests;
 
 pub use call::Call;
 pub use effect::Pick;
+pub use file::{Disk, JournalFile};
 pub use host::{Failed, Host};
 pub use memory::MemoryHost;
 pub use real::RealHost;

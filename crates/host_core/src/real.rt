@@ -1,32 +1,37 @@
 // The real outside: it tells nothing of what it holds, and counts its faults.
-ghost use Rattle.std.specs.Prelude.{◌≡◌, ◌<◌, ◌≤◌, length, IfOk, OnOk, OnErr, MatchResult, IsErr};
+ghost use Rattle.std.specs.Prelude.{◌≡◌, ◌<◌, ◌≤◌, ◌^◌, ℕ, List, Some, length, take, drop, IfOk, OnOk, OnErr, MatchResult, IsErr};
 ghost use Rattle.std.specs.Io.KnownBytes.{ReadConsumes, WriteAppends};
+ghost use Rattle.host_core.specs.Outside.{written};
 ghost use Rattle.host_core.specs.Calls.{faulted, no_faults, NoneFalls};
 ghost use Rattle.host_core.specs.Silent.{silent, untold};
-ghost use Rattle.host_core.specs.Real.{reader_of, writer_of, faults_of};
+ghost use Rattle.host_core.specs.Real.{reader_of, writer_of, disk_of, faults_of};
 
 use crate::call::{Call, Faults};
+use crate::file::Disk;
 use crate::host::{Failed, Host};
 use std::io::{self, Read, Write};
 
-/// A reader as the input and a writer as the sink. It has no file: each call of the disk fails and is counted.
+/// A reader as the input, a writer as the sink, and a disk. Each error is counted as a fault.
 #[derive(Drop)]
-pub struct RealHost<R, W> {
+pub struct RealHost<R, W, D> {
     input: R,
     output: W,
+    disk: D,
     faults: Faults,
 }
 
-impl<R: Read + Drop, W: Write + Drop> RealHost<R, W> {
+impl<R: Read + Drop, W: Write + Drop, D: Disk + Drop> RealHost<R, W, D> {
     /// A host over these, with no faults yet.
-    pub fn new(input: R, output: W) -> Self
+    pub fn new(input: R, output: W, disk: D) -> Self
         ensures reader { reader_of result ≡ input }
         ensures writer { writer_of result ≡ output }
+        ensures disk { disk_of result ≡ disk }
         ensures faults { faults_of result ≡ no_faults }
     {
         RealHost {
             input,
             output,
+            disk,
             faults: Faults::new(),
         }
     }
@@ -66,7 +71,7 @@ fn send_some<W: Write>(output: &mut W, piece: &[u8]) -> io::Result<usize>
     }
 }
 
-impl<R: Read + Drop, W: Write + Drop> Host for RealHost<R, W> {
+impl<R: Read + Drop, W: Write + Drop, D: Disk + Drop> Host for RealHost<R, W, D> {
     ghost outside = { λ host. silent (faults_of host).reading (faults_of host).sending (faults_of host).storing };
 
     ghost sent_now = { λ host image bytes left. absurd left };
@@ -76,6 +81,7 @@ impl<R: Read + Drop, W: Write + Drop> Host for RealHost<R, W> {
     fn read_input(&mut self, into: &mut [u8]) -> Result<usize, Failed>
         ensures bytes { ReadConsumes (R.remaining (reader_of self.old)) (R.remaining (reader_of self.new)) result into.new }
         ensures bound { IfOk result (λ n. n ≤ length into.new) }
+        ensures disk { disk_of self.new ≡ disk_of self.old }
         ensures same { OnOk result (faults_of self.new ≡ faults_of self.old) }
         ensures faults { OnErr result (faults_of self.new ≡ faulted Call.Read (faults_of self.old)) }
         ensures later { NoneFalls (faults_of self.old) (faults_of self.new) }
@@ -86,6 +92,7 @@ impl<R: Read + Drop, W: Write + Drop> Host for RealHost<R, W> {
     fn send(&mut self, piece: &[u8]) -> Result<usize, Failed>
         ensures bytes { WriteAppends (W.contents (writer_of self.old)) (W.contents (writer_of self.new)) result piece.now }
         ensures bound { IfOk result (λ n. (0 < n) × (n ≤ length piece.now)) }
+        ensures disk { disk_of self.new ≡ disk_of self.old }
         ensures same { OnOk result (faults_of self.new ≡ faults_of self.old) }
         ensures faults { OnErr result (faults_of self.new ≡ faulted Call.Send (faults_of self.old)) }
         ensures later { NoneFalls (faults_of self.old) (faults_of self.new) }
@@ -98,34 +105,42 @@ impl<R: Read + Drop, W: Write + Drop> Host for RealHost<R, W> {
     }
 
     fn disk_len(&mut self) -> Result<u64, Failed>
-        ensures failed { IsErr result }
-        ensures faults { faults_of self.new ≡ faulted Call.Len (faults_of self.old) }
+        ensures bound { IfOk result (λ n. n < 2 ^ 63) }
+        ensures len { IfOk result (λ n. (known : List ℕ) → D.bytes (disk_of self.old) ≡ Some known → n ≡ length known) }
+        ensures kept { D.bytes (disk_of self.new) ≡ D.bytes (disk_of self.old) }
+        ensures same { OnOk result (faults_of self.new ≡ faults_of self.old) }
+        ensures faults { OnErr result (faults_of self.new ≡ faulted Call.Len (faults_of self.old)) }
         ensures later { NoneFalls (faults_of self.old) (faults_of self.new) }
     {
-        fault(&mut self.faults, Call::Len)
+        counted(&mut self.faults, Call::Len, self.disk.len())
     }
 
-    fn disk_read(&mut self, _at: u64, _into: &mut [u8]) -> Result<(), Failed>
-        ensures failed { IsErr result }
-        ensures faults { faults_of self.new ≡ faulted Call.DiskRead (faults_of self.old) }
+    fn disk_read(&mut self, at: u64, into: &mut [u8]) -> Result<(), Failed>
+        ensures given { OnOk result ((known : List ℕ) → D.bytes (disk_of self.old) ≡ Some known → into.new ≡ take (length into.old) (drop at known)) }
+        ensures kept { D.bytes (disk_of self.new) ≡ D.bytes (disk_of self.old) }
+        ensures same { OnOk result (faults_of self.new ≡ faults_of self.old) }
+        ensures faults { OnErr result (faults_of self.new ≡ faulted Call.DiskRead (faults_of self.old)) }
         ensures later { NoneFalls (faults_of self.old) (faults_of self.new) }
     {
-        fault(&mut self.faults, Call::DiskRead)
+        counted(&mut self.faults, Call::DiskRead, self.disk.read(at, into))
     }
 
-    fn disk_write(&mut self, _at: u64, _piece: &[u8]) -> Result<(), Failed>
-        ensures failed { IsErr result }
-        ensures faults { faults_of self.new ≡ faulted Call.Write (faults_of self.old) }
+    fn disk_write(&mut self, at: u64, piece: &[u8]) -> Result<(), Failed>
+        ensures written { OnOk result ((known : List ℕ) → D.bytes (disk_of self.old) ≡ Some known → at ≤ length known
+            → D.bytes (disk_of self.new) ≡ Some (written at piece.now known)) }
+        ensures same { OnOk result (faults_of self.new ≡ faults_of self.old) }
+        ensures faults { OnErr result (faults_of self.new ≡ faulted Call.Write (faults_of self.old)) }
         ensures later { NoneFalls (faults_of self.old) (faults_of self.new) }
     {
-        fault(&mut self.faults, Call::Write)
+        counted(&mut self.faults, Call::Write, self.disk.write(at, piece))
     }
 
     fn disk_sync(&mut self) -> Result<(), Failed>
-        ensures failed { IsErr result }
-        ensures faults { faults_of self.new ≡ faulted Call.Sync (faults_of self.old) }
+        ensures kept { D.bytes (disk_of self.new) ≡ D.bytes (disk_of self.old) }
+        ensures same { OnOk result (faults_of self.new ≡ faults_of self.old) }
+        ensures faults { OnErr result (faults_of self.new ≡ faulted Call.Sync (faults_of self.old)) }
         ensures later { NoneFalls (faults_of self.old) (faults_of self.new) }
     {
-        fault(&mut self.faults, Call::Sync)
+        counted(&mut self.faults, Call::Sync, self.disk.sync())
     }
 }

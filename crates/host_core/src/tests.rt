@@ -136,7 +136,11 @@ impl Write for TwoBytes {
 #[test]
 fn a_real_host_reads_and_sends_until_one_fails(rt: HostRuntime) -> Result<(), Fail> {
     let mut sink = TwoBytes { taken: 0 };
-    let mut host = RealHost::new(OneByte { given: false }, &mut sink);
+    let mut host = RealHost::new(
+        OneByte { given: false },
+        &mut sink,
+        JournalFile::new(&rt, "-"),
+    );
     let mut into = [0; 4];
     assert_eq!(rt; host.read_input(&mut into), Ok(1));
     assert_eq!(rt; into[0], b'a');

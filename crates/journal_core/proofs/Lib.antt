@@ -7,4 +7,4 @@ mod AheadLemmas
 mod ScanLemmas
 pub mod Settled
 mod HeaderLemmas
-mod Readable
+pub mod Readable

@@ -1,11 +1,11 @@
 -- A disk that holds a list is read to its end.
 use Rattle.std.proofs.Common.{◌≡◌, inl, inr, ℕ, List, [], ◌∷◌, ◌++◌, length, get_or, take, drop, refl, sym, ap, subst, ◌∙◌, arith, append_assoc, length-append}
 use Rattle.std.specs.Prelude.{IsTrue}
-use Rattle.std.specs.Int.{w64}
+use Rattle.std.specs.Int.{w64, to_be_bytes, from_be_bytes}
 use Rattle.wire_core.specs.Fields.{number}
 use Rattle.wire_core.proofs.Cells.{wide64}
 use Rattle.wire_in.specs.declared.record.Record.{Record}
-use Rattle.journal_core.specs.Layout.{IsLimit, AreBatches, Holds, content, header, records_of}
+use Rattle.journal_core.specs.Layout.{IsLimit, AreBatches, LeadsTo, Holds, content, header, records_of}
 use Rattle.journal_core.specs.Front.{IsDamaged}
 use Rattle.journal_core.specs.Scan.{Scanned, HasRead, HasNoHeader}
 use Rattle.journal_core.specs.Laws.{IsReadable}
@@ -30,6 +30,38 @@ not_damaged (a ∷ seen) (b ∷ held) g f rest more (tail, opens, spelled) (tail
     sym (append_assoc (content a) tail rest) ∙ ap (drop 1) both ∙ append_assoc (content b) tail' (0 ∷ more) in
     let same = one_content a b (tail ++ rest) (tail' ++ 0 ∷ more) opens.valid opens'.valid behind in
     not_damaged seen held tail tail' rest more spelled spelled' same.1 damaged
+
+-- batches that were read are the first of those of a list that ends with a closed gate
+seen_first : (seen held : List (List Record)) (g f rest more : List ℕ) → AreBatches seen g → AreBatches held f → g ++ rest ≡ f ++ 0 ∷ more → (later : List (List Record)) × (held ≡ seen ++ later)
+seen_first [] held g f rest more hg hf is = (held, refl)
+seen_first (a ∷ seen) [] g f rest more (tail, opens, spelled) hf is =
+    absurd (opens.not_closed (ap (λ (l : List ℕ). get_or l 0 0) (sym (ap (λ (l : List ℕ). l ++ rest) opens.whole) ∙ is ∙ ap (λ (l : List ℕ). l ++ 0 ∷ more) hf)))
+seen_first (a ∷ seen) (b ∷ held) g f rest more (tail, opens, spelled) (tail', opens', spelled') is =
+    let both = sym (ap (λ (l : List ℕ). l ++ rest) opens.whole) ∙ is ∙ ap (λ (l : List ℕ). l ++ 0 ∷ more) opens'.whole in
+    let behind : content a ++ (tail ++ rest) ≡ content b ++ (tail' ++ 0 ∷ more) =
+    sym (append_assoc (content a) tail rest) ∙ ap (drop 1) both ∙ append_assoc (content b) tail' (0 ∷ more) in
+    let same = one_content a b (tail ++ rest) (tail' ++ 0 ∷ more) opens.valid opens'.valid behind in
+    let next = seen_first seen held tail tail' rest more spelled spelled' same.1 in
+    (next.0, ap (λ (x : List Record). x ∷ held) (sym same.0) ∙ ap (λ (xs : List (List Record)). a ∷ xs) next.1)
+
+-- an image that begins with some batches and holds a list holds these batches first
+pub leads_first : (disk : List ℕ) (limit gate : ℕ) (batches : List (List Record)) (rest : List ℕ) (limit' : ℕ) (records : List Record) → LeadsTo limit gate batches disk rest → Holds disk limit' records
+    → (limit ≡ limit') × ((later : List (List Record)) × (records_of (batches ++ later) ≡ records))
+leads_first disk limit gate batches rest limit' records p holds =
+    let q = holds.held.leads in
+    let parts = front_of (header limit) (p.front ++ rest) (header limit') (q.front ++ 0 ∷ holds.held.rest)
+    (sym (append_assoc (header limit) p.front rest) ∙ sym p.whole ∙ q.whole ∙ append_assoc (header limit') q.front (0 ∷ holds.held.rest)) refl in
+    let read : (n : ℕ) → IsLimit n → from_be_bytes w64 (to_be_bytes w64 n) ≡ n = λ n range. wide64.read n (omega (arith, range.most)) in
+    let first = seen_first batches holds.held.batches p.front q.front rest holds.held.rest p.spelled q.spelled parts.1 in
+    (sym (read limit p.range) ∙ ap (λ (bytes : List ℕ). from_be_bytes w64 (drop 8 bytes)) parts.0 ∙ read limit' q.range, (first.0, ap records_of (sym first.1) ∙ holds.held.same))
+
+-- and what follows the batches is not damaged
+pub leads_undamaged : (disk : List ℕ) (limit gate : ℕ) (batches : List (List Record)) (rest : List ℕ) (limit' : ℕ) (records : List Record) → LeadsTo limit gate batches disk rest → Holds disk limit' records → IsDamaged rest → ⊥
+leads_undamaged disk limit gate batches rest limit' records p holds damaged =
+    let q = holds.held.leads in
+    let parts = front_of (header limit) (p.front ++ rest) (header limit') (q.front ++ 0 ∷ holds.held.rest)
+    (sym (append_assoc (header limit) p.front rest) ∙ sym p.whole ∙ q.whole ∙ append_assoc (header limit') q.front (0 ∷ holds.held.rest)) refl in
+    not_damaged batches holds.held.batches p.front q.front rest holds.held.rest p.spelled q.spelled parts.1 damaged
 
 undamaged : (disk : List ℕ) (limit : ℕ) (records : List Record) (scan : Scanned) (batches : List (List Record)) → Holds disk limit records → HasRead scan batches disk → IsDamaged (drop scan.gate disk) → ⊥
 undamaged disk limit records scan batches holds read damaged =

@@ -3,10 +3,11 @@ ghost use Rattle.host_core.specs.Memory.{told};
 ghost use Rattle.journal_core.specs.Journal.{IsOf};
 
 use super::*;
-use host_core::{MemoryHost, Pick};
+use host_core::{Host, JournalFile, MemoryHost, Pick, RealHost};
 use price_core::{Index, Price};
 use session_core::{Close, Date, Day, Moment, Profile};
 use std::alloc::Global;
+use std::io;
 use std::test::Fail;
 use wire_in::Record;
 
@@ -53,9 +54,9 @@ fn quotes(alloc: Global, count: usize) -> Result<Batch, Fail>
 }
 
 /// Reads a journal to its end.
-fn open(alloc: Global, host: &mut MemoryHost) -> Result<Journal, ScanError>
+fn open<H: Host>(alloc: Global, host: &mut H) -> Result<Journal, ScanError>
     ensures whole { IfOk result (λ journal. IsTrue journal.whole) }
-    ensures of_disk { IfOk result (λ journal. IsOf journal (told host.new).disk) }
+    ensures of_disk { IfOk result (λ journal. IsOf journal (H.outside host.new).disk) }
 {
     let mut scan = Scan::begin(alloc, host)?;
     let mut batch = Batch::new(alloc)?;
@@ -201,5 +202,46 @@ fn a_long_journal_is_read_in_large_pieces(rt: HostRuntime) -> Result<(), Fail> {
     let before = host.calls();
     assert_eq!(rt; open(alloc, &mut host)?.count(), 2_560);
     assert_eq!(rt; host.calls().saturating_sub(before), 4);
+    Ok(())
+}
+
+#[test]
+fn a_file_keeps_what_was_appended(rt: HostRuntime) -> Result<(), Fail> {
+    let file = JournalFile::new(&rt, "appended.journal");
+    let mut host = RealHost::new(io::empty(), io::sink(), file);
+    format(&mut host, 3)?;
+    let mut journal = open(rt.alloc(), &mut host)?;
+    journal.append(&mut host, &day(rt.alloc())?)?;
+    drop(host);
+
+    let file = JournalFile::new(&rt, "appended.journal");
+    let mut host = RealHost::new(io::empty(), io::sink(), file);
+    let journal = open(rt.alloc(), &mut host)?;
+    assert_eq!(rt; journal.count(), 1);
+    assert_eq!(rt; journal.limit(), 3);
+    Ok(())
+}
+
+#[test]
+fn no_file_is_a_fault_of_the_disk(rt: HostRuntime) -> Result<(), Fail> {
+    let file = JournalFile::new(&rt, "-");
+    let mut host = RealHost::new(io::empty(), io::sink(), file);
+    assert_eq!(rt; format(&mut host, 3), Err(FormatError::DiskFault));
+    assert_eq!(rt;
+        open(rt.alloc(), &mut host).err(),
+        Some(ScanError::DiskFault)
+    );
+    Ok(())
+}
+
+#[test]
+fn a_file_that_is_not_there_is_made_empty(rt: HostRuntime) -> Result<(), Fail> {
+    let file = JournalFile::new(&rt, "new.journal");
+    let mut host = RealHost::new(io::empty(), io::sink(), file);
+    assert_eq!(rt; host.disk_len(), Ok(0));
+    assert_eq!(rt;
+        open(rt.alloc(), &mut host).err(),
+        Some(ScanError::NoJournal)
+    );
     Ok(())
 }

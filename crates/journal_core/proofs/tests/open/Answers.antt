@@ -1,4 +1,4 @@
 use Rattle.journal_core.proofs.tests.open.Goals as goal
 
 pub returns-clause-of_disk : goal.returns-clause-of_disk
-returns-clause-of_disk c = c.finish.ensures.of_disk _ c.next.ensures.of_disk
+returns-clause-of_disk g c = c.finish.ensures.of_disk _ c.next.ensures.of_disk

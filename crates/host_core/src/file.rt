@@ -1,0 +1,101 @@
+// The file of a journal.
+ghost use Rattle.std.specs.Prelude.{◌≡◌, ◌<◌, ◌≤◌, ◌^◌, ℕ, List, Option, None, Some, length, take, drop, IfOk, OnOk};
+ghost use Rattle.host_core.specs.Outside.{written};
+
+use std::fs::{OpenFile, OpenOptions};
+use std::io::{self, Read, Seek, SeekFrom, Write};
+use std::rt::Files;
+
+/// The disk of a host over the streams: bytes that stay when the program ends.
+pub trait Disk {
+    /// What a read gives, where it is known.
+    ghost bytes: { Self → Option (List ℕ) } = { λ _. None };
+
+    /// The length in bytes. A length of 2^63 or more is an error.
+    fn len(&mut self) -> io::Result<u64>
+        ensures bound { IfOk result (λ n. n < 2 ^ 63) }
+        ensures len { IfOk result (λ n. (known : List ℕ) → bytes self.old ≡ Some known → n ≡ length known) }
+        ensures same { bytes self.new ≡ bytes self.old };
+
+    /// Reads the bytes from a place on. It is an error where there are fewer.
+    fn read(&mut self, at: u64, into: &mut [u8]) -> io::Result<()>
+        ensures given { OnOk result ((known : List ℕ) → bytes self.old ≡ Some known → into.new ≡ take (length into.old) (drop at known)) }
+        ensures same { bytes self.new ≡ bytes self.old };
+
+    /// Writes a piece from a place on.
+    fn write(&mut self, at: u64, piece: &[u8]) -> io::Result<()>
+        ensures written { OnOk result ((known : List ℕ) → bytes self.old ≡ Some known → at ≤ length known
+            → bytes self.new ≡ Some (written at piece.now known)) };
+
+    /// Puts on the disk what was written.
+    fn sync(&mut self) -> io::Result<()>
+        ensures same { bytes self.new ≡ bytes self.old };
+}
+
+/// A file that is opened for reading and writing at its first use, and made empty where there is none.
+#[derive(Drop)]
+pub struct JournalFile<'a, F: Files> {
+    files: &'a F,
+    path: &'a str,
+    opened: Option<F::File>,
+}
+
+impl<'a, F: Files> JournalFile<'a, F> {
+    /// The file of a path. The path `-` names none: then every use fails.
+    pub fn new(files: &'a F, path: &'a str) -> Self {
+        JournalFile {
+            files,
+            path,
+            opened: None,
+        }
+    }
+
+    // Opens the file where that wasn't done yet.
+    fn file(&mut self) -> io::Result<&mut F::File> {
+        if self.opened.is_none() {
+            self.opened = Some(open(self.files, self.path)?);
+        }
+        match &mut self.opened {
+            Some(file) => Ok(file),
+            None => Err(io::ErrorKind::NotFound.into()),
+        }
+    }
+}
+
+impl<'a, F: Files> Disk for JournalFile<'a, F> {
+    fn len(&mut self) -> io::Result<u64> {
+        let len = self.file()?.seek(SeekFrom::End(0))?;
+        if len >= 1 << 63 {
+            return Err(io::ErrorKind::InvalidData.into());
+        }
+        Ok(len)
+    }
+
+    fn read(&mut self, at: u64, into: &mut [u8]) -> io::Result<()> {
+        let file = self.file()?;
+        file.seek(SeekFrom::Start(at))?;
+        file.read_exact(into)
+    }
+
+    fn write(&mut self, at: u64, piece: &[u8]) -> io::Result<()> {
+        let file = self.file()?;
+        file.seek(SeekFrom::Start(at))?;
+        file.write_all(piece)
+    }
+
+    fn sync(&mut self) -> io::Result<()> {
+        self.file()?.sync_all()
+    }
+}
+
+// Opens a file, or makes it.
+fn open<F: Files>(files: &F, path: &str) -> io::Result<F::File> {
+    if path == "-" {
+        return Err(io::ErrorKind::NotFound.into());
+    }
+    OpenOptions::new()
+        .read(true)
+        .write(true)
+        .create(true)
+        .open(files, path)
+}
