@@ -5,18 +5,15 @@ use crate::condition::Condition;
 use session_core::{Day, Moment, in_session};
 
 /// Whether a trade with these condition bits counts in means and for the short sale restriction: it is in the session,
-/// and none of its bits bars it. The six upper bits are not assigned.
+/// and none of its bits bars it. The six upper bits are not assigned, and bar nothing.
 pub fn eligible(flags: u16, t: Moment, day: &Day) -> bool
-    requires { flags < 1024 }
     ensures { result ≡ is_eligible flags t day.now }
 {
     in_session(t, day) && !has_barring_bit(flags)
 }
 
-/// Whether a trade with these condition bits is an opening or reopening trade of the primary listing exchange. The six
-/// upper bits are not assigned.
+/// Whether a trade with these condition bits is an opening or reopening trade of the primary listing exchange.
 pub fn opening(flags: u16) -> bool
-    requires { flags < 1024 }
     ensures { result ≡ is_opening flags }
 {
     is_set(flags, 0)

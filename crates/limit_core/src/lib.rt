@@ -6,5 +6,5 @@ mod limit;
 mod tests;
 mod timer;
 
-pub use limit::{at_limit, straddles};
-pub use timer::LimitTimer;
+pub use limit::{at_limit, is_at_lower, is_at_upper, straddles};
+pub use timer::{LimitTimer, has_lasted};

@@ -11,15 +11,27 @@ pub fn at_limit(q: &Quotation, b: &Bands) -> Option<Side>
     ensures low { (result ≡ Some Side.Low) ↔ IsTrue (is_at_lower q.now b.now) }
     ensures high { (result ≡ Some Side.High) ↔ IsTrue (is_at_upper q.now b.now) }
 {
-    if is_crossed(q) {
-        None
-    } else if q.offer.is_some_and(|offer| offer <= b.lower) {
+    if is_at_lower(q, b) {
         Some(Side::Low)
-    } else if q.bid.is_some_and(|bid| b.upper <= bid) {
+    } else if is_at_upper(q, b) {
         Some(Side::High)
     } else {
         None
     }
+}
+
+/// Whether a quotation is at the lower band: not crossed, with an offer at it or below it (LULD Plan, Section VI).
+pub fn is_at_lower(q: &Quotation, b: &Bands) -> bool
+    ensures { result ≡ is_at_lower q.now b.now }
+{
+    !is_crossed(q) && q.offer.is_some_and(|offer| offer <= b.lower)
+}
+
+/// Whether a quotation is at the upper band: not crossed, with a bid at it or above it (LULD Plan, Section VI).
+pub fn is_at_upper(q: &Quotation, b: &Bands) -> bool
+    ensures { result ≡ is_at_upper q.now b.now }
+{
+    !is_crossed(q) && q.bid.is_some_and(|bid| b.upper <= bid)
 }
 
 /// Whether a quotation straddles the bands: a bid below the lower band or an offer above the upper (LULD Plan,

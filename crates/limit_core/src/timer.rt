@@ -2,8 +2,15 @@ ghost use Rattle.std.specs.Prelude.{◌≡◌, ◌≤◌};
 ghost use Rattle.limit_core.specs.Timers.{has_lasted};
 
 use price_core::Side;
-use session_core::{Moment, age};
+use session_core::Moment;
 use std::marker::Model;
+
+/// Whether a limit state that was entered at a moment has lasted for 15 seconds (LULD Plan, Section VII).
+pub fn has_lasted(entered: Moment, t: Moment) -> bool
+    ensures { result ≡ has_lasted entered t }
+{
+    entered.nanos() + 15_000_000_000 <= t.nanos()
+}
 
 /// A limit state: when it was entered, and at which side of the bands.
 #[derive(Clone, Copy, Debug, PartialEq, Eq)]
@@ -42,6 +49,6 @@ impl LimitTimer {
         requires { self.now.entered ≤ t }
         ensures { result ≡ has_lasted self.now.entered t }
     {
-        age(t, self.entered) >= 15_000_000_000
+        has_lasted(self.entered, t)
     }
 }

@@ -8,4 +8,5 @@ mod tests;
 mod turning;
 
 pub use pausing::pause;
-pub use turning::{Brakes, Turned, turn};
+pub use phases::{is_done, is_limit, is_trading};
+pub use turning::{Brakes, Turned, close, halt, start, stop, turn};

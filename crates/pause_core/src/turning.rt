@@ -1,5 +1,5 @@
 ghost use Rattle.std.specs.Prelude.{◌≡◌, ◌++◌, option_to_list};
-ghost use Rattle.pause_core.specs.Turns.{halt, phase_after_halt, in_order, starts, stops, turns};
+ghost use Rattle.pause_core.specs.Turns.{close, halt, phase_after_halt, in_order, start, starts, stop, stops, turns};
 
 use crate::phases::{can_start, can_stop, is_done, is_in_halt};
 use session_core::Phase;
@@ -53,7 +53,31 @@ fn starts(phase: Phase, b: &Brakes) -> bool
     can_start(phase) && b.in_session && !b.stopped
 }
 
-fn halt(phase: Phase, b: &Brakes) -> Option<Phase>
+/// The phase that the close brings, None exactly before it.
+pub fn close(phase: Phase, b: &Brakes) -> Option<Phase>
+    ensures { result ≡ close phase b.now }
+{
+    let _phase = phase;
+    b.closed.then_some(Phase::Closed)
+}
+
+/// The phase that a market-wide halt brings, None exactly where there is none or it doesn't stop the stock
+/// (NYSE Rule 7.12).
+pub fn stop(phase: Phase, b: &Brakes) -> Option<Phase>
+    ensures { result ≡ stop phase b.now }
+{
+    stops(phase, b).then_some(Phase::Stopped)
+}
+
+/// The phase that the start of trading brings, None exactly where it doesn't start.
+pub fn start(phase: Phase, b: &Brakes) -> Option<Phase>
+    ensures { result ≡ start phase b.now }
+{
+    starts(phase, b).then_some(Phase::Trading)
+}
+
+/// The phase that a regulatory halt or its end brings, None exactly where neither does.
+pub fn halt(phase: Phase, b: &Brakes) -> Option<Phase>
     ensures { result ≡ halt phase b.now }
 {
     if b.halted {

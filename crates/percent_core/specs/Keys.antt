@@ -1,10 +1,13 @@
--- The keys of the table of percentages: a bit for the tier, two for the category and two for the part of the session.
+-- The keys of the table of percentages: a bit for the tier, two for the category, two for the part of the session and one
+-- for the profile.
 -- Private words: no public clause cites them.
 use Rattle.std.specs.Prelude.{ℕ, ◌+◌, ◌*◌}
 use Rattle.price_core.specs.declared.quote.Tier.{Tier}
 use Rattle.price_core.specs.declared.quote.Tier.TheVariants as tier
 use Rattle.price_core.specs.declared.quote.Category.{Category}
 use Rattle.price_core.specs.declared.quote.Category.TheVariants as category
+use Rattle.session_core.specs.declared.day.Profile.{Profile}
+use Rattle.session_core.specs.declared.day.Profile.TheVariants.{Since18, Before18}
 use Rattle.session_core.specs.declared.state.Span.{Span}
 use Rattle.session_core.specs.declared.state.Span.TheVariants as span
 
@@ -22,5 +25,9 @@ span_code span.Middle = 0
 span_code span.First15 = 1
 span_code span.Last25 = 2
 
-abbrev pub key_of : Tier → Category → Span → ℕ
-key_of t c s = tier_code t + 2 * category_code c + 8 * span_code s
+abbrev pub profile_code : Profile → ℕ
+profile_code Since18 = 0
+profile_code Before18 = 1
+
+abbrev pub key_of : Tier → Category → Span → Profile → ℕ
+key_of t c s p = tier_code t + 2 * category_code c + 8 * span_code s + 32 * profile_code p

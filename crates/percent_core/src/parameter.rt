@@ -6,20 +6,32 @@ use case_table::{Case, Cases, cases};
 use price_core::{Category, Price, Tier};
 use session_core::{Day, Moment, Profile, Span, last_25};
 
-/// The percentages of a reference price since Amendment 18 (after the LULD Plan, Appendix A), by the tier, the price
-/// category and the part of the session.
-const ROWS: [Case; 7] = cases! {
-    20 4 => 75; // below $0.75, not in the last 25 minutes
-    20 20 => 150; // below $0.75, in the last 25 minutes
-    22 2 => 20; // from $0.75 to $3.00, not in the last 25 minutes
-    22 18 => 40; // from $0.75 to $3.00, in the last 25 minutes
-    23 0 => 5; // above $3.00, Tier 1, not in the last 25 minutes
-    23 16 => 10; // above $3.00, Tier 1, in the last 25 minutes
-    7 1 => 10; // above $3.00, Tier 2
+/// The percentages of a reference price (after the LULD Plan, Appendix A), by the tier, the price category and the part of
+/// the session, first since Amendment 18 and then before it.
+const ROWS: [Case; 19] = cases! {
+    52 4 => 75; // below $0.75, not in the last 25 minutes
+    52 20 => 150; // below $0.75, in the last 25 minutes
+    54 2 => 20; // from $0.75 to $3.00, not in the last 25 minutes
+    54 18 => 40; // from $0.75 to $3.00, in the last 25 minutes
+    55 0 => 5; // above $3.00, Tier 1, not in the last 25 minutes
+    55 16 => 10; // above $3.00, Tier 1, in the last 25 minutes
+    39 1 => 10; // above $3.00, Tier 2
+    60 36 => 75; // before, below $0.75, between the first 15 and the last 25 minutes
+    60 44 => 150; // before, below $0.75, in the first 15 minutes
+    52 52 => 150; // before, below $0.75, in the last 25 minutes
+    62 34 => 20; // before, from $0.75 to $3.00, between
+    62 42 => 40; // before, from $0.75 to $3.00, in the first 15 minutes
+    54 50 => 40; // before, from $0.75 to $3.00, in the last 25 minutes
+    63 32 => 5; // before, above $3.00, Tier 1, between
+    63 40 => 10; // before, above $3.00, Tier 1, in the first 15 minutes
+    55 48 => 10; // before, above $3.00, Tier 1, in the last 25 minutes
+    63 33 => 10; // before, above $3.00, Tier 2, between
+    63 41 => 20; // before, above $3.00, Tier 2, in the first 15 minutes
+    55 49 => 20; // before, above $3.00, Tier 2, in the last 25 minutes
 };
 
-const PERCENTAGES: Cases<7> = Cases {
-    keys: 32,
+const PERCENTAGES: Cases<19> = Cases {
+    keys: 64,
     rows: ROWS,
 };
 
@@ -49,18 +61,18 @@ pub fn span(t: Moment, day: &Day) -> Span
 
 /// The percentage of a reference price before the leverage ratio (after the LULD Plan, Appendix A).
 pub fn percent(tier: Tier, category: Category, span: Span, profile: Profile) -> u32
-    requires { profile ≡ Profile.Since18 }
     ensures value { result ≡ percent_of profile tier category span }
     ensures least { least_percent category ≤ result }
     ensures most { result ≤ 150 }
 {
-    PERCENTAGES.pick(key(tier, category, span))
+    PERCENTAGES.pick(key(tier, category, span, profile))
 }
 
-/// The key of the table: a bit for the tier, two for the category and two for the part of the session.
-fn key(tier: Tier, category: Category, span: Span) -> u32
-    ensures value { result ≡ key_of tier category span }
-    ensures below { result < 32 }
+/// The key of the table: a bit for the tier, two for the category, two for the part of the session and one for the
+/// profile.
+fn key(tier: Tier, category: Category, span: Span, profile: Profile) -> u32
+    ensures value { result ≡ key_of tier category span profile }
+    ensures below { result < 64 }
 {
-    tier as u32 + 2 * category as u32 + 8 * span as u32
+    tier as u32 + 2 * category as u32 + 8 * span as u32 + 32 * profile as u32
 }

@@ -2,7 +2,7 @@
 use Rattle.std.specs.Prelude.{◌≡◌, ℕ, Option, Some, List}
 use Rattle.std.specs.Option.{option_map_or}
 use Rattle.refprice_core.specs.declared.reference.Adoption.{Adoption}
-use Rattle.refprice_core.specs.Prices.{Priced}
+use Rattle.refprice_core.specs.declared.reference.Priced.{Priced}
 use Rattle.refprice_core.specs.Runs.{Call, events, begun_in, last_in}
 
 -- the moment at which the run began, and its last adoption

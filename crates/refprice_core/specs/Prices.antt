@@ -6,23 +6,27 @@ use Rattle.price_core.specs.declared.quote.Cause.{Cause}
 use Rattle.price_core.specs.declared.quote.Cause.TheVariants.{First, Moved, Forced}
 use Rattle.session_core.specs.Moments.{seconds}
 use Rattle.refprice_core.specs.declared.reference.Adoption.{Adoption}
-
--- a new reference price, and why
-pub record Priced : Type 0 where
-  pub cause : Cause
-  pub price : ℕ
+use Rattle.refprice_core.specs.declared.reference.Priced.{Priced}
 
 abbrev pub because : Cause → Option ℕ → Option Priced
 because cause price = option_map (λ p. record { cause = cause; price = p }) price
 
+-- within five minutes after a run's begin
+abbrev pub is_opening : ℕ → ℕ → Bool
+is_opening begun t = nat_lt t (begun + seconds 300)
+
 -- the first price of a run: within five minutes after its begin the price that is offered, by an opening trade or an
 -- opening on quotations, and then the mean
 abbrev pub first_price : ℕ → ℕ → Option ℕ → Option ℕ → Option ℕ
-first_price begun t offered mean = if nat_lt t (begun + seconds 300) then offered else mean
+first_price begun t offered mean = if is_opening begun t then offered else mean
+
+-- 30 seconds have passed since an adoption
+abbrev pub has_stood : Adoption → ℕ → Bool
+has_stood last t = nat_le (last.moment + seconds 30) t
 
 -- whether a mean is a new reference price: it has moved by one per cent, and 30 seconds have passed
 abbrev pub has_moved : Adoption → ℕ → ℕ → Bool
-has_moved last t mean = has_moved_one_percent mean last.price && nat_le (last.moment + seconds 30) t
+has_moved last t mean = has_moved_one_percent mean last.price && has_stood last t
 
 abbrev pub moved_price : Adoption → ℕ → Option ℕ → Option ℕ
 moved_price last t mean = option_and_then (λ m. if has_moved last t m then Some m else None) mean

@@ -2,7 +2,8 @@
 use Rattle.std.specs.Prelude.{ℕ, Option, Some, None, List, [], ◌∷◌}
 use Rattle.std.specs.Option.{option_map_or}
 use Rattle.refprice_core.specs.declared.reference.Adoption.{Adoption}
-use Rattle.refprice_core.specs.Prices.{Priced, observed, forced}
+use Rattle.refprice_core.specs.declared.reference.Priced.{Priced}
+use Rattle.refprice_core.specs.Prices.{observed, forced}
 
 -- a run begins, or it begins at the price of a reopening; an observation with the price that is offered and the mean; the
 -- end of a limit state with the mean

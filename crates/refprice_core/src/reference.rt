@@ -1,5 +1,5 @@
 ghost use Rattle.std.specs.Prelude.{◌≡◌, ◌∷◌, List, None, Some};
-ghost use Rattle.refprice_core.specs.Prices.{observed, forced, first_price, cause_of, price_of, adopted_at};
+ghost use Rattle.refprice_core.specs.Prices.{because, observed, forced, first_price, is_opening, cause_of, price_of, adopted_at};
 ghost use Rattle.refprice_core.specs.Runs.{Call, Begin, Release, Observe, Force, events, begun_in, last_in};
 
 use price_core::{Cause, Price, moved_one_percent};
@@ -11,6 +11,29 @@ use std::marker::Model;
 pub struct Adoption {
     pub moment: Moment,
     pub price: Price,
+}
+
+/// A new reference price in ten-thousandths of a dollar, and why it is one.
+#[derive(Clone, Copy, Debug, PartialEq, Eq)]
+pub struct Priced {
+    pub cause: Cause,
+    pub price: Price,
+}
+
+/// A price as a new reference price, None exactly where there is none.
+pub fn because(cause: Cause, price: Option<Price>) -> Option<Priced>
+    ensures { result ≡ because cause price }
+{
+    let price = price?;
+    Some(Priced { cause, price })
+}
+
+/// The mean as the new reference price at the end of a limit state, None exactly where there is no mean (LULD Plan,
+/// Section VI).
+pub fn forced(mean: Option<Price>) -> Option<Priced>
+    ensures { result ≡ forced mean }
+{
+    because(Cause::Forced, mean)
 }
 
 /// The reference price of a run of continuous trading (LULD Plan, Section V).
@@ -30,6 +53,13 @@ impl Model for Reference {
     ghost inverse = { λ kept. record { begun = kept.begun; last = kept.last } };
 }
 
+/// Whether a moment is in the first five minutes of a run (LULD Plan, Section V(A)).
+pub fn is_opening(begun: Moment, t: Moment) -> bool
+    ensures { result ≡ is_opening begun t }
+{
+    t.nanos() < begun.nanos() + 300_000_000_000
+}
+
 /// The first price of a run: within five minutes the price that is offered, and then the mean.
 fn first_price(
     begun: Moment,
@@ -39,24 +69,24 @@ fn first_price(
 ) -> Option<Price>
     ensures { result ≡ first_price begun t offered mean }
 {
-    if t.nanos() < begun.nanos() + 300_000_000_000 {
-        offered
-    } else {
-        mean
-    }
+    if is_opening(begun, t) { offered } else { mean }
 }
 
 impl Adoption {
-    ghost use Rattle.refprice_core.specs.Prices.{moved_price};
+    ghost use Rattle.refprice_core.specs.Prices.{has_stood, moved_price};
 
-    /// The mean, where it has moved by one per cent and 30 seconds have passed.
-    fn moved_price(&self, t: Moment, mean: Option<Price>) -> Option<Price>
+    /// Whether it has stood for 30 seconds, before which no mean takes its place (LULD Plan, Section V(B)).
+    pub fn has_stood(&self, t: Moment) -> bool
+        ensures { result ≡ has_stood self.now t }
+    {
+        self.moment.nanos() + 30_000_000_000 <= t.nanos()
+    }
+
+    /// The mean, where it has moved by one per cent and 30 seconds have passed (LULD Plan, Section V(B)).
+    pub fn moved_price(&self, t: Moment, mean: Option<Price>) -> Option<Price>
         ensures { result ≡ moved_price self.now t mean }
     {
-        mean.filter(|price| {
-            moved_one_percent(*price, self.price)
-                && t.nanos() >= self.moment.nanos() + 30_000_000_000
-        })
+        mean.filter(|price| { moved_one_percent(*price, self.price) && self.has_stood(t) })
     }
 }
 

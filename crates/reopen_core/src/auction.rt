@@ -1,5 +1,6 @@
 ghost use Rattle.std.specs.Prelude.{◌≡◌, ◌+◌, ◌*◌, ◌≤◌, ◌∷◌, List};
 ghost use Rattle.session_core.specs.Moments.{seconds};
+ghost use Rattle.price_core.specs.declared.quote.Collars.{Collars};
 ghost use Rattle.reopen_core.specs.Trials.{outcome, trial};
 ghost use Rattle.reopen_core.specs.Calls.{Call, Begin, Indicate, Try, trial_after};
 
@@ -60,6 +61,27 @@ fn outcome(indication: &Option<Indication>, reference: Price, collars: &Collars)
             Unmatched::Sell => Trial::Extend(with_lower(collars, step)),
         }
     }
+}
+
+/// A trial at a moment, in the last ten minutes of the session or before them, of a round, with the auction reference and
+/// the last indication: NotDue exactly where the round began less than five minutes before it (after Nasdaq Rule 4120).
+pub fn try_round(
+    t: Moment,
+    last_10: bool,
+    round: &Round,
+    reference: Price,
+    indication: &Option<Indication>,
+) -> Trial
+    ensures value { result ≡ trial t last_10 round.now reference indication.now }
+    ensures due { (collars : Collars) → result ≡ Trial.Extend collars → round.now.moment + seconds 300 ≤ t }
+{
+    if t.nanos() < round.moment.nanos() + 300_000_000_000 {
+        return Trial::NotDue;
+    }
+    if last_10 {
+        return Trial::Closing;
+    }
+    outcome(indication, reference, &round.collars)
 }
 
 /// A reopening auction (after Nasdaq Rule 4120). Each round lasts at least five minutes, so that the rounds of a day are
@@ -134,13 +156,7 @@ impl Auction {
         ensures answer { (calls : List Call) → Stands self.old calls → result ≡ trial_after t last_10 calls }
         ensures stands { (calls : List Call) → Stands self.old calls → Stands self.new (Try t last_10 ∷ calls) }
     {
-        if t.nanos() < self.round.moment.nanos() + 300_000_000_000 {
-            return Trial::NotDue;
-        }
-        if last_10 {
-            return Trial::Closing;
-        }
-        let trial = outcome(&self.indication, self.reference, &self.round.collars);
+        let trial = try_round(t, last_10, &self.round, self.reference, &self.indication);
         if let Trial::Extend(collars) = &trial {
             self.extend(t, collars);
         }

@@ -4,8 +4,9 @@ ghost use Rattle.reopen_core.specs.Collars.{auction_reference, collar_step, belo
 use crate::auction::Origin;
 use price_core::{Bands, Collars, Price, round_cent};
 
-/// The lower band after a limit state at it, the upper after one at that, and the reference price after a straddle state.
-pub(crate) fn auction_reference(origin: Origin, bands: &Bands, reference: Price) -> Price
+/// The reference of an auction: the lower band after a limit state at it, the upper after one at that, and the reference
+/// price after a straddle state (after Nasdaq Rule 4120).
+pub fn auction_reference(origin: Origin, bands: &Bands, reference: Price) -> Price
     ensures { result ≡ auction_reference origin bands.now reference }
 {
     match origin {
@@ -43,8 +44,8 @@ fn above(price: Price, step: u64) -> Price
     Price::of((price.units() + step).min(99_999_999_999))
 }
 
-/// The collars of round 0.
-pub(crate) fn first_collars(origin: Origin, bands: &Bands, reference: Price) -> Collars
+/// The collars of round 0, with the price bands and the reference price of the stock (after Nasdaq Rule 4120).
+pub fn first_collars(origin: Origin, bands: &Bands, reference: Price) -> Collars
     ensures { result ≡ first_collars origin bands.now reference }
 {
     match origin {

@@ -6,4 +6,5 @@ mod collars;
 #[cfg(test)]
 mod tests;
 
-pub use auction::{Auction, Indication, Origin, Round, Trial};
+pub use auction::{Auction, Indication, Origin, Round, Trial, try_round};
+pub use collars::{auction_reference, first_collars};

@@ -5,4 +5,4 @@ mod short;
 #[cfg(test)]
 mod tests;
 
-pub use short::Short;
+pub use short::{Short, triggers};

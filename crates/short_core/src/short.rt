@@ -4,8 +4,9 @@ ghost use Rattle.short_core.specs.Restriction.{Trades, traded, triggers, has_tri
 use price_core::Price;
 use std::marker::Model;
 
-/// Whether a trade at that price triggers the restriction after that prior close.
-fn triggers(close: Option<Price>, price: Price) -> bool
+/// Whether a trade at that price triggers the restriction after that prior close, both in ten-thousandths of a dollar
+/// (17 CFR 242.201(b)).
+pub fn triggers(close: Option<Price>, price: Price) -> bool
     ensures { result ≡ triggers close price }
 {
     close.is_some_and(|close| 10 * price.units() <= 9 * close.units())

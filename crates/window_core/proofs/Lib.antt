@@ -1,3 +1,4 @@
 pub mod Deals
 pub mod Order
 pub mod Standing
+pub mod Sums

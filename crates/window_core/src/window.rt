@@ -1,7 +1,9 @@
-ghost use Rattle.std.specs.Prelude.{◌≡◌, ◌+◌, ◌*◌, ◌≤◌, ◌<◌, ◌++◌, ◌∷◌, [], List, OnOk, IfOk, IsOk, filter, length, option_map, slice_get, sum_by, vec_len, vec_capacity};
+ghost use Rattle.std.specs.Prelude.{◌≡◌, ◌==◌, ◌+◌, ◌*◌, ◌≤◌, ◌<◌, ◌++◌, ◌∷◌, ◌^◌, [], None, Some, List, OnOk, IfOk, IsOk, filter, if◌then◌else◌, length, option_map, option_to_list, slice_get, sum_by, vec_len, vec_capacity};
+ghost use Rattle.price_core.specs.Rounding.{rounded_mean};
 ghost use Rattle.window_core.specs.Deals.{is_live, live, stays, mean_of, least_moment};
 ghost use Rattle.window_core.specs.Calls.{Call, Advance, Add, Cancel, Restart, window};
 
+use crate::summed::SummedDeals;
 use price_core::{NoMemory, Price, mean};
 use session_core::Moment;
 use std::alloc::Global;
@@ -20,7 +22,7 @@ impl Deal {
     ghost use Rattle.window_core.specs.Deals.{is_live};
 
     /// Whether the deal is less than five minutes old.
-    fn is_live(&self, t: Moment) -> bool
+    pub(crate) fn is_live(&self, t: Moment) -> bool
         ensures { result ≡ is_live t self.now }
     {
         t.nanos() < self.moment.nanos() + 300_000_000_000
@@ -34,60 +36,97 @@ fn midnight() -> Moment
     Moment::new(0).unwrap()
 }
 
-/// Takes away the deals that are five minutes old.
-fn keep_live(t: Moment, deals: &mut Vec<Deal>)
-    ensures items { deals.new.items ≡ live t deals.old.items }
-    ensures len { vec_len deals.new ≤ vec_len deals.old }
-    ensures capacity { vec_capacity deals.new ≡ vec_capacity deals.old }
-{
-    deals.retain(|deal| deal.is_live(t));
+/// The sum of the prices of deals, and their number.
+#[derive(Clone, Copy, Debug)]
+pub(crate) struct Tally {
+    pub(crate) sum: u128,
+    pub(crate) count: u64,
 }
 
-/// Takes away the deals of a number.
-fn take_away(number: u32, deals: &mut Vec<Deal>)
-    ensures items { deals.new.items ≡ filter (stays number) deals.old.items }
-    ensures len { vec_len deals.new ≤ vec_len deals.old }
-    ensures capacity { vec_capacity deals.new ≡ vec_capacity deals.old }
-{
-    deals.retain(|deal| deal.number != number);
-}
+impl Tally {
+    ghost use Rattle.window_core.specs.Deals.{live};
+    ghost use Rattle.window_core.specs.Tallies.{Tallies};
 
-/// The moment of the first deal.
-fn first_moment(deals: &[Deal]) -> Option<Moment>
-    ensures { result ≡ option_map (λ d. d.moment) (slice_get deals.now 0) }
-{
-    deals.first().map(|deal| deal.moment)
-}
-
-/// The sum of the prices.
-fn total(deals: &[Deal]) -> u128
-    ensures value { result ≡ sum_by (λ d. d.price) deals.now }
-    ensures least { length deals.now ≤ result }
-    ensures most { result ≤ 99999999999 * length deals.now }
-{
-    let mut total: u128 = 0;
-    for deal in deals {
-        total += u128::from(deal.price.units());
+    /// Of the deals that are less than five minutes old.
+    pub(crate) fn of(t: Moment, deals: &[Deal]) -> Tally
+        ensures tallies { Tallies result.sum result.count (live t deals.now) }
+        ensures few { result.count ≤ length deals.now }
+    {
+        let mut sum: u128 = 0;
+        let mut count: u64 = 0;
+        for deal in deals {
+            if deal.is_live(t) {
+                sum += u128::from(deal.price.units());
+                count += 1;
+            }
+        }
+        Tally { sum, count }
     }
-    total
+
+    /// Of one deal, where there is one and it is less than five minutes old.
+    pub(crate) fn of_one(t: Moment, deal: &Option<Deal>) -> Tally
+        ensures tallies { Tallies result.sum result.count (live t (option_to_list deal.now)) }
+        ensures few { result.count ≤ 1 }
+    {
+        match deal {
+            Some(deal) if deal.is_live(t) => Tally {
+                sum: u128::from(deal.price.units()),
+                count: 1,
+            },
+            _ => Tally { sum: 0, count: 0 },
+        }
+    }
+
+    /// The sum and the number of both.
+    pub(crate) fn and(&self, other: &Tally) -> Tally
+        requires sum { self.now.sum + other.now.sum < 2 ^ 128 }
+        requires count { self.now.count + other.now.count < 2 ^ 64 }
+        ensures sum { result.sum ≡ self.now.sum + other.now.sum }
+        ensures count { result.count ≡ self.now.count + other.now.count }
+    {
+        Tally {
+            sum: self.sum + other.sum,
+            count: self.count + other.count,
+        }
+    }
+
+    pub(crate) fn mean(&self) -> Option<Price>
+        requires least { self.now.count ≤ self.now.sum }
+        requires most { self.now.sum ≤ 99999999999 * self.now.count }
+        ensures { result ≡ (if self.now.count == 0 then None else Some (rounded_mean self.now.sum self.now.count)) }
+    {
+        if self.count == 0 {
+            return None;
+        }
+        Some(mean(self.sum, self.count))
+    }
+}
+
+/// The mean of the prices of these deals and one more that are less than five minutes old, in ten-thousandths of a dollar,
+/// rounded half up; None exactly where there are none (LULD Plan, Section V).
+pub fn live_mean(t: Moment, deals: &[Deal], last: &Option<Deal>) -> Option<Price>
+    ensures { result ≡ mean_of (live t (deals.now ++ option_to_list last.now)) }
+{
+    let earlier = Tally::of(t, deals);
+    let last = Tally::of_one(t, last);
+    earlier.and(&last).mean()
 }
 
 /// The deals of the last five minutes (LULD Plan, Section V).
 #[derive(Debug, Drop)]
 pub struct Window {
     moment: Moment,
-    deals: Vec<Deal>,
+    deals: SummedDeals,
 }
 
 impl Model for Window {
-    ghost use Rattle.std.specs.Prelude.{◌-◌, vec_len, vec_capacity};
     ghost use Rattle.window_core.specs.Held.{Held, IsOrdered};
 
     ghost Value = { Held };
 
-    ghost view = { λ w. record { moment = w.moment; deals = w.deals.items; spare = vec_capacity w.deals - vec_len w.deals } };
+    ghost view = { λ w. record { moment = w.moment; deals = w.deals.deals; spare = w.deals.spare } };
 
-    ghost invariant = { λ w. IsOrdered w.moment w.deals.items };
+    ghost invariant = { λ w. IsOrdered w.moment w.deals.deals };
 }
 
 impl Window {
@@ -100,7 +139,7 @@ impl Window {
     {
         Ok(Window {
             moment: midnight(),
-            deals: Vec::new(alloc),
+            deals: SummedDeals::new(alloc)?,
         })
     }
 
@@ -113,7 +152,7 @@ impl Window {
         ensures stands { (calls : List Call) → Stands self.old calls → Stands self.new (Advance t ∷ calls) }
     {
         self.moment = t;
-        keep_live(t, &mut self.deals);
+        self.deals.keep_live(t);
     }
 
     /// Takes room for one more deal. An error leaves the window as it was.
@@ -125,10 +164,7 @@ impl Window {
         ensures spare { self.old.spare ≤ self.new.spare }
         ensures stands { (calls : List Call) → Stands self.old calls → Stands self.new calls }
     {
-        match self.deals.reserve(1) {
-            Ok(()) => Ok(()),
-            Err(_) => Err(NoMemory),
-        }
+        self.deals.reserve(1)
     }
 
     /// Adds a deal of the window's moment, in room that was taken before.
@@ -140,7 +176,7 @@ impl Window {
         ensures spare { self.old.spare ≤ self.new.spare + 1 }
         ensures stands { (calls : List Call) → Stands self.old calls → Stands self.new (Add d ∷ calls) }
     {
-        self.deals.push(d).unwrap();
+        self.deals.push(d);
     }
 
     /// Takes away each deal of that number.
@@ -150,7 +186,7 @@ impl Window {
         ensures spare { self.old.spare ≤ self.new.spare }
         ensures stands { (calls : List Call) → Stands self.old calls → Stands self.new (Cancel number ∷ calls) }
     {
-        take_away(number, &mut self.deals);
+        self.deals.take_away(number);
     }
 
     /// Takes all deals away and goes back to moment 0, so that a new run or a new day can begin.
@@ -169,10 +205,7 @@ impl Window {
         ensures value { result ≡ mean_of self.now.deals }
         ensures answer { (calls : List Call) → Stands self.now calls → result ≡ mean_of (window calls) }
     {
-        if self.deals.is_empty() {
-            return None;
-        }
-        Some(mean(total(&self.deals), self.deals.len() as u64))
+        self.deals.mean()
     }
 
     /// The least moment of the deals that the mean counts, None exactly where the mean is None.
@@ -180,6 +213,6 @@ impl Window {
         ensures value { result ≡ least_moment self.now.deals }
         ensures answer { (calls : List Call) → Stands self.now calls → result ≡ least_moment (window calls) }
     {
-        first_moment(&self.deals)
+        self.deals.first_moment()
     }
 }

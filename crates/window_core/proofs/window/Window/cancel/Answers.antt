@@ -6,8 +6,8 @@ use Rattle.window_core.proofs.Standing.{stands-cancelled}
 use Rattle.window_core.proofs.window.Window.cancel.Goals as goal
 
 pub invariant_of-self : goal.invariant_of-self
-invariant_of-self c = rw c.take_away.ensures.items (IsOrdered-filter _ _ (stays c.args.number) _ (omega arith) c.self.invariant)
+invariant_of-self c = rw c.take_away.ensures.deals (IsOrdered-filter _ _ (stays c.args.number) _ (omega arith) c.self.invariant)
 
 pub returns-clause-stands : goal.returns-clause-stands
 returns-clause-stands c = λ calls stands.
-    stands-cancelled c.args.self.now _ c.args.number calls (ap (λ (held : Held). held.moment) c.self.view_is) (c.take_away.ensures.items ∙ ap (λ (held : Held). filter (stays c.args.number) held.deals) c.self.view_is) stands
+    stands-cancelled c.args.self.now _ c.args.number calls (ap (λ (held : Held). held.moment) c.self.view_is) (c.take_away.ensures.deals ∙ ap (λ (held : Held). filter (stays c.args.number) held.deals) c.self.view_is) stands
