@@ -9,7 +9,7 @@ use Rattle.wire_in.specs.Records.{is_day}
 use Rattle.rulebook.specs.declared.event.Event.{Event}
 use Rattle.rulebook.specs.Admission.{names, with_name, is_among, is_early, is_unknown, lists_again, finds_no_id, verdict, IsLawful}
 use Rattle.rulebook.specs.History.{records}
-use Rattle.rulebook.specs.Steps.{history}
+use Rattle.rulebook.specs.Book.{history}
 use Rattle.rulebook.proofs.Histories.{records-history}
 
 -- a refusal that doesn't apply leaves the others to be tried

@@ -1,14 +1,20 @@
 -- What is sent for more frames is what was sent before, and more.
-use Rattle.std.proofs.Common.{◌≡◌, ℕ, ◌+◌, List, [], ◌∷◌, ◌++◌, length, Result, Ok, Err, refl, sym, ap, ◌∙◌, append_assoc, arith}
+use Rattle.std.proofs.Common.{◌≡◌, ◌⊎◌, inl, inr, ℕ, zero, suc, ◌+◌, ◌-◌, ◌<◌, ◌≤◌, List, [], ◌∷◌, ◌++◌, length, drop, not, Option, Some, None, Result, Ok, Err, refl, sym, ap, ◌∙◌, append_assoc, arith}
+use Rattle.std.specs.Prelude.{min}
 use Rattle.std.specs.List.{flat_map}
+use Rattle.std.proofs.lemmas.Bool.{cases_lt}
 use Rattle.std.proofs.lemmas.Grind.{flat_map-append}
+use Rattle.std.proofs.lemmas.List.{append-nil, drop_all}
+use Rattle.std.proofs.lemmas.List.Elements.{filter-append}
 use Rattle.wire_in.specs.declared.record.Record.{Record}
 use Rattle.wire_in.specs.declared.record.Refusal.{Refusal}
 use Rattle.wire_out.specs.declared.message.Frame.{Frame}
-use Rattle.wire_out.specs.declared.message.Frame.TheVariants.{Numbered}
+use Rattle.wire_out.specs.declared.message.Frame.TheVariants.{Numbered, Ack}
 use Rattle.wire_out.specs.declared.message.Stamped.{Stamped}
 use Rattle.wire_out.specs.Spelling.{spelling}
-use Rattle.rulebook.specs.Sent.{judged, with_record, accepted_of, numbered, reply, replies, hello, session_frames, spelled}
+use Rattle.rulebook.specs.Sent.{judged, with_record, accepted_of, numbered, reply, replies, hello, sent_again, passed_over, session_frames, is_ack, unacknowledged, replayed_frames, spelled}
+use Rattle.rulebook.specs.Book.{history, messages_of, newest_messages}
+use Rattle.rulebook.proofs.Histories.{messages-step}
 
 pub spelled-append : (a b : List Frame) → spelled (a ++ b) ≡ spelled a ++ spelled b
 spelled-append a b = flat_map-append spelling a b
@@ -32,12 +38,85 @@ replies-append limit place held (body ∷ a) b =
     ∙ sym (append_assoc (reply place held (judged limit held body)) (replies limit (place + 1) next a) (replies limit (place + length (body ∷ a)) (accepted_of limit next a) b))
 
 -- all that a session sends, and what further frames add
-pub session_frames-append : (limit : ℕ) (held : List Record) (a b : List (List ℕ))
-    → session_frames limit held (a ++ b) ≡ session_frames limit held a ++ replies limit (length a + 1) (accepted_of limit held a) b
-session_frames-append limit held a b =
-    ap (λ later. hello held ∷ later) (replies-append limit 1 held a b ∙ ap (λ (k : ℕ). replies limit 1 held a ++ replies limit k (accepted_of limit held a) b) (omega arith))
+pub session_frames-append : (limit : ℕ) (from : Option ℕ) (held : List Record) (a b : List (List ℕ))
+    → session_frames limit from held (a ++ b) ≡ session_frames limit from held a ++ replies limit (length a + 1) (accepted_of limit held a) b
+session_frames-append limit from held a b =
+    ap (λ later. sent_again from held ++ hello held ∷ later) (replies-append limit 1 held a b ∙ ap (λ (k : ℕ). replies limit 1 held a ++ replies limit k (accepted_of limit held a) b) (omega arith))
+    ∙ sym (append_assoc (sent_again from held) (hello held ∷ replies limit 1 held a) (replies limit (length a + 1) (accepted_of limit held a) b))
 
-pub session_spelled-append : (limit : ℕ) (held : List Record) (a b : List (List ℕ))
-    → spelled (session_frames limit held (a ++ b)) ≡ spelled (session_frames limit held a) ++ spelled (replies limit (length a + 1) (accepted_of limit held a) b)
-session_spelled-append limit held a b =
-    ap spelled (session_frames-append limit held a b) ∙ spelled-append (session_frames limit held a) (replies limit (length a + 1) (accepted_of limit held a) b)
+pub session_spelled-append : (limit : ℕ) (from : Option ℕ) (held : List Record) (a b : List (List ℕ))
+    → spelled (session_frames limit from held (a ++ b)) ≡ spelled (session_frames limit from held a) ++ spelled (replies limit (length a + 1) (accepted_of limit held a) b)
+session_spelled-append limit from held a b =
+    ap spelled (session_frames-append limit from held a b) ∙ spelled-append (session_frames limit from held a) (replies limit (length a + 1) (accepted_of limit held a) b)
+
+-- Frames without acknowledgements.
+
+pub unacknowledged-append : (a b : List Frame) → unacknowledged (a ++ b) ≡ unacknowledged a ++ unacknowledged b
+unacknowledged-append a b = filter-append (λ frame. not (is_ack frame)) a b
+
+unacknowledged-numbered : (n : ℕ) (ms : List Stamped) → unacknowledged (numbered n ms) ≡ numbered n ms
+unacknowledged-numbered n [] = refl
+unacknowledged-numbered n (m ∷ ms) = ap (λ later. Numbered (n + 1) m ∷ later) (unacknowledged-numbered (n + 1) ms)
+
+-- the messages alone are left
+pub unacknowledged-step : (n number : ℕ) (ms : List Stamped) → unacknowledged (numbered n ms ++ Ack number ∷ []) ≡ numbered n ms
+unacknowledged-step n number ms = unacknowledged-append (numbered n ms) (Ack number ∷ []) ∙ append-nil (unacknowledged (numbered n ms)) ∙ unacknowledged-numbered n ms
+
+-- what a replay sends, and what further frames add
+pub replayed_spelled-append : (limit : ℕ) (a b : List (List ℕ))
+    → spelled (replayed_frames limit (a ++ b)) ≡ spelled (replayed_frames limit a) ++ spelled (unacknowledged (replies limit (length a + 1) (accepted_of limit [] a) b))
+replayed_spelled-append limit a b =
+    ap (λ frames. spelled (unacknowledged frames)) (replies-append limit 1 [] a b ∙ ap (λ (k : ℕ). replies limit 1 [] a ++ replies limit k (accepted_of limit [] a) b) (omega arith))
+    ∙ ap spelled (unacknowledged-append (replies limit 1 [] a) (replies limit (length a + 1) (accepted_of limit [] a) b))
+    ∙ spelled-append (unacknowledged (replies limit 1 [] a)) (unacknowledged (replies limit (length a + 1) (accepted_of limit [] a) b))
+
+-- Messages that are sent again.
+
+-- the messages of a list with one more record
+pub messages_of-more : (x : Record) (held : List Record) → messages_of (x ∷ held) ≡ messages_of held ++ newest_messages (x ∷ held)
+messages_of-more x held = messages-step x (history held)
+
+drop-over : (k : ℕ) (a b : List Frame) → drop k (a ++ b) ≡ drop k a ++ drop (k - length a) b
+drop-over zero a b = let e : 0 ≡ 0 - length a = omega arith in ap (λ (i : ℕ). a ++ drop i b) e
+drop-over (suc k) [] b = let e : suc k ≡ suc k - 0 = omega arith in ap (λ (i : ℕ). drop i b) e
+drop-over (suc k) (f ∷ a) b = let e : k - length a ≡ suc k - suc (length a) = omega arith in drop-over k a b ∙ ap (λ (i : ℕ). drop k a ++ drop i b) e
+
+length-numbered : (n : ℕ) (ms : List Stamped) → length (numbered n ms) ≡ length ms
+length-numbered n [] = refl
+length-numbered n (m ∷ ms) = ap suc (length-numbered (n + 1) ms)
+
+drop-numbered : (k n : ℕ) (ms : List Stamped) → drop k (numbered n ms) ≡ numbered (n + k) (drop k ms)
+drop-numbered zero n ms = ap (λ (i : ℕ). numbered i ms) (omega arith)
+drop-numbered (suc k) n [] = refl
+drop-numbered (suc k) n (m ∷ ms) = drop-numbered k (n + 1) ms ∙ ap (λ (i : ℕ). numbered i (drop k ms)) (omega arith)
+
+none_left : (n k : ℕ) (ms : List Stamped) → length ms ≤ k → numbered (n + k) (drop k ms) ≡ numbered (n + length ms) (drop (length ms) ms)
+none_left n k ms le = ap (λ later. numbered (n + k) later) (drop_all k ms le) ∙ sym (ap (λ later. numbered (n + length ms) later) (drop_all (length ms) ms (omega arith)))
+
+up_to : (n k : ℕ) (ms : List Stamped) → numbered (n + k) (drop k ms) ≡ numbered (n + min k (length ms)) (drop (min k (length ms)) ms)
+up_to n k ms = by (cases_lt (length ms) k) where
+  by : (length ms < k) ⊎ (k ≤ length ms) → numbered (n + k) (drop k ms) ≡ numbered (n + min k (length ms)) (drop (min k (length ms)) ms)
+  by (inl more) = none_left n k ms (omega arith) ∙ ap (λ (i : ℕ). numbered (n + i) (drop i ms)) (omega arith)
+  by (inr within) = ap (λ (i : ℕ). numbered (n + i) (drop i ms)) (omega arith)
+
+-- what is sent again for one more record
+pub sent_again-more : (from : Option ℕ) (x : Record) (held : List Record) (before : ℕ) (ms : List Stamped) → before ≡ length (messages_of held) → ms ≡ newest_messages (x ∷ held)
+    → sent_again from (x ∷ held) ≡ sent_again from held ++ numbered (before + passed_over from before (length ms)) (drop (passed_over from before (length ms)) ms)
+sent_again-more None x held before ms at gave = sym (ap (λ later. numbered (before + length ms) later) (drop_all (length ms) ms (omega arith)))
+sent_again-more (Some from) x held before ms at gave =
+    ap (λ all. drop (from - 1) (numbered 0 all)) (messages_of-more x held)
+    ∙ ap (drop (from - 1)) (numbered-append 0 (messages_of held) (newest_messages (x ∷ held)))
+    ∙ drop-over (from - 1) (numbered 0 (messages_of held)) (numbered (0 + length (messages_of held)) (newest_messages (x ∷ held)))
+    ∙ ap (λ later. drop (from - 1) (numbered 0 (messages_of held)) ++ later)
+    ((λ i. drop (count_is i) (numbered (before_is i) (gave_is i)))
+    ∙ drop-numbered (from - 1 - before) before ms
+    ∙ up_to before (from - 1 - before) ms)
+  where
+    count_is : from - 1 - length (numbered 0 (messages_of held)) ≡ from - 1 - before
+    count_is = ap (λ (n : ℕ). from - 1 - n) (length-numbered 0 (messages_of held) ∙ sym at)
+
+    before_is : 0 + length (messages_of held) ≡ before
+    before_is = omega (arith, at)
+
+    gave_is : newest_messages (x ∷ held) ≡ ms
+    gave_is = sym gave

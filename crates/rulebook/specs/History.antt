@@ -1,6 +1,7 @@
 -- A history is a list of events, the newest first: the records that were accepted, and behind each the messages
 -- that it gave. The newest record's step is open: rules still publish in it.
 use Rattle.std.specs.Prelude.{ℕ, Option, Some, None, List, [], ◌∷◌, ◌++◌, if◌then◌else◌}
+use Rattle.std.specs.Option.{option_map_or}
 use Rattle.wire_in.specs.declared.record.Record.{Record}
 use Rattle.wire_in.specs.Records.{moment_of, is_day}
 use Rattle.wire_out.specs.declared.message.Message.{Message}
@@ -19,6 +20,22 @@ abbrev pub newest : List Event → Option Record
 newest [] = None
 newest (Accepted x ∷ h) = Some x
 newest (Published m ∷ h) = newest h
+
+-- the open step without its messages
+abbrev pub step_record : List Event → List Event
+step_record h = option_map_or (λ x. Accepted x ∷ []) (newest h) []
+
+-- the events of the open step
+abbrev pub open_step : List Event → List Event
+open_step [] = []
+open_step (Accepted x ∷ h) = Accepted x ∷ []
+open_step (Published m ∷ h) = Published m ∷ open_step h
+
+-- the events before the open step
+abbrev pub before_step : List Event → List Event
+before_step [] = []
+before_step (Accepted x ∷ h) = h
+before_step (Published m ∷ h) = before_step h
 
 -- the events since the last day record, that one included
 abbrev pub today : List Event → List Event
@@ -48,3 +65,14 @@ step_messages (Published m ∷ h) = step_messages h ++ record { moment = now h; 
 abbrev pub publish : List Message → List Event → List Event
 publish [] h = h
 publish (m ∷ ms) h = publish ms (Published m ∷ h)
+
+-- a value that a message has, and the moment of that message
+pub record Found (X : Type 0) : Type 0 where
+  pub moment : ℕ
+  pub value : X
+
+-- the last message that has such a value
+abbrev pub last : {X : Type 0} → (Message → Option X) → List Event → Option (Found X)
+last has [] = None
+last has (Accepted x ∷ h) = last has h
+last has (Published m ∷ h) = elim (has m) [ Some x ↦ Some (record { moment = now h; value = x }) | None ↦ last has h ]

@@ -1,5 +1,9 @@
 pub mod Admission
 pub mod History
 pub mod Market
-pub mod Steps
+pub mod Symbol
+pub mod Auction
+pub mod Rules
+pub mod Book
+pub mod Alone
 pub mod Sent

@@ -1,6 +1,6 @@
 -- What is sent for a list of frames, one after the other.
-use Rattle.std.specs.Prelude.{ℕ, ◌+◌, List, [], ◌∷◌, ◌++◌, length, Option, Some, None, Result, Ok, Err}
-use Rattle.std.specs.List.{flat_map}
+use Rattle.std.specs.Prelude.{ℕ, ◌+◌, ◌-◌, min, Bool, true, false, not, List, [], ◌∷◌, ◌++◌, length, drop, Option, Some, None, Result, Ok, Err}
+use Rattle.std.specs.List.{flat_map, filter}
 use Rattle.wire_in.specs.declared.record.Record.{Record}
 use Rattle.wire_in.specs.declared.record.Refusal.{Refusal}
 use Rattle.wire_in.specs.Refusals.{code_of, field_of}
@@ -10,7 +10,7 @@ use Rattle.wire_out.specs.declared.message.Frame.TheVariants.{Hello, Numbered, A
 use Rattle.wire_out.specs.declared.message.Stamped.{Stamped}
 use Rattle.wire_out.specs.Spelling.{spelling}
 use Rattle.rulebook.specs.Admission.{verdict}
-use Rattle.rulebook.specs.Steps.{messages_of, newest_messages}
+use Rattle.rulebook.specs.Book.{messages_of, newest_messages}
 
 -- Accepted records have the newest first, and frames and what is sent for them the oldest.
 
@@ -63,9 +63,31 @@ replies limit place held (body ∷ later) =
 abbrev pub hello : List Record → Frame
 hello held = Hello (length held) (length (messages_of held))
 
--- all that a session sends for these frames, after the records that it holds at its start
-abbrev pub session_frames : ℕ → List Record → List (List ℕ) → List Frame
-session_frames limit held bodies = hello held ∷ replies limit 1 held bodies
+-- the messages of these records that are asked for again: those with this number and later ones, or none
+abbrev pub sent_again : Option ℕ → List Record → List Frame
+sent_again None held = []
+sent_again (Some from) held = drop (from - 1) (numbered 0 (messages_of held))
+
+-- how many of a record's messages are not asked for again, where so many messages came before them
+abbrev pub passed_over : Option ℕ → ℕ → ℕ → ℕ
+passed_over None before count = count
+passed_over (Some from) before count = min (from - 1 - before) count
+
+-- all that a session sends for these frames, after the records that it holds at its start: the messages asked for again,
+-- its first frame, and the replies
+abbrev pub session_frames : ℕ → Option ℕ → List Record → List (List ℕ) → List Frame
+session_frames limit from held bodies = sent_again from held ++ hello held ∷ replies limit 1 held bodies
+
+abbrev pub is_ack : Frame → Bool
+is_ack (Ack number) = true
+is_ack frame = false
+
+abbrev pub unacknowledged : List Frame → List Frame
+unacknowledged frames = filter (λ frame. not (is_ack frame)) frames
+
+-- all that a replay of these frames sends: the replies over no records, without their acknowledgements
+abbrev pub replayed_frames : ℕ → List (List ℕ) → List Frame
+replayed_frames limit bodies = unacknowledged (replies limit 1 [] bodies)
 
 -- frames, spelled one after the other
 abbrev pub spelled : List Frame → List ℕ

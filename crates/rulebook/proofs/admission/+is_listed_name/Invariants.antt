@@ -1,5 +1,0 @@
-use Rattle.std.proofs.Common.{length}
-use Rattle.rulebook.proofs.admission.+is_listed_name.Given as goal
-
-abbrev pub decreases-is_listed_name : goal.decreases-is_listed_name
-decreases-is_listed_name l = length l.accepted.now

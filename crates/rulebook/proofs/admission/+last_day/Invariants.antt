@@ -1,5 +1,0 @@
-use Rattle.std.proofs.Common.{length}
-use Rattle.rulebook.proofs.admission.+last_day.Given as goal
-
-abbrev pub decreases-last_day : goal.decreases-last_day
-decreases-last_day l = length l.accepted.now

@@ -1,5 +1,0 @@
-use Rattle.std.proofs.Common.{length}
-use Rattle.rulebook.proofs.history.+count_today.Given as goal
-
-abbrev pub decreases-count_today : goal.decreases-count_today
-decreases-count_today l = length l.h.now

@@ -1,5 +1,0 @@
-use Rattle.std.proofs.Common.{length}
-use Rattle.rulebook.proofs.history.+now.Given as goal
-
-abbrev pub decreases-now : goal.decreases-now
-decreases-now l = length l.h.now

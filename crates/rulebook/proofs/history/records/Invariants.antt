@@ -1,6 +1,0 @@
-use Rattle.std.proofs.Common.{◌≡◌, ◌++◌, drop}
-use Rattle.rulebook.specs.History.{records}
-use Rattle.rulebook.proofs.history.records.Given as goal
-
-abbrev pub invariant-loop-event : goal.invariant-loop-event
-invariant-loop-event l = l.accepted.items ++ records (drop l.event-index l.h) ≡ records l.h

@@ -1,5 +1,0 @@
-use Rattle.std.proofs.Common.{length}
-use Rattle.rulebook.proofs.market.+day_record.Given as goal
-
-abbrev pub decreases-day_record : goal.decreases-day_record
-decreases-day_record l = length l.h.now

@@ -1,5 +1,0 @@
-use Rattle.std.proofs.Common.{length}
-use Rattle.rulebook.proofs.reference.+history.Given as goal
-
-abbrev pub decreases-history : goal.decreases-history
-decreases-history l = length l.accepted.now
