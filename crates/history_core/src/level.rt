@@ -1,0 +1,90 @@
+// The levels of the market-wide circuit breakers (NYSE Rule 7.12).
+ghost use Rattle.std.specs.Prelude.{◌≡◌};
+ghost use Rattle.breaker_core.specs.Levels.{percent_of, is_brief, is_over, ends, level_reached, may_declare, declares};
+
+use breaker_core::Halt;
+use price_core::{Index, fell};
+use session_core::{Day, Level, Moment, breaker_open, in_session};
+
+/// The decline of the index that reaches a level, in per cent.
+pub fn percent_of(level: Level) -> u32
+    ensures { result ≡ percent_of level }
+{
+    match level {
+        Level::One => 7,
+        Level::Two => 13,
+        Level::Three => 20,
+    }
+}
+
+/// Whether a halt of that level lasts 15 minutes, and not the rest of the day.
+fn is_brief(level: Level) -> bool
+    ensures { result ≡ is_brief level }
+{
+    match level {
+        Level::One | Level::Two => true,
+        Level::Three => false,
+    }
+}
+
+/// Whether a halt is over at a moment.
+fn is_over(t: Moment, halt: Halt) -> bool
+    ensures { result ≡ is_over t halt }
+{
+    is_brief(halt.level) && halt.since.nanos() + 900_000_000_000 <= t.nanos()
+}
+
+/// Whether there is a halt that is over at a moment.
+pub fn ends(t: Moment, halt: Option<Halt>) -> bool
+    ensures { result ≡ ends t halt }
+{
+    match halt {
+        Some(halt) => is_over(t, halt),
+        None => false,
+    }
+}
+
+/// The greatest level that an index value reaches.
+fn level_reached(value: Index, close: Index) -> Option<Level>
+    ensures { result ≡ level_reached value close }
+{
+    if fell(value, close, 20) {
+        Some(Level::Three)
+    } else if fell(value, close, 13) {
+        Some(Level::Two)
+    } else if fell(value, close, 7) {
+        Some(Level::One)
+    } else {
+        None
+    }
+}
+
+/// Whether a level may be declared at a moment, with this halt in effect, where greatest is the percentage of the
+/// greatest level declared today, 0 for none.
+fn may_declare(halt: Option<Halt>, greatest: u32, day: &Day, t: Moment, level: Level) -> bool
+    ensures { result ≡ may_declare halt greatest day.now t level }
+{
+    in_session(t, day)
+        && halt.is_none()
+        && greatest < percent_of(level)
+        && (!is_brief(level) || breaker_open(t, day))
+}
+
+/// The level that an index value declares at a moment.
+pub fn declares(
+    halt: Option<Halt>,
+    greatest: u32,
+    close: Index,
+    day: &Day,
+    t: Moment,
+    value: Index,
+) -> Option<Level>
+    ensures { result ≡ declares halt greatest close day.now t value }
+{
+    let level = level_reached(value, close)?;
+    if may_declare(halt, greatest, day, t, level) {
+        Some(level)
+    } else {
+        None
+    }
+}

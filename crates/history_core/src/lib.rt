@@ -1,0 +1,20 @@
+//! What a history says, of the records, of the market and of one symbol: each value is found by searching back from the
+//! newest event.
+#![tactic(auto)]
+
+mod admission;
+mod auction;
+mod history;
+mod level;
+mod market;
+mod runs;
+mod symbol;
+mod trades;
+
+pub use admission::{id_of, is_day, is_listed, names, symbol_of, verdict};
+pub use auction::{indication, is_paused, last_round, origin, origin_of};
+pub use history::{before_step, messages, now, open_step, records, with_first};
+pub use market::{day_record, declare_at, is_stopped, is_tick, resume_at};
+pub use runs::{adopted, begins_trading, begun, last_band, quote};
+pub use symbol::{close_of, is_halted, phase, prior_close, since, terms, was_straddling};
+pub use trades::{mean, opening_price, traded_price};
