@@ -1,0 +1,104 @@
+-- Messages one after the other, and a rule that gives them.
+use Rattle.std.specs.Prelude.{if◌then◌else◌}
+use Rattle.session_core.specs.declared.state.Phase.{Phase}
+use Rattle.std.proofs.Common.{◌≡◌, ℕ, Bool, false, List, [], ◌∷◌, ◌++◌, refl, sym, ap, ◌∙◌, append_assoc, subst}
+use Rattle.wire_out.specs.declared.message.Message.{Message}
+use Rattle.rulebook.specs.Book.{context, obeyed, all_obeyed}
+use Rattle.pause_core.specs.Phases.{is_done}
+use Rattle.rulebook.specs.declared.event.Event.{Event}
+use Rattle.rulebook.specs.declared.event.Event.TheVariants.{Published}
+use Rattle.rulebook.specs.History.{publish}
+use Rattle.rulebook.specs.Rules.{Context}
+use Rattle.window_core.specs.declared.window.Deal.{Deal}
+use Rattle.rulebook.specs.Symbol.{phase}
+use Rattle.symbol_core.specs.declared.kept.Kept.{Kept}
+use Rattle.symbol_core.specs.declared.kept.Step.{Step}
+use Rattle.symbol_core.specs.Stands.{named, Stands, Says, Obeys, ObeysWith, ObeysAll}
+
+pub publish-append : (a b : List Message) (h : List Event) → publish (a ++ b) h ≡ publish b (publish a h)
+publish-append [] b h = refl
+publish-append (m ∷ a) b h = publish-append a b (Published m ∷ h)
+
+-- these messages, then those
+pub both : {a b : List Message} {step : Step} {old mid new : Kept} {before between after : List Message} → Says a step old mid before between → Says b step mid new between after → Says (a ++ b) step old new before after
+both {a} {b} {step} {old} {mid} {new} {before} {between} {after} first second =
+    record {
+      items = second.items ∙ ap (λ (xs : List Message). xs ++ b) first.items ∙ append_assoc before a b;
+      stands = λ mine deals h s. rw (publish-append a b h) (second.stands mine deals (publish a h) (first.stands mine deals h s));
+      id = second.id ∙ first.id;
+    }
+
+-- nothing
+pub none : (step : Step) (k : Kept) (before : List Message) → Says [] step k k before before
+none step k before = record { items = append-nil-sym before; stands = λ mine deals h s. s; id = refl }
+  where
+    append-nil-sym : (xs : List Message) → xs ≡ xs ++ []
+    append-nil-sym [] = refl
+    append-nil-sym (x ∷ xs) = ap (λ (ys : List Message). x ∷ ys) (append-nil-sym xs)
+
+-- a rule of a symbol that is not closed
+open_gives : (mine : List ℕ → Bool) (rule : Context → List Message) (ms : List Message) (step : Step) (k : Kept) (deals : List Deal) (h : List Event) → is_done k.phase ≡ false → Stands mine k deals step h → rule (context step.day (named mine k.id) step.input h) ≡ ms → obeyed step.day (named mine k.id) step.input rule h ≡ ms
+open_gives mine rule ms step k deals h open_is s e = ap (λ (b : Bool). if b then [] else rule (context step.day (named mine k.id) step.input h)) (sym (ap (λ (p : Phase). is_done p) s.phase) ∙ open_is) ∙ e
+
+-- these messages, then those of the same symbol
+pub then_of : {a : List Message} (b : ℕ → List Message) {step : Step} {old mid new : Kept} {before between after : List Message} → Says a step old mid before between → Says (b mid.id) step mid new between after → Says (a ++ b old.id) step old new before after
+then_of {a} b {step} {old} {mid} {new} {before} {between} {after} first second = both first (subst (λ (i : ℕ). Says (b i) step mid new between after) first.id second)
+
+-- a rule that gives these messages is obeyed
+pub obeys : (rule : Context → List Message) {ms : List Message} {step : Step} {old new : Kept} {before after : List Message} → is_done old.phase ≡ false → Says ms step old new before after
+    → ((mine : List ℕ → Bool) (deals : List Deal) (h : List Event) → Stands mine old deals step h → rule (context step.day (named mine old.id) step.input h) ≡ ms) → Obeys rule step old new before after
+obeys rule {ms} {step} {old} {new} {before} {after} open_is said gives =
+    record {
+      says = λ mine deals h s. said.items ∙ ap (λ (xs : List Message). before ++ xs) (sym (open_gives mine rule ms step old deals h open_is s (gives mine deals h s)));
+      stands = λ mine deals h s. rw (open_gives mine rule ms step old deals h open_is s (gives mine deals h s)) (said.stands mine deals h s);
+      id = said.id;
+    }
+
+-- the same where the test of a closed symbol is made with the messages
+pub obeys_open : (rule : Context → List Message) {ms : List Message} {step : Step} {old new : Kept} {before after : List Message} → Says (if is_done old.phase then [] else ms) step old new before after
+    → ((mine : List ℕ → Bool) (deals : List Deal) (h : List Event) → Stands mine old deals step h → rule (context step.day (named mine old.id) step.input h) ≡ ms) → Obeys rule step old new before after
+obeys_open rule {ms} {step} {old} {new} {before} {after} said gives =
+    record {
+      says = λ mine deals h s. said.items ∙ ap (λ (xs : List Message). before ++ xs) (sym (gives_open mine deals h s));
+      stands = λ mine deals h s. rw (gives_open mine deals h s) (said.stands mine deals h s);
+      id = said.id;
+    }
+  where
+    gives_open : (mine : List ℕ → Bool) (deals : List Deal) (h : List Event) → Stands mine old deals step h → obeyed step.day (named mine old.id) step.input rule h ≡ (if is_done old.phase then [] else ms)
+    gives_open mine deals h s =
+        ap (λ (xs : List Message). if is_done (phase h old.id) then [] else xs) (gives mine deals h s)
+        ∙ ap (λ (p : Phase). if is_done p then [] else ms) (sym s.phase)
+
+pub obeys_with : (deals : List Deal) (rule : Context → List Message) {ms : List Message} {step : Step} {old new : Kept} {before after : List Message} → is_done old.phase ≡ false → Says ms step old new before after
+    → ((mine : List ℕ → Bool) (h : List Event) → Stands mine old deals step h → rule (context step.day (named mine old.id) step.input h) ≡ ms) → ObeysWith deals rule step old new before after
+obeys_with deals rule {ms} {step} {old} {new} {before} {after} open_is said gives =
+    record {
+      says = λ mine h s. said.items ∙ ap (λ (xs : List Message). before ++ xs) (sym (open_gives mine rule ms step old deals h open_is s (gives mine h s)));
+      stands = λ mine h s. rw (open_gives mine rule ms step old deals h open_is s (gives mine h s)) (said.stands mine deals h s);
+      id = said.id;
+    }
+
+-- one rule reads the kept deals as the others do
+pub with_deals : (deals : List Deal) {rule : Context → List Message} {step : Step} {old new : Kept} {before after : List Message} → Obeys rule step old new before after → ObeysWith deals rule step old new before after
+with_deals deals o = record { says = λ mine. o.says mine deals; stands = λ mine. o.stands mine deals; id = o.id }
+
+-- a rule, then others
+pub next : {deals : List Deal} {rule : Context → List Message} {later : List (Context → List Message)} {step : Step} {old mid new : Kept} {before between after : List Message}
+    → ObeysWith deals rule step old mid before between → ObeysAll deals later step mid new between after → ObeysAll deals (rule ∷ later) step old new before after
+next {deals} {rule} {later} {step} {old} {mid} {new} {before} {between} {after} first rest =
+    record {
+      says = λ mine h s.
+          let ms = obeyed step.day (named mine old.id) step.input rule h in
+          rest.says mine (publish ms h) (first.stands mine h s)
+          ∙ ap (λ (i : ℕ). between ++ all_obeyed step.day (named mine i) step.input later (publish ms h)) first.id
+          ∙ ap (λ (xs : List Message). xs ++ all_obeyed step.day (named mine old.id) step.input later (publish ms h)) (first.says mine h s)
+          ∙ append_assoc before ms (all_obeyed step.day (named mine old.id) step.input later (publish ms h));
+      stands = λ mine h s.
+          let ms = obeyed step.day (named mine old.id) step.input rule h in
+          subst (Stands mine new deals step) (sym (publish-append ms (all_obeyed step.day (named mine old.id) step.input later (publish ms h)) h))
+          (subst (λ (i : ℕ). Stands mine new deals step (publish (all_obeyed step.day (named mine i) step.input later (publish ms h)) (publish ms h))) first.id (rest.stands mine (publish ms h) (first.stands mine h s)));
+      id = rest.id ∙ first.id;
+    }
+
+pub last : (deals : List Deal) (step : Step) (k : Kept) (before : List Message) → ObeysAll deals [] step k k before before
+last deals step k before = record { says = λ mine h s. (none step k before).items; stands = λ mine h s. s; id = refl }

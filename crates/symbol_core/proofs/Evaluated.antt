@@ -1,0 +1,124 @@
+-- A record is evaluated.
+use Rattle.std.proofs.Common.{◌≡◌, ℕ, Bool, true, false, List, [], ◌∷◌, ◌++◌, refl, sym, ap, ◌∙◌, subst}
+use Rattle.std.specs.Prelude.{Option, if◌then◌else◌, ◌&&◌, not, is_some}
+use Rattle.wire_in.specs.declared.record.Record.{Record}
+use Rattle.wire_in.specs.declared.record.Record.TheVariants as in_
+use Rattle.wire_in.specs.Records.{is_day, is_tick, moment_of}
+use Rattle.wire_out.specs.declared.message.Message.{Message}
+use Rattle.window_core.specs.declared.window.Deal.{Deal}
+use Rattle.rulebook.specs.declared.event.Event.{Event}
+use Rattle.rulebook.specs.declared.event.Event.TheVariants.{Accepted}
+use Rattle.rulebook.specs.declared.symbol.Terms.{Terms}
+use Rattle.rulebook.specs.History.{records}
+use Rattle.rulebook.specs.Symbol.{terms, terms_in}
+use Rattle.rulebook.proofs.Histories.{records-publish}
+use Rattle.symbol_core.specs.declared.kept.Kept.{Kept}
+use Rattle.symbol_core.specs.declared.kept.Step.{Step}
+use Rattle.symbol_core.specs.declared.symbol.MarketView.{MarketView}
+use Rattle.symbol_core.specs.Evaluates.{Evaluates, Opens, open_history, part_of, step_of}
+use Rattle.symbol_core.specs.Rests.{Held, Rests}
+use Rattle.symbol_core.specs.Silent.{IsOfOthers}
+use Rattle.symbol_core.specs.Stands.{named}
+use Rattle.symbol_core.specs.Steps.{Starts, Steps}
+use Rattle.symbol_core.proofs.Resting.{rests-apart}
+
+-- a clock or an index tick, while this listing isn't there
+abbrev away : Record → Option Terms → Bool
+away x listed = is_tick x && not (is_some listed)
+
+away-record : (mine : List ℕ → Bool) (x : Record) (r : List Record) → away x (terms_in mine (x ∷ r)) ≡ away x (terms_in mine r)
+away-record mine (in_.Day t d c) r = refl
+away-record mine (in_.Listing t n k l c) r = refl
+away-record mine (in_.Trade t i n p q f) r = refl
+away-record mine (in_.Cancel t i n) r = refl
+away-record mine (in_.Quote t i b p x y) r = refl
+away-record mine (in_.IndexTick t v) r = refl
+away-record mine (in_.Clock t) r = refl
+away-record mine (in_.Notice t i k) r = refl
+away-record mine (in_.Indication t i p u) r = refl
+
+-- the same in the open history as in what is kept
+away-open : (mine : List ℕ → Bool) (held : Held) (x : Record) (others : List Message) (h : List Event) → Rests mine held h → away x (terms (open_history x others h) mine) ≡ away x held.kept.terms
+away-open mine held x others h r =
+    ap (λ (e : List Record). away x (terms_in mine e)) (records-publish others (Accepted x ∷ h))
+    ∙ away-record mine x (records h)
+    ∙ ap (λ (o : Option Terms). away x o) (sym r.terms)
+
+-- the step of a record
+abbrev pub step_for : MarketView → Record → Step
+step_for market x = record { moment = moment_of x; day = market.day; stopped = market.stopped; input = x }
+
+starts : (mine : List ℕ → Bool) (held : Held) (market : MarketView) (x : Record) (others : List Message) (h : List Event) → Opens mine held market x others h
+    → Starts mine held.kept held.deals (step_for market x) others h
+starts mine held market x others h p =
+    record { rests = p.rests; silent = p.silent; no_day = p.no_day; name = p.name; index = p.index; day = p.day; moment = refl; stopped = p.stopped; later = p.later }
+
+pub step-evaluated : (market : MarketView) (x : Record) (held new : Held) (before after : List Message) → is_day x ≡ false → away x held.kept.terms ≡ false
+    → Steps (step_for market x) held.kept new.kept held.deals new.deals before after → Evaluates market x held new before after
+step-evaluated market x held new before after no_day here s =
+    record {
+      says = λ mine others h p.
+          s.says mine others h (starts mine held market x others h p) ∙ ap (λ (ms : List Message). before ++ ms) (sym (part_is mine others h p));
+      rests = λ mine others h p. rw (part_is mine others h p) (s.rests mine others h (starts mine held market x others h p));
+      says_no_day = λ e. let e2 : true ≡ false = sym e ∙ no_day in cc;
+      begins = λ e mine h r. let e2 : true ≡ false = sym e ∙ no_day in cc;
+      id = s.id;
+    }
+  where
+    part_is : (mine : List ℕ → Bool) (others : List Message) (h : List Event) → Opens mine held market x others h
+        → part_of market.day (named mine held.kept.id) x (open_history x others h) ≡ step_of market.day (named mine held.kept.id) x (open_history x others h)
+    part_is mine others h p =
+        ap (λ (b : Bool). if b then [] else step_of market.day (named mine held.kept.id) x (open_history x others h)) (away-open mine held x others h p.rests ∙ here)
+
+-- a tick is of nobody
+tick-others : (mine : List ℕ → Bool) (s : ℕ) (x : Record) (listed : Option Terms) → away x listed ≡ true → IsOfOthers mine s x
+tick-others mine s (in_.Day t d c) o e = cc
+tick-others mine s (in_.Listing t n k l c) o e = cc
+tick-others mine s (in_.Trade t i n p q f) o e = cc
+tick-others mine s (in_.Cancel t i n) o e = cc
+tick-others mine s (in_.Quote t i b p x y) o e = cc
+tick-others mine s (in_.IndexTick t v) o e = record { symbol = refl; name = refl }
+tick-others mine s (in_.Clock t) o e = record { symbol = refl; name = refl }
+tick-others mine s (in_.Notice t i k) o e = cc
+tick-others mine s (in_.Indication t i p u) o e = cc
+
+tick-no_day : (x : Record) (listed : Option Terms) → away x listed ≡ true → is_day x ≡ false
+tick-no_day (in_.Day t d c) o e = cc
+tick-no_day (in_.Listing t n k l c) o e = refl
+tick-no_day (in_.Trade t i n p q f) o e = refl
+tick-no_day (in_.Cancel t i n) o e = refl
+tick-no_day (in_.Quote t i b p x y) o e = refl
+tick-no_day (in_.IndexTick t v) o e = refl
+tick-no_day (in_.Clock t) o e = refl
+tick-no_day (in_.Notice t i k) o e = refl
+tick-no_day (in_.Indication t i p u) o e = refl
+
+append_nothing : (xs : List Message) → xs ≡ xs ++ []
+append_nothing [] = refl
+append_nothing (x ∷ xs) = ap (λ (ys : List Message). x ∷ ys) (append_nothing xs)
+
+-- a tick of a day on which it isn't listed
+pub evaluated-away : (market : MarketView) (x : Record) (held : Held) (before : List Message) → away x held.kept.terms ≡ true → Evaluates market x held held before before
+evaluated-away market x held before is_away =
+    record {
+      says = λ mine others h p. append_nothing before ∙ ap (λ (ms : List Message). before ++ ms) (sym (part_is mine others h p));
+      rests = λ mine others h p. rw (part_is mine others h p) (rests-apart mine held x others h p.no_day (tick-others mine held.kept.id x held.kept.terms is_away) p.silent p.later p.rests);
+      says_no_day = λ e. refl;
+      begins = λ e mine h r. let e2 : true ≡ false = sym e ∙ tick-no_day x held.kept.terms is_away in cc;
+      id = refl;
+    }
+  where
+    part_is : (mine : List ℕ → Bool) (others : List Message) (h : List Event) → Opens mine held market x others h → part_of market.day (named mine held.kept.id) x (open_history x others h) ≡ []
+    part_is mine others h p =
+        ap (λ (b : Bool). if b then [] else step_of market.day (named mine held.kept.id) x (open_history x others h)) (away-open mine held x others h p.rests ∙ is_away)
+
+-- the same, over what the code has
+pub step-obeyed : (market : MarketView) (x : Record) (held : Held) (k : Kept) (kept lent : List Deal) (new : Held) (before got after : List Message) (t : ℕ) → record { kept = k; deals = kept } ≡ held → t ≡ moment_of x → lent ≡ kept → got ≡ before
+    → is_day x ≡ false → away x held.kept.terms ≡ false
+    → Steps (record { moment = t; day = market.day; stopped = market.stopped; input = x }) k new.kept lent new.deals got after → Evaluates market x held new before after
+step-obeyed market x held k kept lent new before got after t v m l g no_day here s =
+    step-evaluated market x held new before after no_day here
+    (subst (λ (a : Held). Steps (step_for market x) a.kept new.kept a.deals new.deals before after) v
+    (subst (λ (u : ℕ). Steps (record { moment = u; day = market.day; stopped = market.stopped; input = x }) k new.kept kept new.deals before after) m
+    (subst (λ (ds : List Deal). Steps (record { moment = t; day = market.day; stopped = market.stopped; input = x }) k new.kept ds new.deals before after) l
+    (subst (λ (ms : List Message). Steps (record { moment = t; day = market.day; stopped = market.stopped; input = x }) k new.kept lent new.deals ms after) g s))))

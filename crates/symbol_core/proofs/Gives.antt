@@ -1,0 +1,106 @@
+-- What a rule gives at a history for which the symbol stands, by the kept state.
+use Rattle.std.proofs.Common.{◌≡◌, ℕ, Bool, List, [], ◌∷◌, refl, sym, ap, ◌∙◌}
+use Rattle.std.specs.Prelude.{Option, if◌then◌else◌}
+use Rattle.std.proofs.Math.Nat.{le_refl}
+use Rattle.session_core.specs.declared.state.Phase.{Phase}
+use Rattle.wire_in.specs.declared.record.Record.{Record}
+use Rattle.wire_in.specs.declared.record.Record.TheVariants as in_
+use Rattle.wire_out.specs.declared.message.Message.{Message}
+use Rattle.wire_out.specs.declared.message.Message.TheVariants as out
+use Rattle.wire_out.specs.declared.message.ShortKind.TheVariants.{Carried}
+use Rattle.pause_core.specs.declared.turning.Brakes.{Brakes}
+use Rattle.window_core.specs.declared.window.Deal.{Deal}
+use Rattle.window_core.specs.Deals.{live, mean_of}
+use Rattle.rulebook.specs.declared.event.Event.{Event}
+use Rattle.rulebook.specs.Auction as auction
+use Rattle.rulebook.specs.Book.{announced, context}
+use Rattle.rulebook.specs.History.{now, today}
+use Rattle.rulebook.specs.Market.{is_stopped}
+use Rattle.rulebook.specs.Rules as rules
+use Rattle.rulebook.specs.Symbol as of
+use Rattle.symbol_core.specs.declared.kept.Kept.{Kept}
+use Rattle.symbol_core.specs.declared.kept.Step.{Step}
+use Rattle.symbol_core.specs.Kept.{announcing, pausing, reopening, restricting, straddling, turning}
+use Rattle.symbol_core.specs.Pricing.{banding}
+use Rattle.symbol_core.specs.Stands.{named, Stands}
+use Rattle.symbol_core.specs.Window.{window}
+
+-- the kept state that a history tells
+abbrev pub told : (List ℕ → Bool) → Kept → Step → List Event → Kept
+told mine k step h =
+    let s = k.id in
+    record {
+      id = s;
+      terms = of.terms h mine;
+      phase = of.phase h s;
+      since = of.since h s;
+      begun = of.begun_in s (today h);
+      quote = of.quote h s;
+      band = of.last_band h s;
+      adopted = of.adopted h s;
+      straddling = of.was_straddling h s;
+      halted = of.is_halted h s;
+      round = auction.last_round h s;
+      origin = auction.origin h s;
+      indication = auction.indication h s;
+      triggered = rules.has_triggered (context step.day (named mine s) step.input h);
+      carried = rules.is_carried h mine s;
+      left_limit = rules.has_left_limit h s;
+      released = rules.released h s;
+      deal = k.deal;
+      is_fresh = k.is_fresh;
+    }
+
+pub stands-told : (mine : List ℕ → Bool) (k : Kept) (step : Step) (deals : List Deal) (h : List Event) → Stands mine k deals step h → k ≡ told mine k step h
+stands-told mine k step deals h s = rw (← s.terms, ← s.phase, ← s.since, ← s.begun, ← s.quote, ← s.band, ← s.adopted, ← s.straddling, ← s.halted, ← s.round, ← s.origin, ← s.indication, ← s.triggered, ← s.carried, ← s.left_limit, ← s.released)
+
+-- a rule that reads the kept state, the moment and the market's halt
+pub by_kept : (rule : Kept → Step → List Message) (mine : List ℕ → Bool) (k : Kept) (step : Step) (deals : List Deal) (h : List Event) → Stands mine k deals step h
+    → rule (told mine k step h) (record step { moment = now h; stopped = is_stopped h }) ≡ rule k step
+by_kept rule mine k step deals h s =
+    ap (λ (t : ℕ). rule (told mine k step h) (record step { moment = t; stopped = is_stopped h })) (sym s.moment)
+    ∙ ap (λ (b : Bool). rule (told mine k step h) (record step { stopped = b })) (sym s.stopped)
+    ∙ ap (λ (l : Kept). rule l step) (sym (stands-told mine k step deals h s))
+
+pub turned-gives : (rule : Phase → Brakes → Option Phase) (k : Kept) (step : Step) (mine : List ℕ → Bool) (deals : List Deal) (h : List Event) → Stands mine k deals step h
+    → rules.turned rule (context step.day (named mine k.id) step.input h) ≡ turning rule k step
+turned-gives rule k step mine deals h s = by_kept (turning rule) mine k step deals h s
+
+pub reopen-gives : (k : Kept) (step : Step) (mine : List ℕ → Bool) (deals : List Deal) (h : List Event) → Stands mine k deals step h
+    → rules.reopen (context step.day (named mine k.id) step.input h) ≡ reopening k step
+reopen-gives k step mine deals h s = by_kept reopening mine k step deals h s
+
+pub banding-gives : (mean : Option ℕ) (k : Kept) (step : Step) (mine : List ℕ → Bool) (deals : List Deal) (h : List Event) → Stands mine k deals step h
+    → of.mean step.day h k.id ≡ mean → rules.publish_band (context step.day (named mine k.id) step.input h) ≡ banding mean k step
+banding-gives mean k step mine deals h s e =
+    by_kept (banding (of.mean step.day h k.id)) mine k step deals h s ∙ ap (λ (m : Option ℕ). banding m k step) e
+
+-- the mean of the history is that of the window
+pub mean-gives : (k : Kept) (step : Step) (mine : List ℕ → Bool) (deals : List Deal) (h : List Event) → Stands mine k deals step h
+    → of.mean step.day h k.id ≡ mean_of (live step.moment (window k deals))
+mean-gives k step mine deals h s =
+    ap (λ (ds : List Deal). mean_of ds) (sym (s.window.at (now h) (le_refl (now h))))
+    ∙ ap (λ (t : ℕ). mean_of (live t (window k deals))) (sym s.moment)
+
+pub straddle-gives : (k : Kept) (step : Step) (mine : List ℕ → Bool) (deals : List Deal) (h : List Event) → Stands mine k deals step h
+    → rules.straddle (context step.day (named mine k.id) step.input h) ≡ straddling k step
+straddle-gives k step mine deals h s = by_kept straddling mine k step deals h s
+
+pub restrict-gives : (k : Kept) (step : Step) (mine : List ℕ → Bool) (deals : List Deal) (h : List Event) → Stands mine k deals step h
+    → rules.restrict (context step.day (named mine k.id) step.input h) ≡ restricting k step
+restrict-gives k step mine deals h s = by_kept restricting mine k step deals h s
+
+pub pause-gives : (k : Kept) (step : Step) (mine : List ℕ → Bool) (deals : List Deal) (h : List Event) → Stands mine k deals step h
+    → rules.pause (context step.day (named mine k.id) step.input h) ≡ pausing k step
+pause-gives k step mine deals h s = by_kept pausing mine k step deals h s
+
+pub announced-gives : (k : Kept) (step : Step) (mine : List ℕ → Bool) (deals : List Deal) (h : List Event) (x : Record) → Stands mine k deals step h → announced (named mine k.id) x h ≡ announcing k x
+announced-gives k step mine deals h (in_.Day t d c) s = refl
+announced-gives k step mine deals h (in_.Listing t name l m c) s = ap (λ (b : Bool). if b then out.Listed k.id name ∷ out.Short k.id Carried ∷ [] else out.Listed k.id name ∷ []) (sym s.carried)
+announced-gives k step mine deals h (in_.Trade t i n p q f) s = refl
+announced-gives k step mine deals h (in_.Cancel t i n) s = refl
+announced-gives k step mine deals h (in_.Quote t i b o x y) s = refl
+announced-gives k step mine deals h (in_.IndexTick t v) s = refl
+announced-gives k step mine deals h (in_.Clock t) s = refl
+announced-gives k step mine deals h (in_.Notice t i n) s = refl
+announced-gives k step mine deals h (in_.Indication t i p u) s = refl

@@ -1,0 +1,15 @@
+pub mod Histories
+pub mod Deals
+pub mod Phases
+pub mod Messages
+pub mod Chains
+pub mod Gives
+pub mod Apart
+pub mod Live
+pub mod Cancels
+pub mod Taken
+pub mod Finished
+pub mod Steps
+pub mod Others
+pub mod Resting
+pub mod Evaluated

@@ -1,0 +1,260 @@
+-- A message of the symbol that is no State: the kept state that the code leaves stands for the history with it.
+use Rattle.std.proofs.Common.{◌≡◌, ℕ, ◌+◌, Bool, true, false, List, [], ◌∷◌, ◌++◌, refl, sym, ap, ◌∙◌, subst}
+use Rattle.std.specs.Prelude.{Option, Some, None, if◌then◌else◌, option_map, option_and_then, unwrap_or, is_some, ◌&&◌, ◌||◌, not, option_to_list}
+use Rattle.std.specs.Option.{option_map_or}
+use Rattle.wire_out.specs.declared.message.Message.{Message}
+use Rattle.wire_out.specs.declared.message.ShortKind.{ShortKind}
+use Rattle.rulebook.specs.declared.symbol.Banded.{Banded}
+use Rattle.price_core.specs.declared.quote.Collars.{Collars}
+use Rattle.reopen_core.specs.declared.auction.Round.{Round}
+use Rattle.rulebook.specs.declared.event.Event.{Event}
+use Rattle.rulebook.specs.declared.event.Event.TheVariants.{Accepted, Published}
+use Rattle.rulebook.specs.History.{Found, now, newest, open_step, today, last}
+use Rattle.rulebook.specs.Symbol.{begins_run, quote_in, is_times, deals_in, deals_of}
+use Rattle.window_core.specs.declared.window.Deal.{Deal}
+use Rattle.symbol_core.specs.declared.kept.Kept.{Kept}
+use Rattle.symbol_core.specs.declared.kept.Step.{Step}
+use Rattle.symbol_core.specs.Kept.{straddled, with_round, released, banded, restarts}
+use Rattle.session_core.specs.declared.day.Day.{Day}
+use Rattle.wire_in.specs.declared.record.Record.{Record}
+use Rattle.session_core.specs.Moments.{seconds}
+use Rattle.symbol_core.specs.Window.{SameLive, counted_deal}
+use Rattle.symbol_core.specs.Stands.{Stands}
+use Rattle.symbol_core.proofs.Deals.{deals_from, deals_said, deals_banded, window_begins}
+use Rattle.symbol_core.proofs.Histories.{same, newest-today, newest-run, now-run, begun-run, on_run, last-own, last-other}
+use Rattle.rulebook.proofs.Histories.{now-today}
+use Rattle.wire_out.specs.declared.message.Message.TheVariants as out
+use Rattle.rulebook.specs.Auction as auction
+use Rattle.rulebook.specs.Rules as rules
+use Rattle.rulebook.specs.Symbol as of
+
+-- a message that is neither a State nor a Band leaves what the run has
+pub record RunStays (day : Day) (s : ℕ) (m : Message) (h : List Event) : Type 0 where
+  pub quote : of.quote (Published m ∷ h) s ≡ of.quote h s
+  pub band : of.last_band (Published m ∷ h) s ≡ of.last_band h s
+  pub adopted : of.adopted (Published m ∷ h) s ≡ of.adopted h s
+  pub deals : deals_of day (Published m ∷ h) s ≡ deals_of day h s
+
+pub run_stays : (day : Day) (s : ℕ) (m : Message) (x : Record) (h : List Event) → newest h ≡ Some x → begins_run s m (today h) ≡ false
+    → ((r : List Event) → last (of.band_of s) (Published m ∷ r) ≡ last (of.band_of s) r)
+    → ((r : List Event) → last (of.adoption_of s) (Published m ∷ r) ≡ last (of.adoption_of s) r)
+    → ((t : ℕ) (r : List Event) → deals_from day s t (Published m ∷ r) ≡ deals_from day s t r)
+    → RunStays day s m h
+run_stays day s m x h input e bands adoptions counts =
+    record {
+      quote = on_run (quote_in s) s m h e (λ r. refl);
+      band = on_run (λ r. option_map (λ b. b.value) (last (of.band_of s) r)) s m h e (λ r. ap (λ (o : Option (Found Banded)). option_map (λ b. b.value) o) (bands r));
+      adopted = on_run (λ r. option_map_or (λ b. b.moment) (last (of.adoption_of s) r) 0) s m h e (λ r. ap (λ (o : Option (Found Banded)). option_map_or (λ b. b.moment) o 0) (adoptions r));
+      deals = deals_said day s x m h false e input counts;
+    }
+
+pub stands-straddled : (mine : List ℕ → Bool) (k : Kept) (deals : List Deal) (step : Step) (on : Bool) (h : List Event) → Stands mine k deals step h → Stands mine (straddled k on) deals step (Published (out.Straddle k.id on) ∷ h)
+stands-straddled mine k deals step on h s =
+    record {
+      moment = s.moment;
+      stopped = s.stopped;
+      input = s.input;
+      terms = s.terms;
+      phase = s.phase;
+      since = s.since;
+      begun = s.begun;
+      quote = s.quote ∙ sym run.quote;
+      band = s.band ∙ sym run.band;
+      adopted = s.adopted ∙ sym run.adopted;
+      straddling = sym (ap (λ (o : Option (Found Bool)). option_map_or (λ straddle. straddle.value) o false) last_is);
+      halted = s.halted;
+      round = s.round;
+      origin = s.origin;
+      indication = s.indication;
+      triggered = s.triggered;
+      carried = s.carried;
+      left_limit = s.left_limit;
+      released = s.released;
+      deal = s.deal;
+      window = rw run.deals s.window;
+    }
+  where
+    m : Message
+    m = out.Straddle k.id on
+
+    run : RunStays step.day k.id m h
+    run = run_stays step.day k.id m step.input h s.input refl (λ r. refl) (λ r. refl) (λ t r. refl)
+
+    own : of.straddle_of k.id m ≡ Some on
+    own = rw (same k.id)
+
+    last_is : last (of.straddle_of k.id) (Published m ∷ today h) ≡ Some (record { moment = now (today h); value = on })
+    last_is = last-own (of.straddle_of k.id) m on (today h) own
+
+pub stands-with_round : (mine : List ℕ → Bool) (k : Kept) (deals : List Deal) (step : Step) (r : Round) (h : List Event) → r.moment ≡ step.moment → Stands mine k deals step h
+    → Stands mine (with_round k r) deals step (Published (out.Collar k.id r.number r.collars.lower r.collars.upper) ∷ h)
+stands-with_round mine k deals step r h at s =
+    record {
+      moment = s.moment;
+      stopped = s.stopped;
+      input = s.input;
+      terms = s.terms;
+      phase = s.phase;
+      since = s.since;
+      begun = s.begun;
+      quote = s.quote ∙ sym run.quote;
+      band = s.band ∙ sym run.band;
+      adopted = s.adopted ∙ sym run.adopted;
+      straddling = s.straddling;
+      halted = s.halted;
+      round = ap (λ (t : ℕ). Some (record r { moment = t })) (at ∙ s.moment ∙ sym (now-today h)) ∙ sym (ap (λ (o : Option (Found (ℕ × Collars))). option_map auction.round_of o) last_is);
+      origin = s.origin;
+      indication = s.indication;
+      triggered = s.triggered;
+      carried = s.carried;
+      left_limit = s.left_limit;
+      released = s.released;
+      deal = s.deal;
+      window = rw run.deals s.window;
+    }
+  where
+    m : Message
+    m = out.Collar k.id r.number r.collars.lower r.collars.upper
+
+    run : RunStays step.day k.id m h
+    run = run_stays step.day k.id m step.input h s.input refl (λ r. refl) (λ r. refl) (λ t r. refl)
+
+    own : auction.collar_of k.id m ≡ Some (r.number, r.collars)
+    own = rw (same k.id)
+
+    last_is : last (auction.collar_of k.id) (Published m ∷ today h) ≡ Some (record { moment = now (today h); value = (r.number, r.collars) })
+    last_is = last-own (auction.collar_of k.id) m (r.number, r.collars) (today h) own
+
+pub stands-released : (mine : List ℕ → Bool) (k : Kept) (deals : List Deal) (step : Step) (price : ℕ) (h : List Event) → Stands mine k deals step h → Stands mine (released k price) deals step (Published (out.Release k.id price) ∷ h)
+stands-released mine k deals step price h s =
+    record {
+      moment = s.moment;
+      stopped = s.stopped;
+      input = s.input;
+      terms = s.terms;
+      phase = s.phase;
+      since = s.since;
+      begun = s.begun;
+      quote = s.quote ∙ sym run.quote;
+      band = s.band ∙ sym run.band;
+      adopted = s.adopted ∙ sym run.adopted;
+      straddling = s.straddling;
+      halted = s.halted;
+      round = s.round;
+      origin = s.origin;
+      indication = s.indication;
+      triggered = s.triggered;
+      carried = s.carried;
+      left_limit = s.left_limit;
+      released = sym (ap (λ (o : Option (Found ℕ)). option_map (λ release. release.value) o) last_is);
+      deal = s.deal;
+      window = rw run.deals s.window;
+    }
+  where
+    m : Message
+    m = out.Release k.id price
+
+    run : RunStays step.day k.id m h
+    run = run_stays step.day k.id m step.input h s.input refl (λ r. refl) (λ r. refl) (λ t r. refl)
+
+    own : rules.release_of k.id m ≡ Some price
+    own = rw (same k.id)
+
+    last_is : last (rules.release_of k.id) (Published m ∷ open_step h) ≡ Some (record { moment = now (open_step h); value = price })
+    last_is = last-own (rules.release_of k.id) m price (open_step h) own
+
+pub stands-short : (mine : List ℕ → Bool) (k : Kept) (deals : List Deal) (step : Step) (kind : ShortKind) (h : List Event) → Stands mine k deals step h → Stands mine k deals step (Published (out.Short k.id kind) ∷ h)
+stands-short mine k deals step kind h s =
+    record {
+      moment = s.moment;
+      stopped = s.stopped;
+      input = s.input;
+      terms = s.terms;
+      phase = s.phase;
+      since = s.since;
+      begun = s.begun;
+      quote = s.quote ∙ sym run.quote;
+      band = s.band ∙ sym run.band;
+      adopted = s.adopted ∙ sym run.adopted;
+      straddling = s.straddling;
+      halted = s.halted;
+      round = s.round;
+      origin = s.origin;
+      indication = s.indication;
+      triggered = s.triggered;
+      carried = s.carried;
+      left_limit = s.left_limit;
+      released = s.released;
+      deal = s.deal;
+      window = rw run.deals s.window;
+    }
+  where
+    m : Message
+    m = out.Short k.id kind
+
+    run : RunStays step.day k.id m h
+    run = run_stays step.day k.id m step.input h s.input refl (λ r. refl) (λ r. refl) (λ t r. refl)
+
+pub stands-banded : (mine : List ℕ → Bool) (k : Kept) (deals : List Deal) (step : Step) (b : Banded) (h : List Event) → Stands mine k deals step h → Stands mine (banded k step b) deals step (Published (out.Band k.id b.cause b.reference b.bands.lower b.bands.upper) ∷ h)
+stands-banded mine k deals step b h s =
+    record {
+      moment = s.moment;
+      stopped = s.stopped;
+      input = s.input;
+      terms = s.terms;
+      phase = s.phase;
+      since = s.since;
+      begun = s.begun;
+      quote = s.quote ∙ sym (on_run (quote_in k.id) k.id m h refl (λ r. refl));
+      band = rw (has_run, s.band) (band_run (of.run_in k.id (today h)));
+      adopted = rw (has_run, s.adopted) (adopted_run (of.run_in k.id (today h)) (is_times b.cause) refl (λ r e. s.moment ∙ sym (now-run k.id h r e)));
+      straddling = s.straddling;
+      halted = s.halted;
+      round = s.round;
+      origin = s.origin;
+      indication = s.indication;
+      triggered = s.triggered;
+      carried = s.carried;
+      left_limit = s.left_limit;
+      released = s.released;
+      deal = s.deal;
+      window = rw (deals_is) (subst (λ (own : List Deal). SameLive (now h) ((if (is_some k.begun && restarts k step) || k.is_fresh then [] else deals) ++ own) (if is_some k.begun && restarts k step then deals_in step.day k.id [] (Accepted step.input ∷ []) else deals_of step.day h k.id)) (own_is k.begun (restarts k step)) (window_begins (now h) (is_some k.begun && restarts k step) k.is_fresh deals (option_to_list k.deal) (counted_deal k) (deals_in step.day k.id [] (Accepted step.input ∷ [])) (deals_of step.day h k.id) s.deal s.window));
+    }
+  where
+    m : Message
+    m = out.Band k.id b.cause b.reference b.bands.lower b.bands.upper
+
+    own : of.band_of k.id m ≡ Some b
+    own = rw (same k.id)
+
+    has_run : is_some k.begun ≡ is_some (of.run_in k.id (today h))
+    has_run = ap (λ (o : Option ℕ). is_some o) s.begun ∙ begun-run k.id (today h)
+
+    band_run : (o : Option (List Event)) → (if is_some o then Some b else option_map (λ b. b.value) (last (of.band_of k.id) (unwrap_or o []))) ≡ option_map (λ b. b.value) (last (of.band_of k.id) (unwrap_or (option_map (λ r. Published m ∷ r) o) []))
+    band_run None = refl
+    band_run (Some r) = sym (ap (λ (o : Option (Found Banded)). option_map (λ b. b.value) o) (last-own (of.band_of k.id) m b r own))
+
+    adoption : (times : Bool) → is_times b.cause ≡ times → of.adoption_of k.id m ≡ (if times then None else Some b)
+    adoption times e = ap (λ (o : Option Banded). option_and_then (λ b. if is_times b.cause then None else Some b) o) own ∙ ap (λ (t : Bool). if t then None else Some b) e
+
+    adopted_run : (o : Option (List Event)) (times : Bool) → is_times b.cause ≡ times → ((r : List Event) → o ≡ Some r → step.moment ≡ now r)
+        → (if is_some o && not (is_times b.cause) then step.moment else option_map_or (λ b. b.moment) (last (of.adoption_of k.id) (unwrap_or o [])) 0)
+        ≡ option_map_or (λ b. b.moment) (last (of.adoption_of k.id) (unwrap_or (option_map (λ r. Published m ∷ r) o) [])) 0
+    adopted_run None times e at = refl
+    adopted_run (Some r) true e at = rw e (sym (ap (λ (o : Option (Found Banded)). option_map_or (λ b. b.moment) o 0) (last-other (of.adoption_of k.id) m r (adoption true e))))
+    adopted_run (Some r) false e at = rw e (at r refl ∙ sym (ap (λ (o : Option (Found Banded)). option_map_or (λ b. b.moment) o 0) (last-own (of.adoption_of k.id) m b r (adoption false e))))
+
+    input_is : option_map_or newest (of.run_in k.id (today h)) (Some step.input) ≡ Some step.input
+    input_is = subst (λ (o : Option Record). option_map_or newest (of.run_in k.id (today h)) o ≡ o) (newest-today h ∙ s.input) (newest-run k.id (today h))
+
+    deals_is : deals_of step.day (Published m ∷ h) k.id ≡ (if is_some k.begun && restarts k step then deals_in step.day k.id [] (Accepted step.input ∷ []) else deals_of step.day h k.id)
+    deals_is =
+        deals_banded step.day k.id (of.begun h k.id + seconds 300) step.input m b (of.run_in k.id (today h)) own input_is
+        ∙ ap (λ (v : Bool). if v && (not (is_some (of.last_band h k.id)) && of.opens_before step.day k.id (of.begun h k.id + seconds 300) step.input) then deals_in step.day k.id [] (Accepted step.input ∷ []) else deals_of step.day h k.id) (sym has_run)
+        ∙ ap (λ (o : Option Banded). if is_some k.begun && (not (is_some o) && of.opens_before step.day k.id (of.begun h k.id + seconds 300) step.input) then deals_in step.day k.id [] (Accepted step.input ∷ []) else deals_of step.day h k.id) (sym s.band)
+        ∙ ap (λ (o : Option ℕ). if is_some k.begun && (not (is_some k.band) && of.opens_before step.day k.id (unwrap_or o 0 + seconds 300) step.input) then deals_in step.day k.id [] (Accepted step.input ∷ []) else deals_of step.day h k.id) (sym s.begun)
+
+    own_is : (o : Option ℕ) (r : Bool) → (if is_some o && r then option_to_list k.deal else (if is_some o then option_to_list k.deal else [])) ≡ (if is_some o then option_to_list k.deal else [])
+    own_is None r = refl
+    own_is (Some t) true = refl
+    own_is (Some t) false = refl

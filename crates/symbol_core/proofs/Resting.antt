@@ -1,0 +1,226 @@
+-- A symbol goes on resting: at a record of others, at further messages of others, at a new day, and before its first listing.
+use Rattle.std.proofs.Common.{◌≡◌, ℕ, ◌+◌, ◌≤◌, Bool, true, false, List, [], ◌∷◌, refl, sym, ap, ◌∙◌, subst}
+use Rattle.std.specs.Prelude.{Option, Some, None, if◌then◌else◌, option_map, option_and_then, unwrap_or, ◌&&◌, not, is_some}
+use Rattle.std.specs.Option.{option_map_or}
+use Rattle.price_core.specs.declared.quote.Collars.{Collars}
+use Rattle.price_core.specs.declared.quote.Quotation.{Quotation}
+use Rattle.session_core.specs.declared.day.Day.{Day}
+use Rattle.session_core.specs.declared.state.Phase.{Phase}
+use Rattle.session_core.specs.declared.state.Phase.TheVariants.{Shut}
+use Rattle.session_core.specs.Moments.{seconds}
+use Rattle.wire_in.specs.declared.record.Record.{Record}
+use Rattle.wire_in.specs.declared.record.Record.TheVariants as in_
+use Rattle.wire_in.specs.Records.{is_day, moment_of}
+use Rattle.wire_out.specs.declared.message.Message.{Message}
+use Rattle.pause_core.specs.Phases.{is_limit, is_trading}
+use Rattle.window_core.specs.declared.window.Deal.{Deal}
+use Rattle.window_core.specs.Deals.{live}
+use Rattle.reopen_core.specs.declared.auction.Indication.{Indication}
+use Rattle.rulebook.specs.declared.event.Event.{Event}
+use Rattle.rulebook.specs.declared.event.Event.TheVariants.{Accepted, Published}
+use Rattle.rulebook.specs.declared.symbol.Banded.{Banded}
+use Rattle.rulebook.specs.Auction as auction
+use Rattle.rulebook.specs.History.{Found, last, newest, now, publish, records, step_record, today}
+use Rattle.rulebook.specs.Market.{day_record}
+use Rattle.rulebook.specs.Rules as rules
+use Rattle.rulebook.specs.Rules.{or_else}
+use Rattle.rulebook.specs.Symbol as of
+use Rattle.rulebook.specs.Symbol.{begins_run, counted_in, deals_in, deals_of, is_halted_in, is_times, phase_in, quote_in}
+use Rattle.symbol_core.specs.Rests.{Held, Rests, deals_today}
+use Rattle.symbol_core.specs.Silent.{AllSilent, IsOfOthers, IsSilent, SaysNothing}
+use Rattle.symbol_core.specs.Taken.{renewed}
+use Rattle.symbol_core.specs.Window.{SameLive}
+use Rattle.symbol_core.proofs.Deals.{deals_from}
+use Rattle.symbol_core.proofs.Histories.{begun-run, last-other, of_begun, on_run}
+use Rattle.symbol_core.proofs.Live.{same_later}
+use Rattle.symbol_core.proofs.Others.{deals-others, halted-others, indicated-others, quoted-others, terms-others, triggered-others}
+use Rattle.symbol_core.proofs.Steps.{day_record-after}
+use Rattle.symbol_core.proofs.Taken.{halted-taken, quote-taken, run_taken}
+
+-- one more message that says nothing of it
+rests-message : (mine : List ℕ → Bool) (held : Held) (m : Message) (h : List Event) → IsSilent held.kept.id m → Rests mine held h → Rests mine held (Published m ∷ h)
+rests-message mine held m h q r =
+    record {
+      terms = r.terms;
+      phase = r.phase ∙ sym (ap (λ (o : Option (Found Phase)). option_map_or (λ state. state.value) o Shut) state_is);
+      since = r.since ∙ sym (ap (λ (o : Option (Found Phase)). option_map_or (λ state. state.moment) o 0) state_is);
+      begun = r.begun ∙ ap (λ (b : Bool). if b then Some (now (today h)) else of.begun_in s (today h)) (sym none_begins);
+      quote = r.quote ∙ sym (on_run (quote_in s) s m h none_begins (λ e. refl));
+      band = r.band ∙ sym (on_run (λ e. option_map (λ b. b.value) (last (of.band_of s) e)) s m h none_begins (λ e. ap (λ (o : Option (Found Banded)). option_map (λ b. b.value) o) (last-other (of.band_of s) m e q.band)));
+      adopted = r.adopted ∙ sym (on_run (λ e. option_map_or (λ b. b.moment) (last (of.adoption_of s) e) 0) s m h none_begins (λ e. ap (λ (o : Option (Found Banded)). option_map_or (λ b. b.moment) o 0) (last-other (of.adoption_of s) m e none_adopts)));
+      straddling = r.straddling ∙ sym (ap (λ (o : Option (Found Bool)). option_map_or (λ straddle. straddle.value) o false) (last-other (of.straddle_of s) m (today h) q.straddle));
+      halted = r.halted;
+      round = r.round ∙ sym (ap (λ (o : Option (Found (ℕ × Collars))). option_map auction.round_of o) (last-other (auction.collar_of s) m (today h) q.collar));
+      origin = r.origin ∙ ap (λ (b : Bool). if b then auction.origin_of (phase_in s (today h)) else auction.origin_in s (today h)) (sym none_pauses);
+      indication = r.indication ∙ ap (λ (b : Bool). if b then option_and_then (auction.indicated_by s) (newest (today h)) else auction.indication_in s (today h)) (sym none_pauses);
+      triggered = r.triggered;
+      carried = r.carried;
+      deals = subst (λ (ds : List Deal). SameLive (now h) held.deals ds) (sym (deals_stay (day_record (records h)))) r.deals;
+    }
+  where
+    s : ℕ
+    s = held.kept.id
+
+    state_is : last (of.state_of s) (Published m ∷ today h) ≡ last (of.state_of s) (today h)
+    state_is = last-other (of.state_of s) m (today h) q.state
+
+    none_begins : begins_run s m (today h) ≡ false
+    none_begins = ap (λ (o : Option Phase). option_map_or is_trading o false && not (is_limit (phase_in s (today h)))) q.state
+
+    none_pauses : auction.pauses s m ≡ false
+    none_pauses = ap (λ (o : Option Phase). option_map_or auction.is_paused o false) q.state
+
+    none_adopts : of.adoption_of s m ≡ None
+    none_adopts = ap (λ (o : Option Banded). option_and_then (λ b. if is_times b.cause then None else Some b) o) q.band
+
+    counts : (day : Day) (t : ℕ) (e : List Event) → deals_from day s t (Published m ∷ e) ≡ deals_from day s t e
+    counts day t e = ap (λ (o : Option Banded). deals_in day s [] (if (is_some o && not (is_some (last (of.band_of s) e))) && option_map_or (of.opens_before day s (t + seconds 300)) (newest e) false then Published m ∷ step_record e else Published m ∷ counted_in day s (t + seconds 300) e)) q.band
+
+    deals_stay : (o : Option (Day × ℕ)) → option_map_or (λ day. deals_of day.0 (Published m ∷ h) s) o [] ≡ option_map_or (λ day. deals_of day.0 h s) o []
+    deals_stay None = refl
+    deals_stay (Some day) = of_begun (deals_from day.0 s) s m h false none_begins (counts day.0)
+
+-- A symbol that rests does so after further messages that say nothing of it.
+pub rests-silent : (mine : List ℕ → Bool) (held : Held) (ms : List Message) (h : List Event) → AllSilent held.kept.id ms → Rests mine held h → Rests mine held (publish ms h)
+rests-silent mine held [] h q r = r
+rests-silent mine held (m ∷ ms) h q r = rests-silent mine held ms (Published m ∷ h) q.1 (rests-message mine held m h q.0 r)
+
+-- one more record of others
+rests-record : (mine : List ℕ → Bool) (held : Held) (x : Record) (h : List Event) → is_day x ≡ false → IsOfOthers mine held.kept.id x → SameLive (moment_of x) held.deals (deals_today held.kept.id h) → Rests mine held h
+    → Rests mine held (Accepted x ∷ h)
+rests-record mine held x h not_day o same r =
+    record {
+      terms = r.terms ∙ sym (terms-others mine x (records h) not_day o.name);
+      phase = along (λ t. held.kept.phase ≡ of.phase_in s t) r.phase;
+      since = along (λ t. held.kept.since ≡ option_map_or (λ state. state.moment) (last (of.state_of s) t) 0) r.since;
+      begun = along (λ t. held.kept.begun ≡ of.begun_in s t) r.begun;
+      quote = along (λ t. held.kept.quote ≡ quote_in s (unwrap_or (of.run_in s t) [])) (r.quote ∙ sym (run_taken (quote_in s) x (of.run_in s (today h)) (λ e. quote-taken s x e ∙ ap (λ (q : Option Quotation). or_else q (quote_in s e)) (quoted-others s x o.symbol))));
+      band = along (λ t. held.kept.band ≡ option_map (λ b. b.value) (last (of.band_of s) (unwrap_or (of.run_in s t) []))) (r.band ∙ sym (run_taken (λ e. option_map (λ b. b.value) (last (of.band_of s) e)) x (of.run_in s (today h)) (λ e. refl)));
+      adopted = along (λ t. held.kept.adopted ≡ option_map_or (λ b. b.moment) (last (of.adoption_of s) (unwrap_or (of.run_in s t) [])) 0) (r.adopted ∙ sym (run_taken (λ e. option_map_or (λ b. b.moment) (last (of.adoption_of s) e) 0) x (of.run_in s (today h)) (λ e. refl)));
+      straddling = along (λ t. held.kept.straddling ≡ option_map_or (λ straddle. straddle.value) (last (of.straddle_of s) t) false) r.straddling;
+      halted = along (λ t. held.kept.halted ≡ is_halted_in s (records t)) (r.halted ∙ sym (halted-taken s x (records (today h)) ∙ halted-others s x (is_halted_in s (records (today h))) o.symbol));
+      round = along (λ t. held.kept.round ≡ option_map auction.round_of (last (auction.collar_of s) t)) r.round;
+      origin = along (λ t. held.kept.origin ≡ auction.origin_in s t) r.origin;
+      indication = along (λ t. held.kept.indication ≡ auction.indication_in s t) (r.indication ∙ sym (ap (λ (i : Option Indication). elim i [ Some i ↦ Some i | None ↦ auction.indication_in s (today h) ]) (indicated-others s x o.symbol)));
+      triggered =
+          r.triggered
+          ∙ sym (triggered_stays (day_record (records h)))
+          ∙ ap (λ (d : Option (Day × ℕ)). option_map_or (λ day. rules.triggered_in mine day.0 s (x ∷ records h)) d false) (sym (day_record-after x (records h) not_day));
+      carried = r.carried ∙ ap (λ (b : Bool). let part = (if b then records h else rules.before_day (records h)) in option_map_or (λ day. rules.triggered_in mine day.0 s part) (day_record part) false) (sym not_day);
+      deals =
+          subst (λ (d : Option (Day × ℕ)). SameLive (moment_of x) held.deals (option_map_or (λ day. deals_of day.0 (Accepted x ∷ h) s) d [])) (sym (day_record-after x (records h) not_day))
+          (subst (λ (ds : List Deal). SameLive (moment_of x) held.deals ds) (sym (deals_stay (day_record (records h)))) same);
+    }
+  where
+    s : ℕ
+    s = held.kept.id
+
+    today_is : today (Accepted x ∷ h) ≡ Accepted x ∷ today h
+    today_is = ap (λ (b : Bool). if b then Accepted x ∷ [] else Accepted x ∷ today h) not_day
+
+    along : (P : List Event → Type 0) → P (Accepted x ∷ today h) → P (today (Accepted x ∷ h))
+    along P p = subst P (sym today_is) p
+
+    triggered_stays : (d : Option (Day × ℕ)) → option_map_or (λ day. rules.triggered_in mine day.0 s (x ∷ records h)) d false ≡ option_map_or (λ day. rules.triggered_in mine day.0 s (records h)) d false
+    triggered_stays None = refl
+    triggered_stays (Some day) = triggered-others mine day.0 s x (records h) not_day o.symbol
+
+    deals_at : (day : Day) → deals_of day (Accepted x ∷ h) s ≡ deals_of day h s
+    deals_at day =
+        ap (λ (t : List Event). deals_in day s [] (counted_in day s (unwrap_or (of.begun_in s t) 0 + seconds 300) (unwrap_or (of.run_in s t) []))) today_is
+        ∙ run_taken (λ e. deals_in day s [] (counted_in day s (of.begun h s + seconds 300) e)) x (of.run_in s (today h)) (λ e. deals-others day s x (counted_in day s (of.begun h s + seconds 300) e) o.symbol)
+
+    deals_stay : (d : Option (Day × ℕ)) → option_map_or (λ day. deals_of day.0 (Accepted x ∷ h) s) d [] ≡ option_map_or (λ day. deals_of day.0 h s) d []
+    deals_stay None = refl
+    deals_stay (Some day) = deals_at day.0
+
+-- A symbol that rests does so after a record of others that is no day, as a clock or an index tick at which it isn't evaluated,
+-- and messages that say nothing of it.
+pub rests-apart : (mine : List ℕ → Bool) (held : Held) (x : Record) (others : List Message) (h : List Event) → is_day x ≡ false → IsOfOthers mine held.kept.id x → AllSilent held.kept.id others → now h ≤ moment_of x
+    → Rests mine held h → Rests mine held (publish others (Accepted x ∷ h))
+rests-apart mine held x others h not_day o q later r =
+    rests-silent mine held others (Accepted x ∷ h) q (rests-record mine held x h not_day o (same_later (now h) (moment_of x) held.deals (deals_today held.kept.id h) later r.deals) r)
+
+-- A new day: nothing is kept but whether the day before triggered.
+pub rests-day : (mine : List ℕ → Bool) (held : Held) (t : ℕ) (day : Day) (index : ℕ) (h : List Event) → Rests mine held h
+    → Rests mine (record { kept = renewed held.kept.id held.kept.triggered; deals = [] }) (Accepted (in_.Day t day index) ∷ h)
+rests-day mine held t day index h r =
+    record {
+      terms = refl;
+      phase = refl;
+      since = refl;
+      begun = refl;
+      quote = refl;
+      band = refl;
+      adopted = refl;
+      straddling = refl;
+      halted = refl;
+      round = refl;
+      origin = refl;
+      indication = refl;
+      triggered = refl;
+      carried = r.triggered;
+      deals = record { at = λ u le. refl };
+    }
+
+-- the same of a record that is a day
+pub rests-renewed : (mine : List ℕ → Bool) (held : Held) (x : Record) (h : List Event) → is_day x ≡ true → Rests mine held h
+    → Rests mine (record { kept = renewed held.kept.id held.kept.triggered; deals = [] }) (Accepted x ∷ h)
+rests-renewed mine held (in_.Day t d c) h e r = rests-day mine held t d c h r
+rests-renewed mine held (in_.Listing t n k l c) h e r = cc
+rests-renewed mine held (in_.Trade t i n p q f) h e r = cc
+rests-renewed mine held (in_.Cancel t i n) h e r = cc
+rests-renewed mine held (in_.Quote t i b p x y) h e r = cc
+rests-renewed mine held (in_.IndexTick t v) h e r = cc
+rests-renewed mine held (in_.Clock t) h e r = cc
+rests-renewed mine held (in_.Notice t i k) h e r = cc
+rests-renewed mine held (in_.Indication t i p u) h e r = cc
+
+-- Before its first listing a symbol has said nothing.
+
+rests-empty : (mine : List ℕ → Bool) (s : ℕ) → Rests mine (record { kept = renewed s false; deals = [] }) []
+rests-empty mine s =
+    record {
+      terms = refl;
+      phase = refl;
+      since = refl;
+      begun = refl;
+      quote = refl;
+      band = refl;
+      adopted = refl;
+      straddling = refl;
+      halted = refl;
+      round = refl;
+      origin = refl;
+      indication = refl;
+      triggered = refl;
+      carried = refl;
+      deals = record { at = λ u le. refl };
+    }
+
+-- outside a run no deals count
+none_counts : (s : ℕ) (day : Day) (h : List Event) → None ≡ of.begun_in s (today h) → deals_of day h s ≡ []
+none_counts s day h e = by (of.run_in s (today h)) (ap (λ (o : Option ℕ). is_some o) e ∙ begun-run s (today h))
+  where
+    by : (o : Option (List Event)) → false ≡ is_some o → deals_in day s [] (counted_in day s (of.begun h s + seconds 300) (unwrap_or o [])) ≡ []
+    by None f = refl
+    by (Some e) f = cc
+
+none_today : (s : ℕ) (h : List Event) → None ≡ of.begun_in s (today h) → deals_today s h ≡ []
+none_today s h e = by (day_record (records h))
+  where
+    by : (d : Option (Day × ℕ)) → option_map_or (λ day. deals_of day.0 h s) d [] ≡ []
+    by None = refl
+    by (Some day) = none_counts s day.0 h e
+
+pub rests-new : (mine : List ℕ → Bool) (s : ℕ) (h : List Event) → SaysNothing mine s h → Rests mine (record { kept = renewed s false; deals = [] }) h
+rests-new mine s [] q = rests-empty mine s
+rests-new mine s (Published m ∷ h) q = rests-message mine (record { kept = renewed s false; deals = [] }) m h q.0 (rests-new mine s h q.1)
+rests-new mine s (Accepted x ∷ h) q = by (is_day x) refl (rests-new mine s h q.1)
+  where
+    fresh : Held
+    fresh = record { kept = renewed s false; deals = [] }
+
+    by : (b : Bool) → is_day x ≡ b → Rests mine fresh h → Rests mine fresh (Accepted x ∷ h)
+    by true e before = rests-renewed mine fresh x h e before
+    by false e before = rests-record mine fresh x h e q.0 (record { at = λ u le. ap (λ (ds : List Deal). live u ds) (sym (none_today s h before.begun)) }) before

@@ -1,0 +1,164 @@
+-- Taking a record in: the kept state that the code leaves stands for the history with it.
+use Rattle.std.proofs.Common.{◌≡◌, ℕ, ◌+◌, ◌≤◌, Bool, true, false, List, [], ◌∷◌, ◌++◌, refl, sym, ap, ◌∙◌, subst, arith}
+use Rattle.std.specs.Prelude.{Option, Some, None, if◌then◌else◌, option_map, unwrap_or, ◌&&◌, ◌==◌, is_some, filter, option_to_list}
+use Rattle.std.specs.Option.{option_map_or}
+use Rattle.std.proofs.lemmas.List.Elements.{filter-append}
+use Rattle.session_core.specs.declared.day.Day.{Day}
+use Rattle.wire_in.specs.declared.record.Record.{Record}
+use Rattle.reopen_core.specs.declared.auction.Indication.{Indication}
+use Rattle.rulebook.specs.declared.symbol.Terms.{Terms}
+use Rattle.rulebook.specs.Auction.{indicated_by}
+use Rattle.rulebook.specs.declared.event.Event.{Event}
+use Rattle.rulebook.specs.declared.event.Event.TheVariants.{Accepted}
+use Rattle.rulebook.specs.History.{now, today, records, last}
+use Rattle.rulebook.specs.Market.{is_stopped, day_record}
+use Rattle.session_core.specs.Moments.{seconds}
+use Rattle.wire_in.specs.Records.{is_day, moment_of, name_of}
+use Rattle.rulebook.specs.Rules.{or_else}
+use Rattle.rulebook.specs.Symbol.{cancels, counted_in, is_halted_in, quote_in, terms_in, deals_in, deals_of}
+use Rattle.eligible_core.specs.Conditions.{is_eligible}
+use Rattle.window_core.specs.declared.window.Deal.{Deal}
+use Rattle.symbol_core.specs.declared.kept.Kept.{Kept}
+use Rattle.symbol_core.specs.declared.kept.Step.{Step}
+use Rattle.symbol_core.specs.Kept.{quoted_by}
+use Rattle.symbol_core.specs.Rests.{Rests}
+use Rattle.symbol_core.specs.Taken.{halted_by, listed_by, deal_of, leaves, taken}
+use Rattle.symbol_core.specs.Stands.{Stands}
+use Rattle.symbol_core.specs.Window.{SameLive}
+use Rattle.window_core.specs.Deals.{live, is_live}
+use Rattle.symbol_core.proofs.Histories.{begun-run}
+use Rattle.wire_in.specs.declared.record.NoticeKind.TheVariants as notice
+use Rattle.wire_in.specs.declared.record.Record.TheVariants as in_
+use Rattle.rulebook.specs.Auction as auction
+use Rattle.rulebook.specs.Rules as rules
+use Rattle.rulebook.specs.Symbol as of
+use Rattle.window_core.proofs.Deals.{filter_swap}
+use Rattle.symbol_core.proofs.Cancels.{append_none, deals-taken}
+
+pub terms-taken : (mine : List ℕ → Bool) (x : Record) (r : List Record) → is_day x ≡ false → option_map_or mine (name_of x) true ≡ true → listed_by x (terms_in mine r) ≡ terms_in mine (x ∷ r)
+terms-taken mine (in_.Day t d c) r e own = cc
+terms-taken mine (in_.Listing t n k l c) r e own = ap (λ (b : Bool). if b then Some (record { tier = k; leverage = l; close = c }) else terms_in mine r) (sym own)
+terms-taken mine (in_.Trade t i n p q f) r e own = refl
+terms-taken mine (in_.Cancel t i n) r e own = refl
+terms-taken mine (in_.Quote t i b o x y) r e own = refl
+terms-taken mine (in_.IndexTick t v) r e own = refl
+terms-taken mine (in_.Clock t) r e own = refl
+terms-taken mine (in_.Notice t i k) r e own = refl
+terms-taken mine (in_.Indication t i p u) r e own = refl
+
+pub quote-taken : (s : ℕ) (x : Record) (r : List Event) → quote_in s (Accepted x ∷ r) ≡ or_else (quoted_by s x) (quote_in s r)
+quote-taken s (in_.Day t d c) r = refl
+quote-taken s (in_.Listing t n k l c) r = refl
+quote-taken s (in_.Trade t i n p q f) r = refl
+quote-taken s (in_.Cancel t i n) r = refl
+quote-taken s (in_.Quote t i b o x y) r = elim (i == s) as (λ v. (if v then Some (record { bid = b; offer = o }) else quote_in s r) ≡ or_else (if v then Some (record { bid = b; offer = o }) else None) (quote_in s r)) [ true ↦ refl | false ↦ refl ]
+quote-taken s (in_.IndexTick t v) r = refl
+quote-taken s (in_.Clock t) r = refl
+quote-taken s (in_.Notice t i k) r = refl
+quote-taken s (in_.Indication t i p u) r = refl
+
+pub halted-taken : (s : ℕ) (x : Record) (r : List Record) → is_halted_in s (x ∷ r) ≡ halted_by s x (is_halted_in s r)
+halted-taken s (in_.Day t d c) r = refl
+halted-taken s (in_.Listing t n k l c) r = refl
+halted-taken s (in_.Trade t i n p q f) r = refl
+halted-taken s (in_.Cancel t i n) r = refl
+halted-taken s (in_.Quote t i b o x y) r = refl
+halted-taken s (in_.IndexTick t v) r = refl
+halted-taken s (in_.Clock t) r = refl
+halted-taken s (in_.Notice t i notice.OpenQuote) r = refl
+halted-taken s (in_.Notice t i notice.PauseNow) r = refl
+halted-taken s (in_.Notice t i notice.Halt) r = refl
+halted-taken s (in_.Notice t i notice.Resume) r = refl
+halted-taken s (in_.Indication t i p u) r = refl
+
+own_one : (v : Bool) (d : Deal) → option_to_list (if v then Some d else None) ≡ (if v && true then d ∷ [] else [])
+own_one true d = refl
+own_one false d = refl
+
+pub own-taken : (day : Day) (s : ℕ) (x : Record) → option_to_list (deal_of day s x) ≡ deals_in day s [] (Accepted x ∷ [])
+own-taken day s (in_.Day t d c) = refl
+own-taken day s (in_.Listing t n k l c) = refl
+own-taken day s (in_.Trade t i n p q f) = own_one ((i == s) && is_eligible f t day) (record { moment = t; number = n; price = p })
+own-taken day s (in_.Cancel t i n) = refl
+own-taken day s (in_.Quote t i b o x y) = refl
+own-taken day s (in_.IndexTick t v) = refl
+own-taken day s (in_.Clock t) = refl
+own-taken day s (in_.Notice t i k) = refl
+own-taken day s (in_.Indication t i p u) = refl
+
+-- a value of the run after a record
+pub run_taken : {X : Type 0} (value : List Event → X) (x : Record) (o : Option (List Event)) → ((r : List Event) → value (Accepted x ∷ r) ≡ value r) → value (unwrap_or (option_map (λ r. Accepted x ∷ r) o) []) ≡ value (unwrap_or o [])
+run_taken value x None ignores = refl
+run_taken value x (Some r) ignores = ignores r
+
+-- the window of a history with one more record, where x's cancellation is carried out
+window_taken : (day : Day) (s : ℕ) (x : Record) (t u : ℕ) (end : ℕ) (kept own : List Deal) (o : Option (List Event)) → t ≤ u → own ≡ deals_in day s [] (Accepted x ∷ [])
+    → SameLive t kept (deals_in day s [] (counted_in day s end (unwrap_or o [])))
+    → SameLive u (filter (leaves s x) kept ++ (if is_some o then own else [])) (deals_in day s [] (counted_in day s end (unwrap_or (option_map (λ r. Accepted x ∷ r) o) [])))
+window_taken day s x t u end kept own None le e same =
+    record {
+      at = λ v lv.
+          ap (λ (xs : List Deal). live v xs) (append_none (filter (leaves s x) kept)) ∙ filter_swap (is_live v) (leaves s x) kept
+          ∙ ap (λ (xs : List Deal). filter (leaves s x) xs) (same.at v (omega arith));
+    }
+window_taken day s x t u end kept own (Some r) le e same =
+    record {
+      at = λ v lv.
+          filter-append (is_live v) (filter (leaves s x) kept) own
+          ∙ ap (λ (xs : List Deal). xs ++ live v own) (filter_swap (is_live v) (leaves s x) kept ∙ ap (λ (xs : List Deal). filter (leaves s x) xs) (same.at v (omega arith)) ∙ sym (filter_swap (is_live v) (leaves s x) (deals_in day s [] (counted_in day s end r))))
+          ∙ sym (filter-append (is_live v) (filter (leaves s x) (deals_in day s [] (counted_in day s end r))) own)
+          ∙ ap (λ (xs : List Deal). live v (filter (leaves s x) (deals_in day s [] (counted_in day s end r)) ++ xs)) e
+          ∙ ap (λ (xs : List Deal). live v xs) (sym (deals-taken day s x (counted_in day s end r)));
+    }
+
+pub stands-taken : (mine : List ℕ → Bool) (k : Kept) (kept : List Deal) (step : Step) (index : ℕ) (h : List Event) → is_day step.input ≡ false → option_map_or mine (name_of step.input) true ≡ true
+    → day_record (records h) ≡ Some (step.day, index) → Rests mine (record { kept = k; deals = kept }) h → step.moment ≡ moment_of step.input → step.stopped ≡ is_stopped (Accepted step.input ∷ h) → now h ≤ step.moment
+    → Stands mine (taken k step) (filter (leaves k.id step.input) kept) step (Accepted step.input ∷ h)
+stands-taken mine k kept step index h not_day name day s at stopped later =
+    record {
+      moment = at;
+      stopped = stopped;
+      input = refl;
+      terms = ap (λ (o : Option Terms). listed_by x o) s.terms ∙ terms-taken mine x (records h) not_day name;
+      phase = along (λ t. k.phase ≡ of.phase_in k.id t) s.phase;
+      since = along (λ t. k.since ≡ option_map_or (λ state. state.moment) (last (of.state_of k.id) t) 0) s.since;
+      begun = along (λ t. k.begun ≡ of.begun_in k.id t) s.begun;
+      quote = along (λ t. (if is_some k.begun then or_else (quoted_by k.id x) k.quote else k.quote) ≡ quote_in k.id (unwrap_or (of.run_in k.id t) [])) (rw (has_run, s.quote) (quote_run (of.run_in k.id (today h))));
+      band = along (λ t. k.band ≡ option_map (λ b. b.value) (last (of.band_of k.id) (unwrap_or (of.run_in k.id t) []))) (s.band ∙ sym (run_taken (λ r. option_map (λ b. b.value) (last (of.band_of k.id) r)) x (of.run_in k.id (today h)) (λ r. refl)));
+      adopted = along (λ t. k.adopted ≡ option_map_or (λ b. b.moment) (last (of.adoption_of k.id) (unwrap_or (of.run_in k.id t) [])) 0) (s.adopted ∙ sym (run_taken (λ r. option_map_or (λ b. b.moment) (last (of.adoption_of k.id) r) 0) x (of.run_in k.id (today h)) (λ r. refl)));
+      straddling = along (λ t. k.straddling ≡ option_map_or (λ straddle. straddle.value) (last (of.straddle_of k.id) t) false) s.straddling;
+      halted = along (λ t. halted_by k.id x k.halted ≡ is_halted_in k.id (records t)) (ap (λ (b : Bool). halted_by k.id x b) s.halted ∙ sym (halted-taken k.id x (records (today h))));
+      round = along (λ t. k.round ≡ option_map auction.round_of (last (auction.collar_of k.id) t)) s.round;
+      origin = along (λ t. k.origin ≡ auction.origin_in k.id t) s.origin;
+      indication = along (λ t. or_else (indicated_by k.id x) k.indication ≡ auction.indication_in k.id t) (indicated (indicated_by k.id x) s.indication);
+      triggered = s.triggered ∙ ap (λ (o : Option (Day × ℕ)). option_map_or (λ d. rules.triggered_in mine d.0 k.id (records h)) o false) day;
+      carried = s.carried ∙ ap (λ (b : Bool). let part = (if b then records h else rules.before_day (records h)) in option_map_or (λ day. rules.triggered_in mine day.0 k.id part) (day_record part) false) (sym not_day);
+      left_limit = refl;
+      released = refl;
+      deal = own-taken step.day k.id x;
+      window = along (λ t. SameLive (moment_of x) (filter (leaves k.id x) kept ++ (if is_some k.begun then option_to_list (deal_of step.day k.id x) else [])) (deals_in step.day k.id [] (counted_in step.day k.id (unwrap_or (of.begun_in k.id t) 0 + seconds 300) (unwrap_or (of.run_in k.id t) []))))
+          (rw has_run (window_taken step.day k.id x (now h) (moment_of x) (of.begun h k.id + seconds 300) kept (option_to_list (deal_of step.day k.id x)) (of.run_in k.id (today h)) (rw at at later) (own-taken step.day k.id x) kept_live));
+    }
+  where
+    x : Record
+    x = step.input
+
+    today_is : today (Accepted x ∷ h) ≡ Accepted x ∷ today h
+    today_is = ap (λ (b : Bool). if b then Accepted x ∷ [] else Accepted x ∷ today h) not_day
+
+    along : (P : List Event → Type 0) → P (Accepted x ∷ today h) → P (today (Accepted x ∷ h))
+    along P p = subst P (sym today_is) p
+
+    kept_live : SameLive (now h) kept (deals_of step.day h k.id)
+    kept_live = subst (λ (o : Option (Day × ℕ)). SameLive (now h) kept (option_map_or (λ d. deals_of d.0 h k.id) o [])) day s.deals
+
+    has_run : is_some k.begun ≡ is_some (of.run_in k.id (today h))
+    has_run = ap (λ (o : Option ℕ). is_some o) s.begun ∙ begun-run k.id (today h)
+
+    quote_run : (o : Option (List Event)) → (if is_some o then or_else (quoted_by k.id x) (quote_in k.id (unwrap_or o [])) else quote_in k.id (unwrap_or o [])) ≡ quote_in k.id (unwrap_or (option_map (λ r. Accepted x ∷ r) o) [])
+    quote_run None = refl
+    quote_run (Some r) = sym (quote-taken k.id x r)
+
+    indicated : (o : Option Indication) → k.indication ≡ auction.indication_in k.id (today h) → or_else o k.indication ≡ elim o [ Some i ↦ Some i | None ↦ auction.indication_in k.id (today h) ]
+    indicated (Some i) e = refl
+    indicated None e = e

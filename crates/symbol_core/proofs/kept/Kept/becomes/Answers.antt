@@ -1,0 +1,7 @@
+use Rattle.std.proofs.Common.{ap}
+use Rattle.symbol_core.specs.declared.kept.Kept.{Kept}
+use Rattle.symbol_core.proofs.Phases.{stands-turned}
+use Rattle.symbol_core.proofs.kept.Kept.becomes.Goals as goal
+
+pub returns-clause-says : goal.returns-clause-says
+returns-clause-says c = record { items = c.push.ensures.items; stands = λ mine deals h s. rw c.turn.ensures (stands-turned mine c.args.self.now deals c.args.step.now c.args.phase h s); id = ap (λ (k : Kept). k.id) c.turn.ensures }

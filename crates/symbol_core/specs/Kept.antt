@@ -1,0 +1,149 @@
+-- What the code does to the kept state, in one equation each. Private words: no public clause cites them.
+use Rattle.std.specs.Prelude.{ℕ, Bool, true, false, Option, Some, None, List, [], ◌∷◌, ◌++◌, ◌==◌, if◌then◌else◌, ◌&&◌, ◌||◌, not, is_some, unwrap_or, ◌+◌, ◌≤◌}
+use Rattle.std.specs.Option.{option_map_or}
+use Rattle.price_core.specs.declared.quote.Quotation.{Quotation}
+use Rattle.session_core.specs.declared.state.Phase.{Phase}
+use Rattle.session_core.specs.declared.state.Phase.TheVariants.{Closing, Trading}
+use Rattle.session_core.specs.Moments.{seconds}
+use Rattle.session_core.specs.Times.{in_session, is_closed, in_last_10_minutes}
+use Rattle.wire_in.specs.declared.record.Record.{Record}
+use Rattle.wire_in.specs.declared.record.Record.TheVariants as in_
+use Rattle.wire_out.specs.declared.message.Message.{Message}
+use Rattle.wire_out.specs.declared.message.Message.TheVariants as out
+use Rattle.wire_out.specs.declared.message.ShortKind.TheVariants.{Carried, Triggered}
+use Rattle.limit_core.specs.Limits.{is_straddling}
+use Rattle.limit_core.specs.Timers.{has_lasted}
+use Rattle.pause_core.specs.declared.turning.Brakes.{Brakes}
+use Rattle.pause_core.specs.Pauses.{pause_of}
+use Rattle.pause_core.specs.Phases.{is_limit, is_trading}
+use Rattle.reopen_core.specs.declared.auction.Round.{Round}
+use Rattle.reopen_core.specs.declared.auction.Trial.{Trial}
+use Rattle.reopen_core.specs.declared.auction.Trial.TheVariants as trial
+use Rattle.reopen_core.specs.Collars.{auction_reference, first_collars}
+use Rattle.reopen_core.specs.Trials as trials
+use Rattle.rulebook.specs.declared.symbol.Banded.{Banded}
+use Rattle.rulebook.specs.Auction.{is_paused, indicated_by, origin_of}
+use Rattle.rulebook.specs.Rules.{asks_to_pause, collar, meets, triggers}
+use Rattle.rulebook.specs.Symbol.{is_times, opens_before}
+use Rattle.symbol_core.specs.declared.kept.Kept.{Kept}
+use Rattle.symbol_core.specs.declared.kept.Step.{Step}
+
+abbrev pub quoted_by : ℕ → Record → Option Quotation
+quoted_by s (in_.Quote t symbol bid offer x y) = if symbol == s then Some (record { bid = bid; offer = offer }) else None
+quoted_by s x = None
+
+abbrev pub begins : Kept → Phase → Bool
+begins k p = is_trading p && not (is_limit k.phase)
+
+abbrev pub turned : Kept → Step → Phase → Kept
+turned k step p = record k {
+  phase = p;
+  since = step.moment;
+  begun = if begins k p then Some step.moment else k.begun;
+  quote = if begins k p then quoted_by k.id step.input else k.quote;
+  band = if begins k p then None else k.band;
+  adopted = if begins k p then 0 else k.adopted;
+  origin = if is_paused p then origin_of k.phase else k.origin;
+  indication = if is_paused p then indicated_by k.id step.input else k.indication;
+  left_limit = (is_trading p && is_limit k.phase) || k.left_limit;
+  is_fresh = begins k p || k.is_fresh;
+}
+
+abbrev pub straddled : Kept → Bool → Kept
+straddled k on = record k { straddling = on }
+
+abbrev pub with_round : Kept → Round → Kept
+with_round k round = record k { round = Some round }
+
+abbrev pub released : Kept → ℕ → Kept
+released k price = record k { released = Some price }
+
+-- the run's first bands, at an opening trade in its first five minutes, begin the window anew
+abbrev pub restarts : Kept → Step → Bool
+restarts k step = not (is_some k.band) && opens_before step.day k.id (unwrap_or k.begun 0 + seconds 300) step.input
+
+-- outside a run bands count for nothing
+abbrev pub banded : Kept → Step → Banded → Kept
+banded k step b = record k {
+  band = if is_some k.begun then Some b else k.band;
+  adopted = if is_some k.begun && not (is_times b.cause) then step.moment else k.adopted;
+  is_fresh = (is_some k.begun && restarts k step) || k.is_fresh;
+}
+
+-- A rule over what is kept.
+
+abbrev pub becoming : Kept → Phase → List Message
+becoming k p = out.State k.id p ∷ []
+
+abbrev pub brakes : Kept → Step → Brakes
+brakes k step = record {
+  closed = is_closed step.moment step.day;
+  in_session = in_session step.moment step.day;
+  stopped = step.stopped;
+  halted = k.halted;
+}
+
+abbrev pub turning : (Phase → Brakes → Option Phase) → Kept → Step → List Message
+turning rule k step = option_map_or (becoming k) (rule k.phase (brakes k step)) []
+
+abbrev pub first_round : ℕ → Phase → Banded → List Message
+first_round s origin b = collar s 0 (first_collars (origin_of origin) b.bands b.reference)
+
+abbrev pub first_rounds : ℕ → Phase → Option Banded → List Message
+first_rounds s origin band = option_map_or (first_round s origin) band []
+
+abbrev pub pausing_as : Kept → Phase → List Message
+pausing_as k p = becoming k p ++ (if is_paused p then first_rounds k.id k.phase k.band else [])
+
+abbrev pub pause_now : Kept → Step → Option Phase
+pause_now k step =
+    pause_of (has_lasted k.since step.moment) (asks_to_pause k.id step.input) k.straddling k.phase (in_last_10_minutes step.moment step.day)
+
+abbrev pub pausing : Kept → Step → List Message
+pausing k step = option_map_or (pausing_as k) (pause_now k step) []
+
+abbrev pub reopened : Kept → ℕ → Trial → List Message
+reopened k round trial.NotDue = []
+reopened k round (trial.Extend collars) = collar k.id (round + 1) collars
+reopened k round (trial.Release price) = out.Release k.id price ∷ becoming k Trading
+reopened k round trial.Closing = becoming k Closing
+
+abbrev pub trial_now : Kept → Step → Round → Banded → Trial
+trial_now k step round b =
+    trials.trial step.moment (in_last_10_minutes step.moment step.day) round (auction_reference k.origin b.bands b.reference) k.indication
+
+abbrev pub reopening_with : Kept → Step → Round → Banded → List Message
+reopening_with k step round b = reopened k round.number (trial_now k step round b)
+
+abbrev pub reopening_after : Kept → Step → Round → List Message
+reopening_after k step round = option_map_or (reopening_with k step round) k.band []
+
+abbrev pub reopening : Kept → Step → List Message
+reopening k step = if is_paused k.phase then option_map_or (reopening_after k step) k.round [] else []
+
+-- a further round is begun five minutes after this one at least
+abbrev pub IsDue : ℕ → Round → Trial → Type 0
+IsDue t round (trial.Extend collars) = round.moment + seconds 300 ≤ t
+IsDue t round other = Unit {0}
+
+abbrev pub is_straddling_now : Kept → Bool
+is_straddling_now k = is_trading k.phase && meets is_straddling k.quote k.band
+
+abbrev pub straddling : Kept → Step → List Message
+straddling k step =
+    if is_straddling_now k && not k.straddling then out.Straddle k.id true ∷ []
+    else if k.straddling && not (is_straddling_now k) then out.Straddle k.id false ∷ []
+    else []
+
+abbrev pub triggering : Kept → Step → Bool
+triggering k step = triggers step.day k.id step.input k.terms
+
+abbrev pub restricting : Kept → Step → List Message
+restricting k step = if triggering k step && not k.triggered then out.Short k.id Triggered ∷ [] else []
+
+abbrev pub announcing_name : Kept → List ℕ → List Message
+announcing_name k name = if k.carried then out.Listed k.id name ∷ out.Short k.id Carried ∷ [] else out.Listed k.id name ∷ []
+
+abbrev pub announcing : Kept → Record → List Message
+announcing k (in_.Listing t name tier l c) = announcing_name k name
+announcing k x = []

@@ -1,0 +1,9 @@
+pub mod Kept
+pub mod Pricing
+pub mod Window
+pub mod Stands
+pub mod Silent
+pub mod Rests
+pub mod Taken
+pub mod Evaluates
+pub mod Steps

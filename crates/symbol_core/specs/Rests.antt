@@ -1,0 +1,45 @@
+-- What is kept of a symbol between steps.
+use Rattle.std.specs.Prelude.{◌≡◌, ℕ, Bool, false, List, []}
+use Rattle.std.specs.Option.{option_map_or}
+use Rattle.window_core.specs.declared.window.Deal.{Deal}
+use Rattle.rulebook.specs.declared.event.Event.{Event}
+use Rattle.rulebook.specs.Auction as auction
+use Rattle.rulebook.specs.History.{now, today, records}
+use Rattle.rulebook.specs.Market.{day_record}
+use Rattle.rulebook.specs.Rules as rules
+use Rattle.rulebook.specs.Rules.{triggered_in}
+use Rattle.rulebook.specs.Symbol as of
+use Rattle.rulebook.specs.Symbol.{deals_of}
+use Rattle.symbol_core.specs.declared.kept.Kept.{Kept}
+use Rattle.symbol_core.specs.Window.{SameLive}
+
+-- the kept state and the kept deals
+pub record Held : Type 0 where
+  pub kept : Kept
+  pub deals : List Deal
+
+-- whether a trade of the day of the last day record triggered the short sale restriction
+abbrev pub triggered_today : (List ℕ → Bool) → ℕ → List Event → Bool
+triggered_today own s h = option_map_or (λ day. triggered_in own day.0 s (records h)) (day_record (records h)) false
+
+-- the deals of that day that count
+abbrev pub deals_today : ℕ → List Event → List Deal
+deals_today s h = option_map_or (λ day. deals_of day.0 h s) (day_record (records h)) []
+
+-- The kept state and the kept deals are what the history says of the symbol whose names are those of a test.
+pub record Rests (own : List ℕ → Bool) (held : Held) (h : List Event) : Type 0 where
+  pub terms : held.kept.terms ≡ of.terms h own
+  pub phase : held.kept.phase ≡ of.phase h held.kept.id
+  pub since : held.kept.since ≡ of.since h held.kept.id
+  pub begun : held.kept.begun ≡ of.begun_in held.kept.id (today h)
+  pub quote : held.kept.quote ≡ of.quote h held.kept.id
+  pub band : held.kept.band ≡ of.last_band h held.kept.id
+  pub adopted : held.kept.adopted ≡ of.adopted h held.kept.id
+  pub straddling : held.kept.straddling ≡ of.was_straddling h held.kept.id
+  pub halted : held.kept.halted ≡ of.is_halted h held.kept.id
+  pub round : held.kept.round ≡ auction.last_round h held.kept.id
+  pub origin : held.kept.origin ≡ auction.origin h held.kept.id
+  pub indication : held.kept.indication ≡ auction.indication h held.kept.id
+  pub triggered : held.kept.triggered ≡ triggered_today own held.kept.id h
+  pub carried : held.kept.carried ≡ rules.is_carried h own held.kept.id
+  pub deals : SameLive (now h) held.deals (deals_today held.kept.id h)

@@ -1,0 +1,75 @@
+-- What the kept state is of an open history, and what the functions of the code do to it.
+use Rattle.std.specs.Prelude.{◌≡◌, ℕ, Bool, Some, List, [], ◌∷◌, ◌++◌, option_to_list}
+use Rattle.wire_out.specs.declared.message.Message.{Message}
+use Rattle.window_core.specs.declared.window.Deal.{Deal}
+use Rattle.rulebook.specs.declared.event.Event.{Event}
+use Rattle.rulebook.specs.declared.event.Event.TheVariants.{Accepted}
+use Rattle.rulebook.specs.Auction as auction
+use Rattle.rulebook.specs.Book.{Named, context, obeyed, all_obeyed}
+use Rattle.rulebook.specs.History.{now, newest, today, publish}
+use Rattle.rulebook.specs.Market.{is_stopped}
+use Rattle.rulebook.specs.Rules as rules
+use Rattle.rulebook.specs.Rules.{Context}
+use Rattle.rulebook.specs.Symbol as of
+use Rattle.rulebook.specs.Symbol.{deals_in, deals_of}
+use Rattle.symbol_core.specs.declared.kept.Kept.{Kept}
+use Rattle.symbol_core.specs.declared.kept.Step.{Step}
+use Rattle.symbol_core.specs.Window.{SameLive, window}
+
+-- the symbol of an id whose names are those of a test
+abbrev pub named : (List ℕ → Bool) → ℕ → Named
+named own s = record { symbol = s; own = own }
+
+-- the kept state, the kept deals and the step are what the open history says of the symbol
+pub record Stands (own : List ℕ → Bool) (k : Kept) (deals : List Deal) (step : Step) (h : List Event) : Type 0 where
+  pub moment : step.moment ≡ now h
+  pub stopped : step.stopped ≡ is_stopped h
+  pub input : newest h ≡ Some step.input
+  pub terms : k.terms ≡ of.terms h own
+  pub phase : k.phase ≡ of.phase h k.id
+  pub since : k.since ≡ of.since h k.id
+  pub begun : k.begun ≡ of.begun_in k.id (today h)
+  pub quote : k.quote ≡ of.quote h k.id
+  pub band : k.band ≡ of.last_band h k.id
+  pub adopted : k.adopted ≡ of.adopted h k.id
+  pub straddling : k.straddling ≡ of.was_straddling h k.id
+  pub halted : k.halted ≡ of.is_halted h k.id
+  pub round : k.round ≡ auction.last_round h k.id
+  pub origin : k.origin ≡ auction.origin h k.id
+  pub indication : k.indication ≡ auction.indication h k.id
+  pub triggered : k.triggered ≡ rules.has_triggered (context step.day (named own k.id) step.input h)
+  pub carried : k.carried ≡ rules.is_carried h own k.id
+  pub left_limit : k.left_limit ≡ rules.has_left_limit h k.id
+  pub released : k.released ≡ rules.released h k.id
+  pub deal : option_to_list k.deal ≡ deals_in step.day k.id [] (Accepted step.input ∷ [])
+  pub window : SameLive (now h) (window k deals) (deals_of step.day h k.id)
+
+-- these messages are said, and a symbol that stands does so for them too
+pub record Says (ms : List Message) (step : Step) (old new : Kept) (before after : List Message) : Type 0 where
+  pub items : after ≡ before ++ ms
+  pub stands : (own : List ℕ → Bool) (deals : List Deal) (h : List Event) → Stands own old deals step h → Stands own new deals step (publish ms h)
+  pub id : new.id ≡ old.id
+
+-- What a rule's function does to a symbol that stands: it says what the rule says, and the symbol then stands for that too.
+pub record Obeys (rule : Context → List Message) (step : Step) (old new : Kept) (before after : List Message) : Type 0 where
+  pub says : (own : List ℕ → Bool) (deals : List Deal) (h : List Event) → Stands own old deals step h
+      → after ≡ before ++ obeyed step.day (named own old.id) step.input rule h
+  pub stands : (own : List ℕ → Bool) (deals : List Deal) (h : List Event) → Stands own old deals step h
+      → Stands own new deals step (publish (obeyed step.day (named own old.id) step.input rule h) h)
+  pub id : new.id ≡ old.id
+
+-- the same of a rule that reads the kept deals
+pub record ObeysWith (deals : List Deal) (rule : Context → List Message) (step : Step) (old new : Kept) (before after : List Message) : Type 0 where
+  pub says : (own : List ℕ → Bool) (h : List Event) → Stands own old deals step h
+      → after ≡ before ++ obeyed step.day (named own old.id) step.input rule h
+  pub stands : (own : List ℕ → Bool) (h : List Event) → Stands own old deals step h
+      → Stands own new deals step (publish (obeyed step.day (named own old.id) step.input rule h) h)
+  pub id : new.id ≡ old.id
+
+-- the same of rules one after the other
+pub record ObeysAll (deals : List Deal) (rules : List (Context → List Message)) (step : Step) (old new : Kept) (before after : List Message) : Type 0 where
+  pub says : (own : List ℕ → Bool) (h : List Event) → Stands own old deals step h
+      → after ≡ before ++ all_obeyed step.day (named own old.id) step.input rules h
+  pub stands : (own : List ℕ → Bool) (h : List Event) → Stands own old deals step h
+      → Stands own new deals step (publish (all_obeyed step.day (named own old.id) step.input rules h) h)
+  pub id : new.id ≡ old.id

@@ -1,0 +1,81 @@
+-- The kept state once a record is taken in. Private words: no public clause cites them.
+use Rattle.std.specs.Prelude.{ℕ, Bool, true, false, Option, Some, None, ◌==◌, if◌then◌else◌, not, ◌&&◌, ◌||◌, is_some}
+use Rattle.session_core.specs.declared.day.Day.{Day}
+use Rattle.session_core.specs.declared.state.Phase.TheVariants.{Shut}
+use Rattle.wire_in.specs.declared.record.NoticeKind.TheVariants as notice
+use Rattle.wire_in.specs.declared.record.Record.{Record}
+use Rattle.wire_in.specs.declared.record.Record.TheVariants as in_
+use Rattle.eligible_core.specs.Conditions.{is_eligible}
+use Rattle.window_core.specs.declared.window.Deal.{Deal}
+use Rattle.reopen_core.specs.declared.auction.Origin.TheVariants.{Straddle}
+use Rattle.rulebook.specs.declared.symbol.Terms.{Terms}
+use Rattle.rulebook.specs.Auction.{indicated_by}
+use Rattle.rulebook.specs.Rules.{or_else}
+use Rattle.rulebook.specs.Symbol.{cancels}
+use Rattle.symbol_core.specs.declared.kept.Kept.{Kept}
+use Rattle.symbol_core.specs.declared.kept.Step.{Step}
+use Rattle.symbol_core.specs.Kept.{quoted_by, triggering}
+
+-- today's terms once a record is taken in
+abbrev pub listed_by : Record → Option Terms → Option Terms
+listed_by (in_.Listing t n k l c) before = Some (record { tier = k; leverage = l; close = c })
+listed_by x before = before
+
+-- whether a record leaves a deal
+abbrev pub leaves : ℕ → Record → Deal → Bool
+leaves s x d = not (cancels s d.number x)
+
+-- the number that a record cancels
+abbrev pub cancelled_by : ℕ → Record → Option ℕ
+cancelled_by s (in_.Cancel t symbol number) = if symbol == s then Some number else None
+cancelled_by s x = None
+
+abbrev pub deal_of : Day → ℕ → Record → Option Deal
+deal_of day s (in_.Trade t symbol n p q f) = if (symbol == s) && is_eligible f t day then Some (record { moment = t; number = n; price = p }) else None
+deal_of day s x = None
+
+abbrev pub halted_by : ℕ → Record → Bool → Bool
+halted_by s (in_.Notice t symbol notice.Halt) before = if symbol == s then true else before
+halted_by s (in_.Notice t symbol notice.Resume) before = if symbol == s then false else before
+halted_by s x before = before
+
+-- the kept state once a record other than a day is taken in
+abbrev pub taken : Kept → Step → Kept
+taken k step = record k {
+  terms = listed_by step.input k.terms;
+  quote = if is_some k.begun then or_else (quoted_by k.id step.input) k.quote else k.quote;
+  halted = halted_by k.id step.input k.halted;
+  indication = or_else (indicated_by k.id step.input) k.indication;
+  left_limit = false;
+  released = None;
+  deal = deal_of step.day k.id step.input;
+  is_fresh = false;
+}
+
+-- the kept state once the rules have been obeyed
+abbrev pub finished : Kept → Step → Kept
+finished k step = record k { triggered = triggering k step || k.triggered }
+
+-- the kept state of an id at the begin of a day
+abbrev pub renewed : ℕ → Bool → Kept
+renewed s carried = record {
+  id = s;
+  terms = None;
+  phase = Shut;
+  since = 0;
+  begun = None;
+  quote = None;
+  band = None;
+  adopted = 0;
+  straddling = false;
+  halted = false;
+  round = None;
+  origin = Straddle;
+  indication = None;
+  triggered = false;
+  carried = carried;
+  left_limit = false;
+  released = None;
+  deal = None;
+  is_fresh = false;
+}

@@ -1,0 +1,209 @@
+// Reference prices and price bands (LULD Plan, Section V).
+ghost use Rattle.std.specs.Prelude.{◌≡◌, ◌+◌, ◌≤◌, [], List, unwrap_or, vec_len, vec_capacity};
+ghost use Rattle.std.specs.Option.{option_map_or};
+ghost use Rattle.window_core.specs.Deals.{live, mean_of};
+ghost use Rattle.refprice_core.specs.Prices as prices;
+ghost use Rattle.rulebook.specs.Rules as rules;
+ghost use Rattle.rulebook.specs.Symbol.{bands_of, close_of};
+ghost use Rattle.symbol_core.specs.Pricing as pricing;
+ghost use Rattle.symbol_core.specs.Stands.{ObeysWith, Says};
+ghost use Rattle.symbol_core.specs.Window.{window};
+
+use crate::kept::{Kept, Step};
+use crate::records::{opening_price, opens_on_quotes};
+use crate::says::midnight;
+use pause_core::{is_done, is_trading};
+use percent_core::{bands, category, percent, span};
+use price_core::{Bands, Cause, Price};
+use refprice_core::{Adoption, Priced, because, forced, is_opening};
+use rulebook::{Banded, Terms};
+use session_core::{Day, Moment};
+use window_core::{SummedDeals, live_mean};
+use wire_out::Message;
+
+/// The bands that a reference price gives at a moment of the day.
+fn bands_of(terms: &Terms, day: &Day, t: Moment, reference: Price) -> Bands
+    ensures { result ≡ bands_of terms.now day.now t reference }
+{
+    let category = category(terms.close);
+    let percent = percent(terms.tier, category, span(t, day), day.profile);
+    bands(reference, category, percent, terms.leverage)
+}
+
+fn differs(a: &Bands, b: &Bands) -> bool
+    ensures { result ≡ rules.differs a.now b.now }
+{
+    !(a.lower.units() == b.lower.units() && a.upper.units() == b.upper.units())
+}
+
+impl Kept {
+    /// The mean of the window, with the open step's own deal.
+    fn mean(&self, t: Moment, deals: &SummedDeals) -> Option<Price>
+        ensures { result ≡ mean_of (live t (window self.now deals.now.deals)) }
+    {
+        let last = if self.begun.is_some() {
+            self.deal
+        } else {
+            None
+        };
+        if self.is_fresh {
+            live_mean(t, &[], &last)
+        } else {
+            deals.mean_with(t, &last)
+        }
+    }
+
+    fn begun_at(&self) -> Moment
+        ensures { result ≡ unwrap_or self.now.begun 0 }
+    {
+        match self.begun {
+            Some(begun) => begun,
+            None => midnight(),
+        }
+    }
+
+    /// The prior closing price.
+    pub fn close_price(&self) -> Option<Price>
+        ensures { result ≡ close_of self.now.terms }
+    {
+        match self.terms {
+            Some(listed) => listed.close,
+            None => None,
+        }
+    }
+
+    /// The price that the step's record offers as the first of a run.
+    fn offered(&self, step: &Step) -> Option<Price>
+        ensures { result ≡ pricing.offered self.now step.now }
+    {
+        let price = opening_price(self.id, step);
+        if price.is_some() {
+            return price;
+        }
+        if opens_on_quotes(self.id, &step.input) {
+            self.close_price()
+        } else {
+            None
+        }
+    }
+
+    fn first_price(&self, step: &Step, deals: &SummedDeals) -> Option<Price>
+        ensures { result ≡ pricing.first_price self.now step.now (mean_of (live step.now.moment (window self.now deals.now.deals))) }
+    {
+        if self.released.is_some() {
+            return self.released;
+        }
+        if is_opening(self.begun_at(), step.moment) {
+            self.offered(step)
+        } else {
+            self.mean(step.moment, deals)
+        }
+    }
+
+    fn moved_price(&self, step: &Step, deals: &SummedDeals, b: &Banded) -> Option<Price>
+        ensures { result ≡ prices.moved_price (pricing.adoption self.now b.now) step.now.moment (mean_of (live step.now.moment (window self.now deals.now.deals))) }
+    {
+        let adoption = Adoption {
+            moment: self.adopted,
+            price: b.reference,
+        };
+        if adoption.has_stood(step.moment) {
+            adoption.moved_price(step.moment, self.mean(step.moment, deals))
+        } else {
+            None
+        }
+    }
+}
+
+impl Kept {
+    fn later_price(&self, step: &Step, deals: &SummedDeals) -> Option<Priced>
+        ensures { result ≡ pricing.later_price self.now step.now (mean_of (live step.now.moment (window self.now deals.now.deals))) self.now.band }
+    {
+        match self.band {
+            None => because(Cause::First, self.first_price(step, deals)),
+            Some(b) => because(Cause::Moved, self.moved_price(step, deals, &b)),
+        }
+    }
+
+    fn reference(&self, step: &Step, deals: &SummedDeals) -> Option<Priced>
+        ensures { result ≡ pricing.reference self.now step.now (mean_of (live step.now.moment (window self.now deals.now.deals))) }
+    {
+        if !is_trading(self.phase) {
+            None
+        } else if self.left_limit {
+            forced(self.mean(step.moment, deals))
+        } else {
+            self.later_price(step, deals)
+        }
+    }
+
+    fn band(&mut self, step: &Step, cause: Cause, price: Price, out: &mut Vec<Message>)
+        requires { vec_len out.old + 1 ≤ vec_capacity out.old }
+        ensures says { Says (pricing.band self.old step.now cause price) step.now self.old self.new out.old.items out.new.items }
+        ensures room { vec_capacity out.old ≤ vec_capacity out.new }
+        ensures len { vec_len out.new ≤ vec_len out.old + 1 }
+    {
+        if let Some(listed) = self.terms {
+            let bands = bands_of(&listed, &step.day, step.moment, price);
+            self.say_band(
+                step,
+                &Banded {
+                    cause,
+                    reference: price,
+                    bands,
+                },
+                out,
+            );
+        }
+    }
+
+    fn time_changes(&self, step: &Step, last: &Banded) -> bool
+        ensures { result ≡ pricing.time_changes self.now step.now last.now }
+    {
+        match self.terms {
+            Some(listed) => differs(
+                &bands_of(&listed, &step.day, step.moment, last.reference),
+                &last.bands,
+            ),
+            None => false,
+        }
+    }
+
+    fn band_by_time(&mut self, step: &Step, out: &mut Vec<Message>)
+        requires { vec_len out.old + 1 ≤ vec_capacity out.old }
+        ensures says { Says (option_map_or (pricing.band_by_time self.old step.now) self.old.band []) step.now self.old self.new out.old.items out.new.items }
+        ensures room { vec_capacity out.old ≤ vec_capacity out.new }
+        ensures len { vec_len out.new ≤ vec_len out.old + 1 }
+    {
+        if let Some(last) = self.band {
+            if is_trading(self.phase) && self.time_changes(step, &last) {
+                self.band(step, Cause::Times, last.reference, out);
+            }
+        }
+    }
+
+    fn banding(&mut self, step: &Step, deals: &SummedDeals, out: &mut Vec<Message>)
+        requires { vec_len out.old + 1 ≤ vec_capacity out.old }
+        ensures says { Says (pricing.banding (mean_of (live step.now.moment (window self.old deals.now.deals))) self.old step.now) step.now self.old self.new out.old.items out.new.items }
+        ensures room { vec_capacity out.old ≤ vec_capacity out.new }
+        ensures len { vec_len out.new ≤ vec_len out.old + 1 }
+    {
+        match self.reference(step, deals) {
+            Some(r) => self.band(step, r.cause, r.price, out),
+            None => self.band_by_time(step, out),
+        }
+    }
+
+    /// Bands, with a new reference price or where the time of day changes them.
+    pub fn publish_band(&mut self, step: &Step, deals: &SummedDeals, out: &mut Vec<Message>)
+        requires { vec_len out.old + 1 ≤ vec_capacity out.old }
+        ensures obeys { ObeysWith deals.now.deals rules.publish_band step.now self.old self.new out.old.items out.new.items }
+        ensures room { vec_capacity out.old ≤ vec_capacity out.new }
+        ensures len { vec_len out.new ≤ vec_len out.old + 1 }
+    {
+        if is_done(self.phase) {
+            return;
+        }
+        self.banding(step, deals, out);
+    }
+}

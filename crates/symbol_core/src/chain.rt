@@ -1,0 +1,29 @@
+ghost use Rattle.std.specs.Prelude.{◌+◌, ◌≤◌, vec_len, vec_capacity};
+ghost use Rattle.rulebook.specs.Book.{symbol_rules};
+ghost use Rattle.symbol_core.specs.Stands.{ObeysAll};
+
+use crate::kept::{Kept, Step};
+use window_core::SummedDeals;
+use wire_out::Message;
+
+impl Kept {
+    /// The rules of the symbol, in order.
+    pub fn obey(&mut self, step: &Step, deals: &SummedDeals, out: &mut Vec<Message>)
+        requires { vec_len out.old + 13 ≤ vec_capacity out.old }
+        ensures obeys { ObeysAll deals.now.deals symbol_rules step.now self.old self.new out.old.items out.new.items }
+        ensures room { vec_capacity out.old ≤ vec_capacity out.new }
+        ensures len { vec_len out.new ≤ vec_len out.old + 13 }
+    {
+        self.close(step, out);
+        self.stop(step, out);
+        self.start(step, out);
+        self.halt(step, out);
+        self.pause(step, out);
+        self.reopen(step, out);
+        self.leave_limit(step, out);
+        self.publish_band(step, deals, out);
+        self.enter_limit(step, out);
+        self.straddle(step, out);
+        self.restrict(step, out);
+    }
+}

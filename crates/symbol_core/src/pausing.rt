@@ -1,0 +1,100 @@
+// Trading pauses (LULD Plan, Section VII).
+ghost use Rattle.std.specs.Prelude.{◌≡◌, ◌+◌, ◌≤◌, [], List, true, vec_len, vec_capacity};
+ghost use Rattle.std.specs.Option.{option_map_or};
+ghost use Rattle.rulebook.specs.Auction.{is_paused};
+ghost use Rattle.rulebook.specs.Rules as rules;
+ghost use Rattle.symbol_core.specs.Kept.{first_rounds, pause_now, pausing, pausing_as};
+ghost use Rattle.symbol_core.specs.Stands.{Obeys, Says};
+
+use crate::kept::{Kept, Step};
+use crate::records::asks_to_pause;
+use crate::round::TimedRound;
+use crate::says::{is_paused, origin_of};
+use limit_core::has_lasted;
+use pause_core::{is_done, pause};
+use reopen_core::first_collars;
+use rulebook::Banded;
+use session_core::{Phase, last_10};
+use wire_out::Message;
+
+impl Kept {
+    fn pause_now(&self, step: &Step) -> Option<Phase>
+        ensures { result ≡ pause_now self.now step.now }
+    {
+        pause(
+            has_lasted(self.since, step.moment),
+            asks_to_pause(self.id, &step.input),
+            self.straddling,
+            self.phase,
+            last_10(step.moment, &step.day),
+        )
+    }
+
+    fn say_first_round(
+        &mut self,
+        step: &Step,
+        origin: Phase,
+        band: &Option<Banded>,
+        out: &mut Vec<Message>,
+    )
+        requires { vec_len out.old + 1 ≤ vec_capacity out.old }
+        ensures says { Says (first_rounds self.old.id origin band.now) step.now self.old self.new out.old.items out.new.items }
+        ensures room { vec_capacity out.old ≤ vec_capacity out.new }
+        ensures len { vec_len out.new ≤ vec_len out.old + 1 }
+    {
+        if let Some(b) = band {
+            let collars = first_collars(origin_of(origin), &b.bands, b.reference);
+            self.say_round(step, &TimedRound::first(step.moment, collars), out);
+        }
+    }
+
+    fn begin_auction(&mut self, step: &Step, phase: Phase, out: &mut Vec<Message>)
+        requires paused { is_paused phase ≡ true }
+        requires room { vec_len out.old + 2 ≤ vec_capacity out.old }
+        ensures says { Says (pausing_as self.old phase) step.now self.old self.new out.old.items out.new.items }
+        ensures room { vec_capacity out.old ≤ vec_capacity out.new }
+        ensures len { vec_len out.new ≤ vec_len out.old + 2 }
+    {
+        let origin = self.phase;
+        let band = self.band;
+        self.becomes(step, phase, out);
+        self.say_first_round(step, origin, &band, out);
+    }
+
+    fn pause_as(&mut self, step: &Step, phase: Phase, out: &mut Vec<Message>)
+        requires { vec_len out.old + 2 ≤ vec_capacity out.old }
+        ensures says { Says (pausing_as self.old phase) step.now self.old self.new out.old.items out.new.items }
+        ensures room { vec_capacity out.old ≤ vec_capacity out.new }
+        ensures len { vec_len out.new ≤ vec_len out.old + 2 }
+    {
+        if is_paused(phase) {
+            self.begin_auction(step, phase, out);
+        } else {
+            self.becomes(step, phase, out);
+        }
+    }
+
+    fn pausing(&mut self, step: &Step, out: &mut Vec<Message>)
+        requires { vec_len out.old + 2 ≤ vec_capacity out.old }
+        ensures says { Says (pausing self.old step.now) step.now self.old self.new out.old.items out.new.items }
+        ensures room { vec_capacity out.old ≤ vec_capacity out.new }
+        ensures len { vec_len out.new ≤ vec_len out.old + 2 }
+    {
+        if let Some(phase) = self.pause_now(step) {
+            self.pause_as(step, phase, out);
+        }
+    }
+
+    /// A trading pause, after 15 seconds in a limit state or where the listing exchange asks for it.
+    pub fn pause(&mut self, step: &Step, out: &mut Vec<Message>)
+        requires { vec_len out.old + 2 ≤ vec_capacity out.old }
+        ensures obeys { Obeys rules.pause step.now self.old self.new out.old.items out.new.items }
+        ensures room { vec_capacity out.old ≤ vec_capacity out.new }
+        ensures len { vec_len out.new ≤ vec_len out.old + 2 }
+    {
+        if is_done(self.phase) {
+            return;
+        }
+        self.pausing(step, out);
+    }
+}

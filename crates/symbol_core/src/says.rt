@@ -1,0 +1,283 @@
+// What a symbol says, and what is then kept of it.
+ghost use Rattle.std.specs.Prelude.{true, None, Some, ◌≡◌, ◌+◌, ◌≤◌, ◌++◌, ◌∷◌, [], List, vec_len, vec_capacity};
+ghost use Rattle.rulebook.specs.Auction.{is_paused, origin_of};
+ghost use Rattle.rulebook.specs.Rules.{collar};
+ghost use Rattle.rulebook.specs.Symbol.{is_times};
+ghost use Rattle.symbol_core.specs.Kept.{quoted_by, turned};
+ghost use Rattle.rulebook.specs.Auction.{indicated_by};
+ghost use Rattle.symbol_core.specs.Stands.{Says};
+
+use crate::kept::{Kept, Step};
+use crate::records::{indicated_by, opens_early, quoted_by};
+use crate::round::TimedRound;
+use pause_core::{is_limit, is_trading};
+use price_core::{Cause, Price};
+use reopen_core::Origin;
+use rulebook::Banded;
+use session_core::{Moment, Phase};
+use wire_in::Record;
+use wire_out::{Message, ShortKind};
+
+pub fn is_paused(phase: Phase) -> bool
+    ensures { result ≡ is_paused phase }
+{
+    matches!(phase, Phase::Paused)
+}
+
+/// What a pause out of that phase comes from.
+pub fn origin_of(phase: Phase) -> Origin
+    ensures { result ≡ origin_of phase }
+{
+    match phase {
+        Phase::LimitLow => Origin::Low,
+        Phase::LimitHigh => Origin::High,
+        _ => Origin::Straddle,
+    }
+}
+
+fn is_times(cause: Cause) -> bool
+    ensures { result ≡ is_times cause }
+{
+    matches!(cause, Cause::Times)
+}
+
+pub fn midnight() -> Moment
+    ensures { result ≡ 0 }
+{
+    Moment::new(0).unwrap()
+}
+
+fn push(out: &mut Vec<Message>, message: Message)
+    requires { vec_len out.old + 1 ≤ vec_capacity out.old }
+    ensures items { out.new.items ≡ out.old.items ++ message ∷ [] }
+    ensures room { vec_capacity out.old ≤ vec_capacity out.new }
+    ensures len { vec_len out.new ≡ vec_len out.old + 1 }
+{
+    out.push(message).unwrap();
+}
+
+impl Kept {
+    fn begin_run(&mut self, step: &Step)
+        ensures { self.new ≡ record self.old { begun = Some step.now.moment; quote = quoted_by self.old.id step.now.input; band = None; adopted = 0; is_fresh = true } }
+    {
+        self.begun = Some(step.moment);
+        self.quote = quoted_by(self.id, &step.input);
+        self.band = None;
+        self.adopted = midnight();
+        self.is_fresh = true;
+    }
+
+    fn begin_pause(&mut self, step: &Step)
+        ensures { self.new ≡ record self.old { origin = origin_of self.old.phase; indication = indicated_by self.old.id step.now.input } }
+    {
+        self.origin = origin_of(self.phase);
+        self.indication = indicated_by(self.id, &step.input);
+    }
+
+    fn turn(&mut self, step: &Step, phase: Phase)
+        ensures { self.new ≡ turned self.old step.now phase }
+    {
+        let trades = is_trading(phase);
+        if is_paused(phase) {
+            self.begin_pause(step);
+        }
+        if is_limit(self.phase) {
+            self.left_limit = trades || self.left_limit;
+        } else if trades {
+            self.begin_run(step);
+        }
+        self.phase = phase;
+        self.since = step.moment;
+    }
+
+    /// The symbol's phase becomes this one.
+    pub fn becomes(&mut self, step: &Step, phase: Phase, out: &mut Vec<Message>)
+        requires { vec_len out.old + 1 ≤ vec_capacity out.old }
+        ensures says { Says (Message.State self.old.id phase ∷ []) step.now self.old self.new out.old.items out.new.items }
+        ensures room { vec_capacity out.old ≤ vec_capacity out.new }
+        ensures len { vec_len out.new ≡ vec_len out.old + 1 }
+    {
+        push(
+            out,
+            Message::State {
+                symbol: self.id,
+                phase,
+            },
+        );
+        self.turn(step, phase);
+    }
+}
+
+impl Kept {
+    ghost use Rattle.symbol_core.specs.Kept.{announcing, announcing_name, banded};
+
+    /// A straddle state begins or ends.
+    pub fn say_straddle(&mut self, step: &Step, on: bool, out: &mut Vec<Message>)
+        requires { vec_len out.old + 1 ≤ vec_capacity out.old }
+        ensures says { Says (Message.Straddle self.old.id on ∷ []) step.now self.old self.new out.old.items out.new.items }
+        ensures room { vec_capacity out.old ≤ vec_capacity out.new }
+        ensures len { vec_len out.new ≡ vec_len out.old + 1 }
+    {
+        push(
+            out,
+            Message::Straddle {
+                symbol: self.id,
+                on,
+            },
+        );
+        self.straddling = on;
+    }
+
+    /// A round of the auction begins.
+    pub fn say_round(&mut self, step: &Step, round: &TimedRound, out: &mut Vec<Message>)
+        requires now { round.now.moment ≡ step.now.moment }
+        requires room { vec_len out.old + 1 ≤ vec_capacity out.old }
+        ensures says { Says (collar self.old.id round.now.number round.now.collars) step.now self.old self.new out.old.items out.new.items }
+        ensures room { vec_capacity out.old ≤ vec_capacity out.new }
+        ensures len { vec_len out.new ≡ vec_len out.old + 1 }
+    {
+        let r = round.round();
+        push(
+            out,
+            Message::Collar {
+                symbol: self.id,
+                round: r.number,
+                lower: r.collars.lower,
+                upper: r.collars.upper,
+            },
+        );
+        self.round = Some(*round);
+    }
+
+    /// The auction releases the symbol.
+    pub fn say_release(&mut self, step: &Step, price: Price, out: &mut Vec<Message>)
+        requires { vec_len out.old + 1 ≤ vec_capacity out.old }
+        ensures says { Says (Message.Release self.old.id price ∷ []) step.now self.old self.new out.old.items out.new.items }
+        ensures room { vec_capacity out.old ≤ vec_capacity out.new }
+        ensures len { vec_len out.new ≡ vec_len out.old + 1 }
+    {
+        push(
+            out,
+            Message::Release {
+                symbol: self.id,
+                price,
+            },
+        );
+        self.released = Some(price);
+    }
+
+    fn say_listed(&mut self, step: &Step, name: [u8; 8], out: &mut Vec<Message>)
+        requires { vec_len out.old + 1 ≤ vec_capacity out.old }
+        ensures says { Says (Message.Listed self.old.id name ∷ []) step.now self.old self.new out.old.items out.new.items }
+        ensures room { vec_capacity out.old ≤ vec_capacity out.new }
+        ensures len { vec_len out.new ≡ vec_len out.old + 1 }
+    {
+        push(
+            out,
+            Message::Listed {
+                symbol: self.id,
+                name,
+            },
+        );
+    }
+
+    fn say_carried(&mut self, step: &Step, out: &mut Vec<Message>)
+        requires { vec_len out.old + 1 ≤ vec_capacity out.old }
+        ensures says { Says (Message.Short self.old.id ShortKind.Carried ∷ []) step.now self.old self.new out.old.items out.new.items }
+        ensures room { vec_capacity out.old ≤ vec_capacity out.new }
+        ensures len { vec_len out.new ≡ vec_len out.old + 1 }
+    {
+        push(
+            out,
+            Message::Short {
+                symbol: self.id,
+                kind: ShortKind::Carried,
+            },
+        );
+    }
+
+    fn announce_carried(&mut self, step: &Step, name: [u8; 8], out: &mut Vec<Message>)
+        requires { vec_len out.old + 2 ≤ vec_capacity out.old }
+        ensures says { Says (Message.Listed self.old.id name ∷ Message.Short self.old.id ShortKind.Carried ∷ []) step.now self.old self.new out.old.items out.new.items }
+        ensures room { vec_capacity out.old ≤ vec_capacity out.new }
+        ensures len { vec_len out.new ≤ vec_len out.old + 2 }
+    {
+        self.say_listed(step, name, out);
+        self.say_carried(step, out);
+    }
+
+    fn announce_name(&mut self, step: &Step, name: [u8; 8], out: &mut Vec<Message>)
+        requires { vec_len out.old + 2 ≤ vec_capacity out.old }
+        ensures says { Says (announcing_name self.old name) step.now self.old self.new out.old.items out.new.items }
+        ensures room { vec_capacity out.old ≤ vec_capacity out.new }
+        ensures len { vec_len out.new ≤ vec_len out.old + 2 }
+    {
+        if self.carried {
+            self.announce_carried(step, name, out);
+        } else {
+            self.say_listed(step, name, out);
+        }
+    }
+
+    /// What a listing announces.
+    pub fn announce(&mut self, step: &Step, out: &mut Vec<Message>)
+        requires { vec_len out.old + 2 ≤ vec_capacity out.old }
+        ensures says { Says (announcing self.old step.now.input) step.now self.old self.new out.old.items out.new.items }
+        ensures room { vec_capacity out.old ≤ vec_capacity out.new }
+        ensures len { vec_len out.new ≤ vec_len out.old + 2 }
+    {
+        if let Record::Listing { name, .. } = step.input {
+            self.announce_name(step, name, out);
+        }
+    }
+
+    /// The short sale restriction is triggered.
+    pub fn say_triggered(&mut self, step: &Step, out: &mut Vec<Message>)
+        requires { vec_len out.old + 1 ≤ vec_capacity out.old }
+        ensures says { Says (Message.Short self.old.id ShortKind.Triggered ∷ []) step.now self.old self.new out.old.items out.new.items }
+        ensures room { vec_capacity out.old ≤ vec_capacity out.new }
+        ensures len { vec_len out.new ≡ vec_len out.old + 1 }
+    {
+        push(
+            out,
+            Message::Short {
+                symbol: self.id,
+                kind: ShortKind::Triggered,
+            },
+        );
+    }
+
+    fn take_band(&mut self, step: &Step, b: &Banded)
+        ensures { self.new ≡ banded self.old step.now b.now }
+    {
+        if let Some(begun) = self.begun {
+            if self.band.is_none() && opens_early(self.id, begun, step) {
+                self.is_fresh = true;
+            }
+            self.band = Some(*b);
+            if !is_times(b.cause) {
+                self.adopted = step.moment;
+            }
+        }
+    }
+
+    /// Price bands.
+    pub fn say_band(&mut self, step: &Step, b: &Banded, out: &mut Vec<Message>)
+        requires { vec_len out.old + 1 ≤ vec_capacity out.old }
+        ensures says { Says (Message.Band self.old.id b.now.cause b.now.reference b.now.bands.lower b.now.bands.upper ∷ []) step.now self.old self.new out.old.items out.new.items }
+        ensures room { vec_capacity out.old ≤ vec_capacity out.new }
+        ensures len { vec_len out.new ≡ vec_len out.old + 1 }
+    {
+        push(
+            out,
+            Message::Band {
+                symbol: self.id,
+                cause: b.cause,
+                reference: b.reference,
+                lower: b.bands.lower,
+                upper: b.bands.upper,
+            },
+        );
+        self.take_band(step, b);
+    }
+}

@@ -1,0 +1,105 @@
+// Taking a record in, and what is kept at the end of a step.
+ghost use Rattle.std.specs.Prelude.{◌≡◌, ◌≤◌, ◌++◌, [], is_some, if◌then◌else◌, filter, length, option_to_list};
+ghost use Rattle.symbol_core.specs.Taken.{finished, leaves, renewed, taken};
+ghost use Rattle.symbol_core.specs.Window.{SameLive};
+
+use crate::kept::{Kept, Step};
+use crate::records::{cancelled_by, deal_of, halted_by, indicated_by, listed_by, quoted_by};
+use crate::says::midnight;
+use reopen_core::Origin;
+use session_core::{Moment, Phase};
+use window_core::{Deal, SummedDeals};
+use wire_in::Record;
+
+impl Kept {
+    /// The kept state of an id at the begin of a day, with whether the day before triggered the short sale restriction.
+    pub fn renewed(id: u16, carried: bool) -> Kept
+        ensures { result ≡ renewed id carried }
+    {
+        Kept {
+            id,
+            terms: None,
+            phase: Phase::Shut,
+            since: midnight(),
+            begun: None,
+            quote: None,
+            band: None,
+            adopted: midnight(),
+            straddling: false,
+            halted: false,
+            round: None,
+            origin: Origin::Straddle,
+            indication: None,
+            triggered: false,
+            carried,
+            left_limit: false,
+            released: None,
+            deal: None,
+            is_fresh: false,
+        }
+    }
+
+    /// Takes a record in that is no day.
+    pub fn take(&mut self, step: &Step)
+        ensures { self.new ≡ taken self.old step.now }
+    {
+        self.terms = listed_by(&step.input, self.terms);
+        if self.begun.is_some() {
+            self.quote = quoted_by(self.id, &step.input).or(self.quote);
+        }
+        self.halted = halted_by(self.id, &step.input, self.halted);
+        self.indication = indicated_by(self.id, &step.input).or(self.indication);
+        self.left_limit = false;
+        self.released = None;
+        self.deal = deal_of(self.id, step);
+        self.is_fresh = false;
+    }
+
+    /// Keeps whether the step's trade triggered the short sale restriction.
+    pub fn finish(&mut self, step: &Step)
+        ensures { self.new ≡ finished self.old step.now }
+    {
+        self.triggered = self.triggering(step) || self.triggered;
+    }
+}
+
+/// A cancel takes its deals away.
+pub fn drop_cancelled(id: u16, x: &Record, deals: &mut SummedDeals)
+    ensures items { deals.new.deals ≡ filter (leaves id x.now) deals.old.deals }
+    ensures spare { deals.old.spare ≤ deals.new.spare }
+{
+    if let Some(number) = cancelled_by(id, x) {
+        deals.take_away(number);
+    }
+}
+
+/// A new window keeps none of the deals before it.
+fn begin_window(k: &Kept, deals: &mut SummedDeals)
+    ensures items { deals.new.deals ≡ (if k.now.is_fresh then [] else deals.old.deals) }
+    ensures spare { deals.old.spare ≤ deals.new.spare }
+{
+    if k.is_fresh {
+        deals.clear();
+    }
+}
+
+/// Adds the step's deal, where it counts.
+fn add_deal(k: &Kept, deal: &Option<Deal>, deals: &mut SummedDeals)
+    requires { length (option_to_list deal.now) ≤ deals.old.spare }
+    ensures { deals.new.deals ≡ deals.old.deals ++ (if is_some k.now.begun then option_to_list deal.now else []) }
+{
+    match deal {
+        Some(deal) if k.begun.is_some() => deals.push(*deal),
+        _ => {}
+    }
+}
+
+/// The deals of the window that are less than five minutes old become the kept ones.
+pub fn keep_deals(k: &Kept, t: Moment, deal: &Option<Deal>, deals: &mut SummedDeals)
+    requires { length (option_to_list deal.now) ≤ deals.old.spare }
+    ensures { SameLive t deals.new.deals ((if k.now.is_fresh then [] else deals.old.deals) ++ (if is_some k.now.begun then option_to_list deal.now else [])) }
+{
+    begin_window(k, deals);
+    deals.keep_live(t);
+    add_deal(k, deal, deals);
+}

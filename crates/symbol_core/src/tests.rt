@@ -1,0 +1,288 @@
+use super::*;
+use price_core::{Cause, Leverage, Price, Tier, Unmatched};
+use session_core::{Close, Date, Day, Moment, Phase, Profile};
+use std::process::Abort;
+use std::test::Fail;
+use wire_in::Record;
+use wire_out::{Message, ShortKind};
+
+fn at(seconds: u64) -> Result<Moment, Fail> {
+    Ok(Moment::new(seconds.wrapping_mul(1_000_000_000))?)
+}
+
+fn day(day: u8) -> Result<Day, Fail> {
+    Ok(Day {
+        date: Date::of(2024, 6, day)?,
+        close: Close::Regular,
+        profile: Profile::Since18,
+    })
+}
+
+fn new_day(date: u8) -> Result<Record, Fail> {
+    Ok(Record::Day {
+        moment: at(14_400)?,
+        day: day(date)?,
+        index_close: price_core::Index::new(500_000)?,
+    })
+}
+
+fn listing(close: u64) -> Result<Record, Fail> {
+    Ok(Record::Listing {
+        moment: at(14_400)?,
+        name: *b"ABC\0\0\0\0\0",
+        tier: Tier::One,
+        leverage: Leverage::new(10)?,
+        close: Some(Price::new(close)?),
+    })
+}
+
+fn clock(seconds: u64) -> Result<Record, Fail> {
+    let moment = at(seconds)?;
+    Ok(Record::Clock { moment })
+}
+
+fn trade(seconds: u64, number: u32, price: u64, flags: u16) -> Result<Record, Fail> {
+    Ok(Record::Trade {
+        moment: at(seconds)?,
+        symbol: 0,
+        number,
+        price: Price::new(price)?,
+        size: 100,
+        flags,
+    })
+}
+
+fn quote(seconds: u64, bid: u64, offer: u64) -> Result<Record, Fail> {
+    Ok(Record::Quote {
+        moment: at(seconds)?,
+        symbol: 0,
+        bid: Some(Price::new(bid)?),
+        offer: Some(Price::new(offer)?),
+        bid_size: 1,
+        offer_size: 1,
+    })
+}
+
+fn listed() -> Message {
+    Message::Listed {
+        symbol: 0,
+        name: *b"ABC\0\0\0\0\0",
+    }
+}
+
+fn state(phase: Phase) -> Message {
+    Message::State { symbol: 0, phase }
+}
+
+fn band(cause: Cause, reference: u64, lower: u64, upper: u64) -> Result<Message, Fail> {
+    Ok(Message::Band {
+        symbol: 0,
+        cause,
+        reference: Price::new(reference)?,
+        lower: Price::new(lower)?,
+        upper: Price::new(upper)?,
+    })
+}
+
+fn collar(round: u16, lower: u64, upper: u64) -> Result<Message, Fail> {
+    Ok(Message::Collar {
+        symbol: 0,
+        round,
+        lower: Price::new(lower)?,
+        upper: Price::new(upper)?,
+    })
+}
+
+/// Symbol 0 says exactly these messages at these records, with no market-wide halt.
+fn expect_messages<R: Abort + AllocGlobal>(
+    rt: &R,
+    xs: &[Record],
+    want: &[Message],
+) -> Result<(), Fail> {
+    let mut symbol = Symbol::new(rt.alloc(), 0)?;
+    let mut out = Vec::new(rt.alloc());
+    let market = MarketView {
+        day: day(3)?,
+        stopped: false,
+    };
+    for x in xs {
+        symbol.evaluate(x, &market, &mut out)?;
+    }
+    assert!(rt; out.as_slice() == want);
+    Ok(())
+}
+
+#[test]
+fn an_opening_trade_gives_the_first_bands(rt: HostRuntime) -> Result<(), Fail> {
+    expect_messages(
+        &rt,
+        &[
+            new_day(3)?,
+            clock(14_400)?,
+            listing(500_000)?,
+            clock(34_200)?,
+            trade(34_200, 1, 500_000, 1)?,
+            clock(56_100)?,
+        ],
+        &[
+            listed(),
+            state(Phase::Trading),
+            band(Cause::First, 500_000, 475_000, 525_000)?,
+            band(Cause::Times, 500_000, 450_000, 550_000)?,
+        ],
+    )
+}
+
+#[test]
+fn a_limit_state_of_15_seconds_ends_in_a_pause_and_a_reopening(
+    rt: HostRuntime,
+) -> Result<(), Fail> {
+    expect_messages(
+        &rt,
+        &[
+            new_day(3)?,
+            listing(500_000)?,
+            clock(34_200)?,
+            trade(34_200, 1, 500_000, 1)?,
+            quote(36_000, 474_900, 475_000)?,
+            trade(36_005, 2, 475_000, 0)?,
+            quote(36_015, 474_900, 476_000)?,
+            Record::Indication {
+                moment: at(36_180)?,
+                symbol: 0,
+                price: Price::new(440_000)?,
+                unmatched: Unmatched::Nothing,
+            },
+            clock(36_315)?,
+            clock(36_615)?,
+        ],
+        &[
+            listed(),
+            state(Phase::Trading),
+            band(Cause::First, 500_000, 475_000, 525_000)?,
+            state(Phase::LimitLow),
+            state(Phase::Paused),
+            collar(0, 451_200, 525_000)?,
+            collar(1, 427_400, 525_000)?,
+            Message::Release {
+                symbol: 0,
+                price: Price::new(440_000)?,
+            },
+            state(Phase::Trading),
+            band(Cause::First, 440_000, 418_000, 462_000)?,
+        ],
+    )
+}
+
+#[test]
+fn the_mean_of_five_minutes_moves_the_bands(rt: HostRuntime) -> Result<(), Fail> {
+    expect_messages(
+        &rt,
+        &[
+            new_day(3)?,
+            listing(500_000)?,
+            clock(34_200)?,
+            trade(34_200, 1, 500_000, 1)?,
+            trade(34_260, 2, 520_000, 0)?,
+            clock(34_499)?,
+            clock(34_500)?,
+        ],
+        &[
+            listed(),
+            state(Phase::Trading),
+            band(Cause::First, 500_000, 475_000, 525_000)?,
+            band(Cause::Moved, 510_000, 484_500, 535_500)?,
+            band(Cause::Moved, 520_000, 494_000, 546_000)?,
+        ],
+    )
+}
+
+#[test]
+fn a_restriction_is_carried_to_the_next_day(rt: HostRuntime) -> Result<(), Fail> {
+    let short = |kind: ShortKind| Message::Short { symbol: 0, kind };
+    expect_messages(
+        &rt,
+        &[
+            new_day(3)?,
+            listing(200_000)?,
+            clock(34_200)?,
+            trade(36_000, 1, 180_001, 0)?,
+            trade(36_000, 2, 180_000, 0)?,
+            trade(36_000, 3, 180_000, 0)?,
+            new_day(4)?,
+            listing(200_000)?,
+            new_day(5)?,
+            listing(200_000)?,
+        ],
+        &[
+            listed(),
+            state(Phase::Trading),
+            band(Cause::First, 180_001, 171_000, 189_000)?,
+            short(ShortKind::Triggered),
+            listed(),
+            short(ShortKind::Carried),
+            listed(),
+        ],
+    )
+}
+
+#[test]
+fn a_symbol_is_listed_from_its_listing_to_the_end_of_the_day(rt: HostRuntime) -> Result<(), Fail> {
+    let mut symbol = Symbol::new(rt.alloc(), 0)?;
+    let mut out = Vec::new(rt.alloc());
+    let market = MarketView {
+        day: day(3)?,
+        stopped: false,
+    };
+    assert!(rt; !symbol.is_listed());
+    symbol.evaluate(&new_day(3)?, &market, &mut out)?;
+    symbol.evaluate(&listing(500_000)?, &market, &mut out)?;
+    assert!(rt; symbol.is_listed());
+    symbol.evaluate(&clock(57_600)?, &market, &mut out)?;
+    assert!(rt; symbol.phase() == Phase::Closed);
+    symbol.evaluate(&new_day(4)?, &market, &mut out)?;
+    assert!(rt; !symbol.is_listed());
+    assert!(rt; symbol.phase() == Phase::Shut);
+    Ok(())
+}
+
+/// The moment that many nanoseconds after 09:30:00.
+fn after_open(nanos: u64) -> Result<Moment, Fail> {
+    Ok(Moment::new(nanos.wrapping_add(34_200_000_000_000))?)
+}
+
+#[test]
+fn clock_ticks_take_no_time_for_each_of_50_000_trades(rt: HostRuntime) -> Result<(), Fail> {
+    let mut symbol = Symbol::new(rt.alloc(), 0)?;
+    let mut out = Vec::new(rt.alloc());
+    let market = MarketView {
+        day: day(3)?,
+        stopped: false,
+    };
+    symbol.evaluate(&new_day(3)?, &market, &mut out)?;
+    symbol.evaluate(&listing(500_000)?, &market, &mut out)?;
+    symbol.evaluate(&clock(34_200)?, &market, &mut out)?;
+    symbol.evaluate(&trade(34_200, 0, 500_000, 1)?, &market, &mut out)?;
+    for number in 1..50_000_u32 {
+        let x = Record::Trade {
+            moment: after_open(u64::from(number))?,
+            symbol: 0,
+            number,
+            price: Price::new(500_000)?,
+            size: 100,
+            flags: 0,
+        };
+        symbol.evaluate(&x, &market, &mut out)?;
+    }
+    for tick in 0..50_000_u64 {
+        let moment = after_open(tick.wrapping_add(60_000_000_000))?;
+        symbol.evaluate(&Record::Clock { moment }, &market, &mut out)?;
+    }
+    let want = [
+        listed(),
+        state(Phase::Trading),
+        band(Cause::First, 500_000, 475_000, 525_000)?,
+    ];
+    assert!(rt; out.as_slice() == want.as_slice());
+    Ok(())
+}

@@ -1,0 +1,187 @@
+// The rules that turn a phase: the close, a market-wide halt, the start, a regulatory halt, and limit and straddle states.
+ghost use Rattle.std.specs.Prelude.{◌≡◌, ◌+◌, ◌≤◌, ◌&&◌, if◌then◌else◌, [], List, vec_len, vec_capacity};
+ghost use Rattle.std.specs.Option.{option_map_or};
+ghost use Rattle.session_core.specs.Times.{is_closed};
+ghost use Rattle.limit_core.specs.Limits.{is_straddling};
+ghost use Rattle.pause_core.specs.Phases.{is_done, is_trading};
+ghost use Rattle.rulebook.specs.Rules as rules;
+ghost use Rattle.rulebook.specs.Rules.{at_band, meets};
+ghost use Rattle.symbol_core.specs.Kept.{becoming, brakes, is_straddling_now, straddling};
+ghost use Rattle.symbol_core.specs.Stands.{Obeys, Says};
+
+use crate::kept::{Kept, Step};
+use limit_core::{is_at_lower, is_at_upper, straddles};
+use pause_core::{Brakes, close, halt, is_done, is_limit, is_trading, start, stop};
+use price_core::Quotation;
+use rulebook::Banded;
+use session_core::{Day, Moment, Phase, close_moment, in_session};
+use wire_out::Message;
+
+fn is_closed(t: Moment, day: &Day) -> bool
+    ensures { result ≡ is_closed t day.now }
+{
+    close_moment(day).nanos() <= t.nanos()
+}
+
+impl Kept {
+    fn brakes(&self, step: &Step) -> Brakes
+        ensures { result ≡ brakes self.now step.now }
+    {
+        Brakes {
+            closed: is_closed(step.moment, &step.day),
+            in_session: in_session(step.moment, &step.day),
+            stopped: step.stopped,
+            halted: self.halted,
+        }
+    }
+
+    /// Turns to a phase that one of these rules brings, unless the symbol is closed.
+    fn turn_to(&mut self, step: &Step, to: Option<Phase>, out: &mut Vec<Message>)
+        requires { vec_len out.old + 1 ≤ vec_capacity out.old }
+        ensures says { Says (if is_done self.old.phase then [] else option_map_or (becoming self.old) to []) step.now self.old self.new out.old.items out.new.items }
+        ensures room { vec_capacity out.old ≤ vec_capacity out.new }
+        ensures len { vec_len out.new ≤ vec_len out.old + 1 }
+    {
+        match to {
+            Some(phase) if !is_done(self.phase) => self.becomes(step, phase, out),
+            _ => {}
+        }
+    }
+
+    /// The close: the symbol's day is over.
+    pub fn close(&mut self, step: &Step, out: &mut Vec<Message>)
+        requires { vec_len out.old + 1 ≤ vec_capacity out.old }
+        ensures obeys { Obeys rules.close step.now self.old self.new out.old.items out.new.items }
+        ensures room { vec_capacity out.old ≤ vec_capacity out.new }
+        ensures len { vec_len out.new ≤ vec_len out.old + 1 }
+    {
+        let to = close(self.phase, &self.brakes(step));
+        self.turn_to(step, to, out);
+    }
+
+    /// A market-wide halt stops the symbol (NYSE Rule 7.12).
+    pub fn stop(&mut self, step: &Step, out: &mut Vec<Message>)
+        requires { vec_len out.old + 1 ≤ vec_capacity out.old }
+        ensures obeys { Obeys rules.stop step.now self.old self.new out.old.items out.new.items }
+        ensures room { vec_capacity out.old ≤ vec_capacity out.new }
+        ensures len { vec_len out.new ≤ vec_len out.old + 1 }
+    {
+        let to = stop(self.phase, &self.brakes(step));
+        self.turn_to(step, to, out);
+    }
+
+    /// Trading starts.
+    pub fn start(&mut self, step: &Step, out: &mut Vec<Message>)
+        requires { vec_len out.old + 1 ≤ vec_capacity out.old }
+        ensures obeys { Obeys rules.start step.now self.old self.new out.old.items out.new.items }
+        ensures room { vec_capacity out.old ≤ vec_capacity out.new }
+        ensures len { vec_len out.new ≤ vec_len out.old + 1 }
+    {
+        let to = start(self.phase, &self.brakes(step));
+        self.turn_to(step, to, out);
+    }
+
+    /// A regulatory halt by notice, and its end.
+    pub fn halt(&mut self, step: &Step, out: &mut Vec<Message>)
+        requires { vec_len out.old + 1 ≤ vec_capacity out.old }
+        ensures obeys { Obeys rules.halt step.now self.old self.new out.old.items out.new.items }
+        ensures room { vec_capacity out.old ≤ vec_capacity out.new }
+        ensures len { vec_len out.new ≤ vec_len out.old + 1 }
+    {
+        let to = halt(self.phase, &self.brakes(step));
+        self.turn_to(step, to, out);
+    }
+}
+
+/// Whether a quotation is at that side of the bands.
+fn at_band(side: Phase, quote: &Option<Quotation>, band: &Option<Banded>) -> bool
+    ensures { result ≡ at_band side quote.now band.now }
+{
+    match (quote, band) {
+        (Some(q), Some(b)) => match side {
+            Phase::LimitLow => is_at_lower(q, &b.bands),
+            Phase::LimitHigh => is_at_upper(q, &b.bands),
+            _ => false,
+        },
+        _ => false,
+    }
+}
+
+fn straddles_bands(quote: &Option<Quotation>, band: &Option<Banded>) -> bool
+    ensures { result ≡ meets is_straddling quote.now band.now }
+{
+    match (quote, band) {
+        (Some(q), Some(b)) => straddles(q, &b.bands),
+        _ => false,
+    }
+}
+
+impl Kept {
+    /// A limit state is left when the quotation leaves the band (LULD Plan, Section VI).
+    pub fn leave_limit(&mut self, step: &Step, out: &mut Vec<Message>)
+        requires { vec_len out.old + 1 ≤ vec_capacity out.old }
+        ensures obeys { Obeys rules.leave_limit step.now self.old self.new out.old.items out.new.items }
+        ensures room { vec_capacity out.old ≤ vec_capacity out.new }
+        ensures len { vec_len out.new ≤ vec_len out.old + 1 }
+    {
+        if is_done(self.phase) {
+            return;
+        }
+        if is_limit(self.phase) && !at_band(self.phase, &self.quote, &self.band) {
+            self.becomes(step, Phase::Trading, out);
+        }
+    }
+
+    /// A limit state begins where the quotation is at a band (LULD Plan, Section VI).
+    pub fn enter_limit(&mut self, step: &Step, out: &mut Vec<Message>)
+        requires { vec_len out.old + 1 ≤ vec_capacity out.old }
+        ensures obeys { Obeys rules.enter_limit step.now self.old self.new out.old.items out.new.items }
+        ensures room { vec_capacity out.old ≤ vec_capacity out.new }
+        ensures len { vec_len out.new ≤ vec_len out.old + 1 }
+    {
+        if is_done(self.phase) {
+            return;
+        }
+        if !is_trading(self.phase) {
+            return;
+        }
+        if at_band(Phase::LimitLow, &self.quote, &self.band) {
+            self.becomes(step, Phase::LimitLow, out);
+        } else if at_band(Phase::LimitHigh, &self.quote, &self.band) {
+            self.becomes(step, Phase::LimitHigh, out);
+        }
+    }
+
+    fn is_straddling_now(&self) -> bool
+        ensures { result ≡ is_straddling_now self.now }
+    {
+        is_trading(self.phase) && straddles_bands(&self.quote, &self.band)
+    }
+
+    fn straddling(&mut self, step: &Step, out: &mut Vec<Message>)
+        requires { vec_len out.old + 1 ≤ vec_capacity out.old }
+        ensures says { Says (straddling self.old step.now) step.now self.old self.new out.old.items out.new.items }
+        ensures room { vec_capacity out.old ≤ vec_capacity out.new }
+        ensures len { vec_len out.new ≤ vec_len out.old + 1 }
+    {
+        let is_straddling = self.is_straddling_now();
+        if is_straddling && !self.straddling {
+            self.say_straddle(step, true, out);
+        } else if self.straddling && !is_straddling {
+            self.say_straddle(step, false, out);
+        }
+    }
+
+    /// A straddle state begins or ends (LULD Plan, Section VII).
+    pub fn straddle(&mut self, step: &Step, out: &mut Vec<Message>)
+        requires { vec_len out.old + 1 ≤ vec_capacity out.old }
+        ensures obeys { Obeys rules.straddle step.now self.old self.new out.old.items out.new.items }
+        ensures room { vec_capacity out.old ≤ vec_capacity out.new }
+        ensures len { vec_len out.new ≤ vec_len out.old + 1 }
+    {
+        if is_done(self.phase) {
+            return;
+        }
+        self.straddling(step, out);
+    }
+}
