@@ -17,9 +17,10 @@ use Rattle.wire_in.specs.declared.record.Refusal.{Refusal}
 use Rattle.rulebook.specs.Admission.{names, last_day, is_listed_name, with_name}
 use Rattle.market_core.specs.Dated.{is_on, is_up_to, are_up_to}
 use Rattle.market_core.specs.Admitted.{Admitted, StandsFor, refusal_of, is_date_early, is_out_of_order, is_before_day, lacks_room, is_full_for, added, put_at, dates_listed, admitted_with}
-use Rattle.market_core.proofs.Listings.{same_name, own_name}
-use Rattle.market_core.proofs.Places.{is_some-position}
-use Rattle.market_core.proofs.Marks.{marked, map-marked, map-marked_none, one_place}
+use Rattle.rulebook.proofs.Listings.{same_name, own_name}
+use Rattle.rulebook.proofs.Places.{is_some-position}
+use Rattle.rulebook.proofs.Ids.{one_place}
+use Rattle.market_core.proofs.Marks.{marked, map-marked, map-marked_none}
 
 -- a refusal that doesn't apply leaves the others to be tried
 pub passes : (b : Bool) (refusal : Refusal) (others : Option Refusal) → cond b (Some refusal) others ≡ None → (b ≡ false) × (others ≡ None)

@@ -2,48 +2,9 @@
 use Rattle.std.proofs.Common.{◌≡◌, ℕ, zero, suc, ◌+◌, ◌≤◌, Bool, true, false, cond, List, [], ◌∷◌, ◌++◌, length, map, Option, Some, None, refl, sym, ap, subst, ◌∙◌, true≢false, arith}
 use Rattle.std.specs.Prelude.{◌||◌, slice_set, position}
 use Rattle.std.specs.List.{list_any, position_from}
-use Rattle.std.specs.Str.{bytes_eq}
 use Rattle.std.proofs.lemmas.Bool.{false≢true}
 use Rattle.std.proofs.lemmas.Iterator.Adapters.{position_from-zero}
-use Rattle.wire_in.specs.declared.record.Record.{Record}
-use Rattle.wire_in.specs.declared.record.Record.TheVariants as in_
-use Rattle.rulebook.specs.Admission.{names, with_name, is_among}
-use Rattle.market_core.proofs.Listings.{same_name, list_any-append}
-
--- where one element passes, no later one does
-abbrev pub AtMostOne : {X : Type 0} → (X → Bool) → List X → Type 0
-AtMostOne p [] = Unit {0}
-AtMostOne p (x ∷ xs) = (p x ≡ true → list_any p xs ≡ false) × AtMostOne p xs
-
-AtMostOne-push : {X : Type 0} (p : X → Bool) (xs : List X) (y : X) → AtMostOne p xs → (p y ≡ true → list_any p xs ≡ false) → AtMostOne p (xs ++ y ∷ [])
-AtMostOne-push p [] y one none = ((λ e. refl), tt)
-AtMostOne-push p (x ∷ xs) y one none = (
-  λ here. list_any-append p xs (y ∷ []) ∙ ap (λ b. b || (p y || false)) (one.0 here) ∙ ap (λ b. b || false) (last (p y) refl here),
-  AtMostOne-push p xs y one.1 (λ e. rest (p x) (none e)),
-) where
-  last : (b : Bool) → p y ≡ b → p x ≡ true → b ≡ false
-  last true e here = absurd (true≢false (sym (ap (λ b. b || list_any p xs) here) ∙ none e))
-  last false e here = refl
-
-  rest : (b : Bool) → (b || list_any p xs) ≡ false → list_any p xs ≡ false
-  rest true e = absurd (true≢false e)
-  rest false e = e
-
--- a name is among the listed names once
-pub one_place : (A : List Record) (name : List ℕ) → AtMostOne (bytes_eq name) (names A)
-one_place [] name = tt
-one_place (in_.Listing t n k l c ∷ A) name = by (is_among (names A) n) refl (one_place A name) where
-  by : (b : Bool) → is_among (names A) n ≡ b → AtMostOne (bytes_eq name) (names A) → AtMostOne (bytes_eq name) (cond b (names A) (names A ++ n ∷ []))
-  by true e one = one
-  by false e one = AtMostOne-push (bytes_eq name) (names A) n one (λ same. subst (λ q. list_any (bytes_eq q) (names A) ≡ false) (sym (same_name name n same)) e)
-one_place (in_.Day t d c ∷ A) name = one_place A name
-one_place (in_.Trade t s n p q f ∷ A) name = one_place A name
-one_place (in_.Cancel t s n ∷ A) name = one_place A name
-one_place (in_.Quote t s b o x y ∷ A) name = one_place A name
-one_place (in_.IndexTick t v ∷ A) name = one_place A name
-one_place (in_.Clock t ∷ A) name = one_place A name
-one_place (in_.Notice t s k ∷ A) name = one_place A name
-one_place (in_.Indication t s p u ∷ A) name = one_place A name
+use Rattle.rulebook.proofs.Ids.{AtMostOne}
 
 -- true where an element passes, and else the other test
 abbrev pub marked : {X : Type 0} → (X → Bool) → (X → Bool) → X → Bool

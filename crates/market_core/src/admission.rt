@@ -7,7 +7,7 @@ ghost use Rattle.rulebook.specs.Admission.{verdict};
 ghost use Rattle.market_core.specs.Dated.{is_on};
 ghost use Rattle.market_core.specs.Admitted.{Admitted, StandsFor, refusal_of, is_before_day, is_date_early, is_out_of_order, names_unlisted, lists_twice, lacks_room, is_listed_id, is_full_for, added, dates_listed, day_after, directory_after, dates_after, admitted_with};
 
-use crate::directory::{Directory, MOST_NAMES};
+use crate::directory::{Directory, is_full_for};
 use price_core::NoMemory;
 use session_core::{Date, Day, Moment};
 use std::alloc::Global;
@@ -132,7 +132,7 @@ fn lacks_room(directory: &Directory, x: &Record) -> bool
     let Record::Listing { name, .. } = *x else {
         return false;
     };
-    directory.id(name).is_none() && directory.len() >= MOST_NAMES
+    is_full_for(directory, name)
 }
 
 impl Admission {

@@ -1,5 +1,6 @@
 ghost use Rattle.std.specs.Prelude.{◌≡◌, ◌<◌, ◌≤◌, ◌∷◌, ◌++◌, [], None, length, position, OnOk, OnErr, IfOk};
 ghost use Rattle.std.specs.Str.{bytes_eq};
+ghost use Rattle.market_core.specs.Admitted.{is_full_for};
 
 use indexmap::IndexSet;
 use price_core::NoMemory;
@@ -61,4 +62,11 @@ impl Directory {
         let (id, _) = self.names.insert_full(name)?;
         Ok(id as u16)
     }
+}
+
+/// Whether a name is new to names that are full.
+pub(crate) fn is_full_for(directory: &Directory, name: [u8; 8]) -> bool
+    ensures { result ≡ is_full_for directory.now name }
+{
+    directory.id(name).is_none() && directory.len() >= MOST_NAMES
 }

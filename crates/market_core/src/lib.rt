@@ -4,6 +4,7 @@
 mod admission;
 mod directory;
 mod market;
+mod symbols;
 #[cfg(test)]
 mod tests;
 

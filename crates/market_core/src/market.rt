@@ -1,20 +1,22 @@
-ghost use Rattle.std.specs.Prelude.{◌≡◌, ◌+◌, ◌*◌, ◌≤◌, ◌++◌, ◌∷◌, ℕ, [], false, List, None, OnOk, OnErr, IfOk, IsOk, vec_len, vec_capacity, position, option_map, length};
-ghost use Rattle.std.specs.Option.{option_map_or};
+ghost use Rattle.std.specs.Prelude.{◌≡◌, ◌+◌, ◌*◌, ◌<◌, ◌≤◌, ◌++◌, ◌∷◌, ℕ, [], true, false, List, None, OnOk, OnErr, IfOk, IsOk, IsSome, vec_len, vec_capacity, position, option_map, length};
 ghost use Rattle.std.specs.Str.{bytes_eq};
 ghost use Rattle.wire_in.specs.declared.record.Record.{Record};
-ghost use Rattle.wire_in.specs.Records.{moment_of, name_of};
+ghost use Rattle.wire_in.specs.Records.{moment_of, name_of, is_day, is_tick};
+ghost use Rattle.breaker_core.specs.Kept.{started};
 ghost use Rattle.rulebook.specs.Admission.{verdict};
 ghost use Rattle.rulebook.specs.Market.{breaks};
-ghost use Rattle.rulebook.specs.Steps.{newest_messages};
+ghost use Rattle.rulebook.specs.Book.{newest_messages};
 ghost use Rattle.market_core.specs.Kinds.{is_trade};
-ghost use Rattle.market_core.specs.Admitted.{directory_after, is_full_for, lacks_room, added};
+ghost use Rattle.market_core.specs.Admitted.{is_full_for, lacks_room, added};
 
-use crate::directory::{Directory, MOST_NAMES};
+use crate::directory::{Directory, is_full_for};
+use crate::symbols::{evaluate, evaluate_each, put};
 use breaker_core::Breaker;
 use price_core::{Index, NoMemory};
 use session_core::{Day, Moment};
 use std::alloc::Global;
 use std::marker::Model;
+use symbol_core::{MarketView, Symbol};
 use wire_in::Record;
 use wire_out::{Message, Stamped};
 
@@ -25,33 +27,32 @@ pub struct Today {
     pub breaker: Breaker,
 }
 
-/// One market: the names ever listed, the day and its breakers.
+/// The most messages that one record gives of one symbol.
+const MOST_SAID: usize = 16;
+
+/// One market: the names ever listed, the day and its breakers, and the symbol of each name.
 #[derive(Drop)]
 pub struct Market {
+    alloc: Global,
     directory: Directory,
     today: Option<Today>,
+    symbols: Vec<Symbol>,
+    said: Vec<Message>,
 }
 
 impl Model for Market {
+    ghost use Rattle.std.specs.Prelude.{◌≡◌, ◌≤◌, length, vec_len, vec_capacity};
     ghost use Rattle.market_core.specs.Kept.{Kept};
 
     ghost Value = { Kept };
 
-    ghost view = { λ market. record { directory = market.directory; today = market.today } };
-}
+    ghost view = { λ market. record { directory = market.directory; today = market.today; symbols = market.symbols.items } };
 
-/// Puts a message into a list that has room for it.
-fn put(out: &mut Vec<Stamped>, moment: Moment, message: Message)
-    requires { vec_len out.old + 1 ≤ vec_capacity out.old }
-    ensures items { out.new.items ≡ out.old.items ++ record { moment = moment; message = message } ∷ [] }
-    ensures room { vec_capacity out.old ≤ vec_capacity out.new }
-    ensures len { vec_len out.new ≡ vec_len out.old + 1 }
-{
-    out.push(Stamped { moment, message }).unwrap();
+    ghost invariant = { λ market. (vec_len market.symbols ≡ length market.directory) × (16 ≤ vec_capacity market.said) };
 }
 
 impl Today {
-    ghost use Rattle.market_core.specs.Kept.{with_breaker_resumed, level_on, with_level_on, resumption, tick_messages, stamped};
+    ghost use Rattle.market_core.specs.Ruled.{with_breaker_resumed, level_on, with_level_on, resumption, tick_messages, ruled, ruling, stamped, view_of};
 
     /// Ends a market halt that is over.
     fn resume(&mut self, t: Moment, out: &mut Vec<Stamped>)
@@ -71,6 +72,7 @@ impl Today {
         requires { vec_len out.old + 1 ≤ vec_capacity out.old }
         ensures given { out.new.items ≡ out.old.items ++ stamped t (breaks index (level_on t index self.old)) }
         ensures kept { self.new ≡ with_level_on t index self.old }
+        ensures room { vec_capacity out.old ≤ vec_capacity out.new }
         ensures len { vec_len out.new ≤ vec_len out.old + 1 }
     {
         if let Some(level) = self.breaker.index(t, index, &self.day) {
@@ -83,82 +85,168 @@ impl Today {
         requires { vec_len out.old + 2 ≤ vec_capacity out.old }
         ensures given { out.new.items ≡ out.old.items ++ stamped t (tick_messages t index self.old) }
         ensures kept { self.new ≡ with_level_on t index (with_breaker_resumed t self.old) }
+        ensures room { vec_capacity out.old ≤ vec_capacity out.new }
         ensures len { vec_len out.new ≤ vec_len out.old + 2 }
     {
         self.resume(t, out);
         self.declare(t, index, out);
     }
+
+    /// The market-wide rules.
+    fn rule(&mut self, x: &Record, out: &mut Vec<Stamped>)
+        requires { vec_len out.old + 2 ≤ vec_capacity out.old }
+        ensures given { out.new.items ≡ out.old.items ++ stamped (moment_of x.now) (ruling x.now self.old) }
+        ensures kept { self.new ≡ ruled x.now self.old }
+        ensures room { vec_capacity out.old ≤ vec_capacity out.new }
+        ensures len { vec_len out.new ≤ vec_len out.old + 2 }
+    {
+        match *x {
+            Record::IndexTick { moment, value } => self.tick(moment, value, out),
+            Record::Clock { moment } => self.resume(moment, out),
+            _ => {}
+        }
+    }
+
+    /// What the day is to its symbols.
+    fn view(&self) -> MarketView
+        ensures { result ≡ view_of self.now }
+    {
+        MarketView {
+            day: self.day,
+            stopped: self.breaker.stopped(),
+        }
+    }
 }
 
 impl Market {
-    ghost use Rattle.market_core.specs.Kept.{StandsFor, given, today_after, applied_with, stamped, listing, resumption, tick_messages, with_level_on, with_breaker_resumed};
+    ghost use Rattle.market_core.specs.Kept.{StandsFor};
+    ghost use Rattle.market_core.specs.Applied.{EachEvaluated, OneEvaluated, Finds, Lists, OnToday, Ticks, Evaluated, Applies};
 
     /// A market with no names and no day.
     pub fn new(alloc: Global) -> Result<Market, NoMemory>
         ensures { IfOk result (λ market. StandsFor market []) }
     {
+        let said = Vec::with_capacity(alloc, MOST_SAID)?;
         Ok(Market {
+            alloc,
             directory: Directory::new(alloc),
             today: None,
+            symbols: Vec::new(alloc),
+            said,
         })
     }
 
-    /// Publishes a listing with the id of its name. A new name is let alone where the directory is full, since
-    /// admission refuses it.
-    fn list(&mut self, name: [u8; 8], t: Moment, out: &mut Vec<Stamped>) -> Result<(), NoMemory>
-        ensures given { is_full_for self.old.directory name ≡ false → OnOk result (out.new.items ≡ out.old.items ++ stamped t (listing self.old.directory name)) }
-        ensures kept { is_full_for self.old.directory name ≡ false → OnOk result (self.new ≡ record self.old { directory = added self.old.directory (position (bytes_eq name) self.old.directory) name }) }
+    /// Begins a day.
+    fn begin_day(
+        &mut self,
+        today: Today,
+        x: &Record,
+        out: &mut Vec<Stamped>,
+    ) -> Result<(), NoMemory>
+        requires { is_day x.now ≡ true }
+        ensures ok { OnOk result (EachEvaluated today x.now self.old self.new out.old.items out.new.items) }
         ensures err { OnErr result ((self.new ≡ self.old) × (out.new.items ≡ out.old.items)) }
-        ensures len { vec_len out.new ≤ vec_len out.old + 2 }
+        ensures len { vec_len out.new ≤ vec_len out.old + 16 * length self.old.directory }
+        ensures room { vec_len out.old + 16 * length self.old.directory ≤ vec_capacity out.old → IsOk result }
     {
-        out.reserve(1)?;
-        let symbol = match self.directory.id(name) {
-            Some(id) => id,
-            None if self.directory.len() < MOST_NAMES => self.directory.push(name)?,
-            None => return Ok(()),
+        let _day = matches!(x, Record::Day { .. });
+        out.reserve(MOST_SAID * self.symbols.len())?;
+        let market = today.view();
+        self.today = Some(today);
+        evaluate_each(&mut self.symbols, x, &market, &mut self.said, out);
+        Ok(())
+    }
+
+    /// The market-wide rules at a clock or an index tick, and then those of each symbol.
+    fn tick(&mut self, x: &Record, out: &mut Vec<Stamped>) -> Result<(), NoMemory>
+        requires { is_tick x.now ≡ true }
+        ensures ok { OnOk result (Ticks x.now self.old self.new out.old.items out.new.items) }
+        ensures err { OnErr result ((self.new ≡ self.old) × (out.new.items ≡ out.old.items)) }
+        ensures len { vec_len out.new ≤ vec_len out.old + (2 + 16 * length self.old.directory) }
+        ensures room { vec_len out.old + (2 + 16 * length self.old.directory) ≤ vec_capacity out.old → IsOk result }
+    {
+        out.reserve(2 + MOST_SAID * self.symbols.len())?;
+        if let Some(today) = &mut self.today {
+            today.rule(x, out);
+            let ruled = today.view();
+            evaluate_each(&mut self.symbols, x, &ruled, &mut self.said, out);
+        }
+        Ok(())
+    }
+
+    /// Evaluates a record for the symbol of an id, on a day that has begun.
+    fn evaluate(&mut self, id: u16, x: &Record, out: &mut Vec<Stamped>) -> Result<(), NoMemory>
+        ensures ok { OnOk result (Evaluated id x.now self.old self.new out.old.items out.new.items) }
+        ensures err { OnErr result ((self.new ≡ self.old) × (out.new.items ≡ out.old.items)) }
+        ensures len { vec_len out.new ≤ vec_len out.old + 16 }
+        ensures room { is_trade x.now ≡ false → vec_len out.old + 16 ≤ vec_capacity out.old → IsOk result }
+        ensures room_for_all { is_trade x.now ≡ false → vec_len out.old + 16 * length self.old.directory ≤ vec_capacity out.old → IsOk result }
+    {
+        let Some(today) = &self.today else {
+            return Ok(());
         };
-        put(out, t, Message::Listed { symbol, name });
-        Ok(())
+        let market = today.view();
+        let place = id as usize;
+        if self.symbols.len() <= place {
+            return Ok(());
+        }
+        out.reserve(MOST_SAID)?;
+        let symbol = &mut self.symbols[place];
+        evaluate(symbol, x, &market, &mut self.said, out)
     }
 
-    /// The market-wide rules at an index tick.
-    fn tick(&mut self, t: Moment, index: Index, out: &mut Vec<Stamped>) -> Result<(), NoMemory>
-        ensures given { OnOk result (out.new.items ≡ out.old.items ++ stamped t (option_map_or (tick_messages t index) self.old.today [])) }
-        ensures kept { OnOk result (self.new ≡ record self.old { today = option_map (λ today. with_level_on t index (with_breaker_resumed t today)) self.old.today }) }
-        ensures err { OnErr result ((self.new ≡ self.old) × (out.new.items ≡ out.old.items)) }
-        ensures len { vec_len out.new ≤ vec_len out.old + 2 }
-        ensures room { vec_len out.old + 2 ≤ vec_capacity out.old → IsOk result }
+    /// Makes the symbol of a new name.
+    fn make(&mut self, name: [u8; 8]) -> Result<u16, NoMemory>
+        requires new { position (bytes_eq name) self.old.directory ≡ None }
+        requires room { length self.old.directory < 16384 }
+        ensures ok { IfOk result (λ id. Finds name id self.old self.new) }
+        ensures err { OnErr result (self.new ≡ self.old) }
     {
-        out.reserve(2)?;
-        if let Some(today) = &mut self.today {
-            today.tick(t, index, out);
-        }
-        Ok(())
+        self.symbols.reserve(1)?;
+        let symbol = Symbol::new(self.alloc, self.directory.len() as u16)?;
+        let id = self.directory.push(name)?;
+        self.symbols.push(symbol).unwrap();
+        Ok(id)
     }
 
-    /// The market-wide rules at a clock.
-    fn clock(&mut self, t: Moment, out: &mut Vec<Stamped>) -> Result<(), NoMemory>
-        ensures given { OnOk result (out.new.items ≡ out.old.items ++ stamped t (option_map_or (resumption t) self.old.today [])) }
-        ensures kept { OnOk result (self.new ≡ record self.old { today = option_map (with_breaker_resumed t) self.old.today }) }
-        ensures err { OnErr result ((self.new ≡ self.old) × (out.new.items ≡ out.old.items)) }
-        ensures len { vec_len out.new ≤ vec_len out.old + 2 }
-        ensures room { vec_len out.old + 2 ≤ vec_capacity out.old → IsOk result }
+    /// The symbol of a name, which is made where the name is new.
+    fn find(&mut self, name: [u8; 8]) -> Result<u16, NoMemory>
+        requires { is_full_for self.old.directory name ≡ false }
+        ensures ok { IfOk result (λ id. Finds name id self.old self.new) }
+        ensures err { OnErr result (self.new ≡ self.old) }
     {
-        out.reserve(1)?;
-        if let Some(today) = &mut self.today {
-            today.resume(t, out);
+        let _symbols = self.symbols.len();
+        match self.directory.id(name) {
+            Some(id) => Ok(id),
+            None => self.make(name),
         }
+    }
+
+    /// Lists a name, and evaluates its symbol. A new name is let alone where the directory is full, since admission
+    /// refuses it.
+    fn list(&mut self, name: [u8; 8], x: &Record, out: &mut Vec<Stamped>) -> Result<(), NoMemory>
+        requires { is_trade x.now ≡ false }
+        ensures ok { is_full_for self.old.directory name ≡ false → OnOk result (OnToday self.old (λ today. Lists name today x.now self.old self.new out.old.items out.new.items)) }
+        ensures err { OnErr result ((self.new ≡ self.old) × (out.new.items ≡ out.old.items)) }
+        ensures len { vec_len out.new ≤ vec_len out.old + 16 }
+    {
+        if is_full_for(&self.directory, name) {
+            return Ok(());
+        }
+        out.reserve(MOST_SAID)?;
+        let id = self.find(name)?;
+        self.evaluate(id, x, out).unwrap();
         Ok(())
     }
 
     /// Applies a record, by what is kept.
     fn keep(&mut self, x: &Record, out: &mut Vec<Stamped>) -> Result<(), NoMemory>
-        ensures given { lacks_room self.old.directory x.now ≡ false → OnOk result (out.new.items ≡ out.old.items ++ stamped (moment_of x.now) (given self.old x.now)) }
-        ensures kept { lacks_room self.old.directory x.now ≡ false → OnOk result (self.new ≡ applied_with self.old x.now) }
+        ensures ok { lacks_room self.old.directory x.now ≡ false → OnOk result (Applies x.now self.old self.new out.old.items out.new.items) }
         ensures err { OnErr result ((self.new ≡ self.old) × (out.new.items ≡ out.old.items)) }
-        ensures len { vec_len out.new ≤ vec_len out.old + 2 }
-        ensures room { name_of x.now ≡ None → vec_len out.old + 2 ≤ vec_capacity out.old → IsOk result }
+        ensures len { vec_len out.new ≤ vec_len out.old + (2 + 16 * 16384) }
+        ensures room { name_of x.now ≡ None → is_trade x.now ≡ false → vec_len out.old + (2 + 16 * length self.old.directory) ≤ vec_capacity out.old → IsOk result }
     {
+        let _names = self.directory.len();
         match *x {
             Record::Day {
                 day,
@@ -166,13 +254,16 @@ impl Market {
                 ..
             } => {
                 let breaker = Breaker::start(index_close);
-                self.today = Some(Today { day, breaker });
-                Ok(())
+                self.begin_day(Today { day, breaker }, x, out)
             }
-            Record::Listing { moment, name, .. } => self.list(name, moment, out),
-            Record::IndexTick { moment, value } => self.tick(moment, value, out),
-            Record::Clock { moment } => self.clock(moment, out),
-            _ => Ok(()),
+            Record::Listing { name, .. } => self.list(name, x, out),
+            Record::IndexTick { .. } => self.tick(x, out),
+            Record::Clock { .. } => self.tick(x, out),
+            Record::Trade { symbol, .. }
+            | Record::Cancel { symbol, .. }
+            | Record::Quote { symbol, .. }
+            | Record::Notice { symbol, .. }
+            | Record::Indication { symbol, .. } => self.evaluate(symbol, x, out),
         }
     }
 

@@ -1,9 +1,6 @@
-ghost use Rattle.std.specs.Prelude.{◌<◌};
-
 use super::*;
-use price_core::{Index, Leverage, Price, Tier};
-use rulebook::{afresh, is_lawful};
-use session_core::{Close, Date, Day, Level, Moment, Profile};
+use price_core::{Cause, Index, Leverage, Price, Tier};
+use session_core::{Close, Date, Day, Level, Moment, Phase, Profile};
 use std::alloc::Global;
 use std::process::Abort;
 use std::test::Fail;
@@ -346,88 +343,115 @@ fn a_new_day_ends_halts_and_levels(rt: HostRuntime) -> Result<(), Fail> {
     )
 }
 
-/// Records that are drawn by a linear congruence.
-#[derive(Drop)]
-struct Draw {
-    state: u64,
-    date: u8,
-    seconds: u64,
+fn said(moment: Moment, message: Message) -> Stamped {
+    Stamped { moment, message }
 }
 
-impl Draw {
-    /// A number below n.
-    fn below(&mut self, n: u64) -> u64
-        requires { 0 < n }
-        ensures { result < n }
-    {
-        self.state = self
-            .state
-            .wrapping_mul(6_364_136_223_846_793_005)
-            .wrapping_add(1_442_695_040_888_963_407);
-        (self.state >> 33) % n
-    }
-
-    /// An index tick near a level.
-    fn tick(&mut self, moment: Moment) -> Result<Record, Fail> {
-        let values = [
-            500_000, 465_001, 465_000, 435_001, 435_000, 400_001, 400_000,
-        ];
-        tick(moment, values[self.below(7) as usize])
-    }
-
-    /// A day, or a record of the day up to half an hour after the last; close is that of listings.
-    fn record(&mut self, close: Option<Price>) -> Result<Record, Fail> {
-        if self.below(12) == 0 {
-            self.date = self.date.wrapping_add(1);
-            self.seconds = 32_400;
-            return day_at(at(9, 0, 0, 0)?, self.date, Close::Regular);
-        }
-        let later = self.seconds.min(84_000) + 300 * self.below(7);
-        self.seconds = later;
-        let moment = Moment::new(later * 1_000_000_000)?;
-        match self.below(10) {
-            0 | 1 => listing_after(close, moment, name(self.below(5) as u16)),
-            2 => trade(moment, self.below(5) as u16),
-            3 | 4 => Ok(clock(moment)),
-            _ => self.tick(moment),
-        }
-    }
+fn state(moment: Moment, symbol: u16, phase: Phase) -> Stamped {
+    said(moment, Message::State { symbol, phase })
 }
 
-/// Records that are drawn, one after the other.
-fn drawn(alloc: Global, count: u32) -> Result<Vec<Record>, Fail> {
-    let close = Some(Price::new(200_000)?);
-    let mut draw = Draw {
-        state: 1,
-        date: 0,
-        seconds: 0,
-    };
-    let mut xs = Vec::new(alloc);
-    for _ in 0..count {
-        xs.push(draw.record(close)?)?;
-    }
-    Ok(xs)
-}
-
-/// Those that are admitted of these records.
-fn admissible(alloc: Global, xs: &[Record]) -> Result<Vec<Record>, Fail> {
-    let mut admission = Admission::new(alloc, u64::MAX)?;
-    let mut taken = Vec::new(alloc);
-    for x in xs {
-        if tried(&mut admission, x)?.is_none() {
-            taken.push(*x)?;
-        }
-    }
-    Ok(taken)
+fn listed(moment: Moment, symbol: u16, number: u16) -> Stamped {
+    let name = name(number);
+    said(moment, Message::Listed { symbol, name })
 }
 
 #[test]
-fn a_market_gives_the_messages_that_the_list_gives(rt: HostRuntime) -> Result<(), Fail> {
-    let all = drawn(rt.alloc(), 300)?;
-    let xs = admissible(rt.alloc(), &all)?;
-    assert!(rt; is_lawful(rt.alloc(), &xs)?);
-    let want = afresh(rt.alloc(), &xs)?;
-    let given = applied(rt.alloc(), &xs)?;
-    assert_eq!(rt; given.as_slice(), want.as_slice());
+fn an_opening_trade_gives_price_bands(rt: HostRuntime) -> Result<(), Fail> {
+    let early = at(9, 0, 0, 0)?;
+    let start = at(10, 0, 0, 0)?;
+    let trade = Record::Trade {
+        moment: start,
+        symbol: 0,
+        number: 1,
+        price: Price::new(200_000)?,
+        size: 100,
+        flags: 1,
+    };
+    let band = Message::Band {
+        symbol: 0,
+        cause: Cause::First,
+        reference: Price::new(200_000)?,
+        lower: Price::new(190_000)?,
+        upper: Price::new(210_000)?,
+    };
+    expect_messages(
+        &rt,
+        &[day(3)?, listing(early, name(0))?, clock(start), trade],
+        &[
+            listed(early, 0, 0),
+            state(start, 0, Phase::Trading),
+            said(start, band),
+        ],
+    )
+}
+
+#[test]
+fn symbols_speak_in_order_of_ids_and_stop_together(rt: HostRuntime) -> Result<(), Fail> {
+    let early = at(9, 0, 0, 0)?;
+    let start = at(10, 0, 0, 0)?;
+    let end = at(10, 15, 0, 0)?;
+    expect_messages(
+        &rt,
+        &[
+            day(3)?,
+            listing(early, name(1))?,
+            listing(early, name(0))?,
+            clock(start),
+            tick(start, 465_000)?,
+            clock(end),
+        ],
+        &[
+            listed(early, 0, 1),
+            listed(early, 1, 0),
+            state(start, 0, Phase::Trading),
+            state(start, 1, Phase::Trading),
+            breaker(start, Level::One, 465_000)?,
+            state(start, 0, Phase::Stopped),
+            state(start, 1, Phase::Stopped),
+            resumption(end),
+            state(end, 0, Phase::Trading),
+            state(end, 1, Phase::Trading),
+        ],
+    )
+}
+
+#[test]
+fn a_day_begins_with_no_listing_and_no_phase(rt: HostRuntime) -> Result<(), Fail> {
+    let start = at(10, 0, 0, 0)?;
+    expect_messages(
+        &rt,
+        &[
+            day(3)?,
+            listing(start, name(0))?,
+            clock(start),
+            day(4)?,
+            clock(start),
+            listing(start, name(0))?,
+        ],
+        &[
+            listed(start, 0, 0),
+            state(start, 0, Phase::Trading),
+            listed(start, 0, 0),
+            state(start, 0, Phase::Trading),
+        ],
+    )
+}
+
+#[test]
+fn quiet_clocks_take_no_room(rt: HostRuntime) -> Result<(), Fail> {
+    let start = at(10, 0, 0, 0)?;
+    let mut market = Market::new(rt.alloc())?;
+    let mut out = Vec::new(rt.alloc());
+    for x in [day(3)?, listing(start, name(0))?, listing(start, name(1))?] {
+        market.apply(&x, &mut out)?;
+    }
+    market.apply(&clock(start), &mut out)?;
+    let (messages, room) = (out.len(), out.capacity());
+    for _ in 0..1000 {
+        market.apply(&clock(start), &mut out)?;
+    }
+    assert_eq!(rt; out.len(), messages);
+    assert_eq!(rt; out.capacity(), room);
     Ok(())
 }

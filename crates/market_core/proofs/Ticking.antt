@@ -1,0 +1,276 @@
+-- All symbols of a market at a record of no symbol: a day, a clock or an index tick.
+use Rattle.std.proofs.Common.{◌≡◌, ◌≢◌, ℕ, zero, suc, ◌+◌, ◌<◌, ◌≤◌, Bool, true, false, cond, List, [], ◌∷◌, ◌++◌, length, Option, Some, None, is_some, not, refl, sym, ap, subst, ◌∙◌, append_assoc, arith}
+use Rattle.std.specs.Prelude.{◌&&◌, ◌==◌, filter, slice_get}
+use Rattle.std.specs.Option.{option_map_or}
+use Rattle.std.proofs.lemmas.Bool.Decides.{nat_tests}
+use Rattle.std.proofs.lemmas.List.{append-nil, map-append}
+use Rattle.std.proofs.lemmas.List.Elements.{filter-append}
+use Rattle.session_core.specs.declared.day.Day.{Day}
+use Rattle.wire_in.specs.declared.record.Record.{Record}
+use Rattle.wire_in.specs.declared.record.Record.TheVariants as in_
+use Rattle.wire_in.specs.Records.{moment_of, is_day, is_tick, name_of}
+use Rattle.wire_out.specs.declared.message.Message.{Message}
+use Rattle.wire_out.specs.declared.message.Stamped.{Stamped}
+use Rattle.rulebook.specs.declared.event.Event.{Event}
+use Rattle.rulebook.specs.declared.event.Event.TheVariants.{Accepted, Published}
+use Rattle.rulebook.specs.Admission.{names, is_listed}
+use Rattle.rulebook.specs.Book.{Named, named, all_obeyed, announced, symbol_rules, ids_below, history}
+use Rattle.rulebook.specs.History.{now, records, publish}
+use Rattle.rulebook.specs.Market.{day_record, is_stopped}
+use Rattle.rulebook.specs.Symbol.{terms, terms_in}
+use Rattle.rulebook.proofs.Histories.{part, parts, market_part, publish-append}
+use Rattle.rulebook.proofs.Ids.{terms-listed, same_id}
+use Rattle.rulebook.proofs.Speakers.{NoneBy, NoneBy-append, by_market, by_other, all_obeyed-by, rules_speak, market_part-by, parts-append, parts-below, parts-of_symbols, market_halt-publish}
+use Rattle.symbol_core.specs.declared.symbol.MarketView.{MarketView}
+use Rattle.symbol_core.specs.Evaluates.{Evaluates, Opens, open_history, part_of, step_of}
+use Rattle.symbol_core.specs.Rests.{Held, Rests}
+use Rattle.symbol_core.specs.Stands as symbol
+use Rattle.market_core.specs.Applied.{Tells, TellsAt, TellsBelow}
+use Rattle.market_core.specs.Kept.{SymbolsStandFor}
+use Rattle.market_core.specs.Ruled.{stamped}
+use Rattle.market_core.proofs.Resting.{rests-publish}
+use Rattle.market_core.proofs.Stepping.{opened, records-opened, part-on, same_named, Begun, ready, apart_ids, swap_ids}
+
+-- the open step of a tick after the market-wide rules
+abbrev pub ruled_history : Record → List Record → List Event
+ruled_history x A = publish (market_part x (opened x A)) (opened x A)
+
+-- what the listed symbols of the ids below n publish then
+abbrev pub parts_to : ℕ → Record → List Record → List Message
+parts_to n x A = parts x (filter (is_listed (x ∷ A)) (ids_below n)) (ruled_history x A)
+
+abbrev pub history_to : ℕ → Record → List Record → List Event
+history_to n x A = publish (parts_to n x A) (ruled_history x A)
+
+-- all that the step has published before the symbol of an id
+abbrev pub before_id : ℕ → Record → List Record → List Message
+before_id n x A = market_part x (opened x A) ++ parts_to n x A
+
+pub history-before : (n : ℕ) (x : Record) (A : List Record) → publish (before_id n x A) (opened x A) ≡ history_to n x A
+history-before n x A = publish-append (market_part x (opened x A)) (parts_to n x A) (opened x A)
+
+-- and it says nothing of a symbol from n on
+pub none-before : (n s : ℕ) (x : Record) (A : List Record) → n ≤ s → NoneBy s (before_id n x A)
+none-before n s x A le =
+    NoneBy-append s (market_part x (opened x A)) (parts_to n x A) (by_market s (market_part x (opened x A)) (market_part-by x (opened x A)))
+    (parts-below x (is_listed (x ∷ A)) n s (ruled_history x A) le)
+
+-- What one symbol publishes.
+
+abbrev said_if : Bool → Day → Named → Record → List Event → List Message
+said_if listed day s x h = cond listed (all_obeyed day s x symbol_rules h) []
+
+said_if-by : (listed : Bool) (day : Day) (s : Named) (x : Record) (h : List Event) (k : ℕ) → (s.symbol == k) ≡ false → NoneBy k (said_if listed day s x h)
+said_if-by true day s x h k apart = by_other k s.symbol (all_obeyed day s x symbol_rules h) apart (all_obeyed-by day s x symbol_rules h rules_speak)
+said_if-by false day s x h k apart = tt
+
+-- the market tick of a known day
+pub record Ticked (x : Record) (A : List Record) (d : Day × ℕ) (market : MarketView) : Type 0 where
+  pub tick : is_tick x ≡ true
+  pub on : day_record A ≡ Some d
+  pub day : market.day ≡ d.0
+  pub stopped : market.stopped ≡ is_stopped (ruled_history x A)
+  pub later : now (history A) ≤ moment_of x
+
+tick_day : (x : Record) → is_tick x ≡ true → is_day x ≡ false
+tick_day (in_.IndexTick t v) e = refl
+tick_day (in_.Clock t) e = refl
+tick_day (in_.Day t d c) e = absurd cc
+tick_day (in_.Listing t n k l c) e = refl
+tick_day (in_.Trade t s n p q f) e = refl
+tick_day (in_.Cancel t s n) e = refl
+tick_day (in_.Quote t s b o y z) e = refl
+tick_day (in_.Notice t s k) e = refl
+tick_day (in_.Indication t s p u) e = refl
+
+tick_name : (own : List ℕ → Bool) (x : Record) → is_tick x ≡ true → option_map_or own (name_of x) true ≡ true
+tick_name own (in_.IndexTick t v) e = refl
+tick_name own (in_.Clock t) e = refl
+tick_name own (in_.Day t d c) e = refl
+tick_name own (in_.Listing t n k l c) e = absurd cc
+tick_name own (in_.Trade t s n p q f) e = refl
+tick_name own (in_.Cancel t s n) e = refl
+tick_name own (in_.Quote t s b o y z) e = refl
+tick_name own (in_.Notice t s k) e = refl
+tick_name own (in_.Indication t s p u) e = refl
+
+tick_announces : (s : Named) (x : Record) (h : List Event) → is_tick x ≡ true → announced s x h ≡ []
+tick_announces s (in_.IndexTick t v) h e = refl
+tick_announces s (in_.Clock t) h e = refl
+tick_announces s (in_.Day t d c) h e = refl
+tick_announces s (in_.Listing t n k l c) h e = absurd cc
+tick_announces s (in_.Trade t i n p q f) h e = refl
+tick_announces s (in_.Cancel t i n) h e = refl
+tick_announces s (in_.Quote t i b o y z) h e = refl
+tick_announces s (in_.Notice t i k) h e = refl
+tick_announces s (in_.Indication t i p u) h e = refl
+
+part_of-tick : (day : Day) (s : Named) (x : Record) (h : List Event) (listed : Bool) → is_tick x ≡ true → is_some (terms h s.own) ≡ listed → part_of day s x h ≡ said_if listed day s x h
+part_of-tick day s x h listed e is =
+    (λ i. cond (e i && not (is i)) [] (tick_announces s x h e i ++ all_obeyed day s x symbol_rules (publish (tick_announces s x h e i) h))) ∙ by listed
+  where
+    by : (b : Bool) → cond (not b) [] (all_obeyed day s x symbol_rules h) ≡ said_if b day s x h
+    by true = refl
+    by false = refl
+
+-- a symbol has terms where it is listed
+listed-open : (ms : List Message) (x : Record) (A : List Record) (s : ℕ) → is_some (terms (publish ms (opened x A)) (named (x ∷ A) s).own) ≡ is_listed (x ∷ A) s
+listed-open ms x A s = ap (λ (B : List Record). is_some (terms_in (named (x ∷ A) s).own B)) (records-opened ms x A) ∙ terms-listed (x ∷ A) s
+
+said-tick : (x : Record) (A : List Record) (d : Day × ℕ) (market : MarketView) (n id : ℕ) → Ticked x A d market → id ≡ n
+    → part_of market.day (symbol.named (named (x ∷ A) n).own id) x (open_history x (before_id n x A) (history A)) ≡ said_if (is_listed (x ∷ A) n) d.0 (named (x ∷ A) n) x (history_to n x A)
+said-tick x A d market n id k is =
+    let S = named (x ∷ A) n in
+    let h = publish (before_id n x A) (opened x A) in
+    (λ i. part_of (k.day i) (same_named x A id n is i) x h)
+    ∙ part_of-tick d.0 S x h (is_listed (x ∷ A) n) k.tick (listed-open (before_id n x A) x A n)
+    ∙ ap (λ (g : List Event). said_if (is_listed (x ∷ A) n) d.0 S x g) (history-before n x A)
+
+-- and one more symbol's part of the step
+parts-more : (x : Record) (A : List Record) (d : Day × ℕ) (market : MarketView) (n : ℕ) → Ticked x A d market
+    → parts_to (suc n) x A ≡ parts_to n x A ++ said_if (is_listed (x ∷ A) n) d.0 (named (x ∷ A) n) x (history_to n x A)
+parts-more x A d market n k =
+    let listed = is_listed (x ∷ A) in
+    ap (λ ids. parts x ids (ruled_history x A)) (filter-append listed (ids_below n) (n ∷ []))
+    ∙ parts-append x (filter listed (ids_below n)) (filter listed (n ∷ [])) (ruled_history x A)
+    ∙ ap (λ (ms : List Message). parts_to n x A ++ ms) (by (listed n))
+  where
+    records_are : records (history_to n x A) ≡ x ∷ A
+    records_are = ap records (sym (history-before n x A)) ∙ records-opened (before_id n x A) x A
+
+    one : part x (named (records (history_to n x A)) n) (history_to n x A) ≡ all_obeyed d.0 (named (x ∷ A) n) x symbol_rules (history_to n x A)
+    one =
+        ap (λ (B : List Record). part x (named B n) (history_to n x A)) records_are
+        ∙ ap (λ (h : List Event). part x (named (x ∷ A) n) h) (sym (history-before n x A))
+        ∙ part-on x (named (x ∷ A) n) (before_id n x A) A d (tick_day x k.tick) k.on
+        ∙ ap (λ (h : List Event). all_obeyed d.0 (named (x ∷ A) n) x symbol_rules h) (history-before n x A)
+
+    by : (b : Bool) → parts x (cond b (n ∷ []) []) (history_to n x A) ≡ said_if b d.0 (named (x ∷ A) n) x (history_to n x A)
+    by true = append-nil (part x (named (records (history_to n x A)) n) (history_to n x A)) ∙ one
+    by false = refl
+
+-- the symbols of the ids below n have been evaluated
+pub record ToldBelow (n : ℕ) (x : Record) (A : List Record) (new : List Held) (before after : List Stamped) : Type 0 where
+  pub items : after ≡ before ++ stamped (moment_of x) (parts_to n x A)
+  pub ids : (k : ℕ) (held : Held) → k < n → slice_get new k ≡ Some held → held.kept.id ≡ k
+  pub rests : (k : ℕ) (held : Held) → k < n → slice_get new k ≡ Some held → Rests (named (x ∷ A) k).own held (history_to n x A)
+
+one_told : (n : ℕ) (x : Record) (A : List Record) (d : Day × ℕ) (market : MarketView) (old new : List Held) (before middle after : List Stamped) → Ticked x A d market → SymbolsStandFor old A
+    → TellsAt n market x old new middle after → ToldBelow n x A new before middle → ToldBelow (suc n) x A new before after
+one_told n x A d market old new before middle after tick stand at told =
+    record {
+      items = at.tells.items ∙ ap (λ (ms : List Message). middle ++ stamped t ms) said_is ∙ ap (λ (ms : List Stamped). ms ++ stamped t said) told.items
+          ∙ append_assoc before (stamped t (parts_to n x A)) (stamped t said)
+          ∙ ap (λ (ms : List Stamped). before ++ ms) (sym (map-append _ (parts_to n x A) said) ∙ ap (stamped t) (sym more));
+      ids = λ k held below e. id_one k held e below (k == n) refl;
+      rests = λ k held below e. subst (Rests (named (x ∷ A) k).own held) (sym history_more) (rests_one k held e below (k == n) refl);
+    }
+  where
+    t : ℕ
+    t = moment_of x
+
+    S : Named
+    S = named (x ∷ A) n
+
+    said : List Message
+    said = said_if (is_listed (x ∷ A) n) d.0 S x (history_to n x A)
+
+    more : parts_to (suc n) x A ≡ parts_to n x A ++ said
+    more = parts-more x A d market n tick
+
+    history_more : history_to (suc n) x A ≡ publish said (history_to n x A)
+    history_more = ap (λ (ms : List Message). publish ms (ruled_history x A)) more ∙ publish-append (parts_to n x A) said (ruled_history x A)
+
+    id_is : at.was.kept.id ≡ n
+    id_is = stand.ids n at.was at.found
+
+    begun : Begun x A d market (before_id n x A)
+    begun = record {
+      no_day = tick_day x tick.tick;
+      on = tick.on;
+      day = tick.day;
+      stopped = tick.stopped ∙ sym (ap is_some (market_halt-publish (parts_to n x A) (ruled_history x A) (parts-of_symbols x (filter (is_listed (x ∷ A)) (ids_below n)) (ruled_history x A)))) ∙ ap is_stopped (sym (history-before n x A));
+      later = tick.later;
+    }
+
+    opens : Opens S.own at.was market x (before_id n x A) (history A)
+    opens = ready x A d market n at.was (before_id n x A) begun (none-before n n x A (omega arith)) id_is (tick_name S.own x tick.tick) (stand.rests n at.was at.found)
+
+    said_is : at.tells.said ≡ said
+    said_is = at.tells.evaluates.says S.own (before_id n x A) (history A) opens ∙ said-tick x A d market n at.was.kept.id tick id_is
+
+    own_rests : Rests S.own at.is (publish said (history_to n x A))
+    own_rests =
+        subst (λ (h : List Event). Rests S.own at.is (publish said h)) (history-before n x A)
+        (subst (λ (ms : List Message). Rests S.own at.is (publish ms (publish (before_id n x A) (opened x A)))) (said-tick x A d market n at.was.kept.id tick id_is)
+        (at.tells.evaluates.rests S.own (before_id n x A) (history A) opens))
+
+    id_one : (k : ℕ) (held : Held) → slice_get new k ≡ Some held → k < suc n → (same : Bool) → (k == n) ≡ same → held.kept.id ≡ k
+    id_one k held e below true same =
+        let here : k ≡ n = same_id k n same in
+        let there : slice_get new k ≡ Some at.is = subst (λ (j : ℕ). slice_get new j ≡ Some at.is) (sym here) at.left in
+        let is : at.is ≡ held = cc in
+        ap (λ (q : Held). q.kept.id) (sym is) ∙ at.tells.evaluates.id ∙ id_is ∙ sym here
+    id_one k held e below false apart = let ne : k ≢ n = apart_ids k n apart in told.ids k held (omega arith) e
+
+    rests_one : (k : ℕ) (held : Held) → slice_get new k ≡ Some held → k < suc n → (same : Bool) → (k == n) ≡ same → Rests (named (x ∷ A) k).own held (publish said (history_to n x A))
+    rests_one k held e below true same =
+        let here : k ≡ n = same_id k n same in
+        let there : slice_get new k ≡ Some at.is = subst (λ (j : ℕ). slice_get new j ≡ Some at.is) (sym here) at.left in
+        let is : at.is ≡ held = cc in
+        subst (λ (q : Held). Rests (named (x ∷ A) k).own q (publish said (history_to n x A))) is
+        (subst (λ (j : ℕ). Rests (named (x ∷ A) j).own at.is (publish said (history_to n x A))) (sym here) own_rests)
+    rests_one k held e below false apart =
+        let ne : k ≢ n = apart_ids k n apart in
+        rests-publish (named (x ∷ A) k).own held said (history_to n x A)
+        (subst (λ (j : ℕ). NoneBy j said) (sym (told.ids k held (omega arith) e)) (said_if-by (is_listed (x ∷ A) n) d.0 S x (history_to n x A) k (swap_ids k n apart)))
+        (told.rests k held (omega arith) e)
+
+pub told_below : (n : ℕ) (x : Record) (A : List Record) (d : Day × ℕ) (market : MarketView) (old new : List Held) (before after : List Stamped) → Ticked x A d market → SymbolsStandFor old A
+    → TellsBelow n market x old new before after → ToldBelow n x A new before after
+told_below zero x A d market old new before after tick stand unsaid =
+    record { items = unsaid ∙ sym (append-nil before); ids = λ k held below e. absurd (omega arith); rests = λ k held below e. absurd (omega arith) }
+told_below (suc n) x A d market old new before after tick stand (middle, earlier, at) =
+    one_told n x A d market old new before middle after tick stand at (told_below n x A d market old new before middle tick stand earlier)
+
+-- At a day each symbol begins it, and says nothing.
+
+pub record DayBelow (n t : ℕ) (day : Day) (close : ℕ) (A : List Record) (new : List Held) (before after : List Stamped) : Type 0 where
+  pub items : after ≡ before
+  pub ids : (k : ℕ) (held : Held) → k < n → slice_get new k ≡ Some held → held.kept.id ≡ k
+  pub rests : (k : ℕ) (held : Held) → k < n → slice_get new k ≡ Some held → Rests (named A k).own held (Accepted (in_.Day t day close) ∷ history A)
+
+one_day : (n t : ℕ) (day : Day) (close : ℕ) (A : List Record) (market : MarketView) (old new : List Held) (before middle after : List Stamped) → SymbolsStandFor old A
+    → TellsAt n market (in_.Day t day close) old new middle after → DayBelow n t day close A new before middle → DayBelow (suc n) t day close A new before after
+one_day n t day close A market old new before middle after stand at told =
+    record {
+      items = at.tells.items ∙ ap (λ (ms : List Message). middle ++ stamped t ms) (at.tells.evaluates.says_no_day refl) ∙ append-nil middle ∙ told.items;
+      ids = λ k held below e. id_one k held e below (k == n) refl;
+      rests = λ k held below e. rests_one k held e below (k == n) refl;
+    }
+  where
+    h : List Event
+    h = Accepted (in_.Day t day close) ∷ history A
+
+    id_one : (k : ℕ) (held : Held) → slice_get new k ≡ Some held → k < suc n → (same : Bool) → (k == n) ≡ same → held.kept.id ≡ k
+    id_one k held e below true same =
+        let here : k ≡ n = same_id k n same in
+        let there : slice_get new k ≡ Some at.is = subst (λ (j : ℕ). slice_get new j ≡ Some at.is) (sym here) at.left in
+        let is : at.is ≡ held = cc in
+        ap (λ (q : Held). q.kept.id) (sym is) ∙ at.tells.evaluates.id ∙ stand.ids n at.was at.found ∙ sym here
+    id_one k held e below false apart = let ne : k ≢ n = apart_ids k n apart in told.ids k held (omega arith) e
+
+    rests_one : (k : ℕ) (held : Held) → slice_get new k ≡ Some held → k < suc n → (same : Bool) → (k == n) ≡ same → Rests (named A k).own held h
+    rests_one k held e below true same =
+        let here : k ≡ n = same_id k n same in
+        let there : slice_get new k ≡ Some at.is = subst (λ (j : ℕ). slice_get new j ≡ Some at.is) (sym here) at.left in
+        let is : at.is ≡ held = cc in
+        subst (λ (q : Held). Rests (named A k).own q h) is
+        (subst (λ (j : ℕ). Rests (named A j).own at.is h) (sym here) (at.tells.evaluates.begins refl (named A n).own (history A) (stand.rests n at.was at.found)))
+    rests_one k held e below false apart = let ne : k ≢ n = apart_ids k n apart in told.rests k held (omega arith) e
+
+pub day_below : (n t : ℕ) (day : Day) (close : ℕ) (A : List Record) (market : MarketView) (old new : List Held) (before after : List Stamped) → SymbolsStandFor old A
+    → TellsBelow n market (in_.Day t day close) old new before after → DayBelow n t day close A new before after
+day_below zero t day close A market old new before after stand unsaid = record { items = unsaid; ids = λ k held below e. absurd (omega arith); rests = λ k held below e. absurd (omega arith) }
+day_below (suc n) t day close A market old new before after stand (middle, earlier, at) =
+    one_day n t day close A market old new before middle after stand at (day_below n t day close A market old new before middle stand earlier)

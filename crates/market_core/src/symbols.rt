@@ -1,0 +1,78 @@
+// The symbols of a market, evaluated one after the other.
+ghost use Rattle.std.specs.Prelude.{◌≡◌, ◌+◌, ◌*◌, ◌≤◌, ◌++◌, ◌∷◌, [], false, OnOk, OnErr, IsOk, vec_len, vec_capacity, length};
+ghost use Rattle.wire_in.specs.Records.{moment_of};
+ghost use Rattle.market_core.specs.Applied.{Tells, TellsBelow};
+ghost use Rattle.market_core.specs.Kinds.{is_trade};
+ghost use Rattle.market_core.specs.Ruled.{stamped};
+
+use price_core::NoMemory;
+use session_core::Moment;
+use symbol_core::{MarketView, Symbol};
+use wire_in::Record;
+use wire_out::{Message, Stamped};
+
+/// Puts a message into a list that has room for it.
+pub(crate) fn put(out: &mut Vec<Stamped>, moment: Moment, message: Message)
+    requires { vec_len out.old + 1 ≤ vec_capacity out.old }
+    ensures items { out.new.items ≡ out.old.items ++ record { moment = moment; message = message } ∷ [] }
+    ensures room { vec_capacity out.old ≤ vec_capacity out.new }
+    ensures len { vec_len out.new ≡ vec_len out.old + 1 }
+{
+    out.push(Stamped { moment, message }).unwrap();
+}
+
+/// Puts messages of one moment into a list that has room for them.
+fn stamp(said: &[Message], moment: Moment, out: &mut Vec<Stamped>)
+    requires { vec_len out.old + length said.now ≤ vec_capacity out.old }
+    ensures items { out.new.items ≡ out.old.items ++ stamped moment said.now }
+    ensures room { vec_capacity out.old ≤ vec_capacity out.new }
+    ensures len { vec_len out.new ≡ vec_len out.old + length said.now }
+{
+    for message in said {
+        put(out, moment, *message);
+    }
+}
+
+/// Evaluates a record for a symbol. Only a trade may find no memory, and then all stays as it was.
+pub(crate) fn evaluate(
+    symbol: &mut Symbol,
+    x: &Record,
+    market: &MarketView,
+    said: &mut Vec<Message>,
+    out: &mut Vec<Stamped>,
+) -> Result<(), NoMemory>
+    requires said { 16 ≤ vec_capacity said.old }
+    requires room { vec_len out.old + 16 ≤ vec_capacity out.old }
+    ensures ok { OnOk result (Tells market.now x.now symbol.old symbol.new out.old.items out.new.items) }
+    ensures err { OnErr result ((symbol.new ≡ symbol.old) × (out.new.items ≡ out.old.items)) }
+    ensures succeeds { is_trade x.now ≡ false → IsOk result }
+    ensures said { 16 ≤ vec_capacity said.new }
+    ensures room { vec_capacity out.old ≤ vec_capacity out.new }
+    ensures len { vec_len out.new ≤ vec_len out.old + 16 }
+{
+    said.clear();
+    symbol.evaluate(x, market, said)?;
+    stamp(said, x.moment(), out);
+    Ok(())
+}
+
+/// Evaluates a record that is no trade for each symbol, in order of ids.
+pub(crate) fn evaluate_each(
+    symbols: &mut [Symbol],
+    x: &Record,
+    market: &MarketView,
+    said: &mut Vec<Message>,
+    out: &mut Vec<Stamped>,
+)
+    requires kind { is_trade x.now ≡ false }
+    requires said { 16 ≤ vec_capacity said.old }
+    requires room { vec_len out.old + 16 * length symbols.old ≤ vec_capacity out.old }
+    ensures tells { TellsBelow (length symbols.old) market.now x.now symbols.old symbols.new out.old.items out.new.items }
+    ensures said { 16 ≤ vec_capacity said.new }
+    ensures len { vec_len out.new ≤ vec_len out.old + 16 * length symbols.old }
+{
+    for i in 0..symbols.len() {
+        let symbol = &mut symbols[i];
+        evaluate(symbol, x, market, said, out).unwrap();
+    }
+}
