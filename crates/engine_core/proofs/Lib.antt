@@ -1,0 +1,6 @@
+pub mod Owing
+pub mod Sending
+pub mod Steps
+pub mod Room
+pub mod Frames
+pub mod Pieces
