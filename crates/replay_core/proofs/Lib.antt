@@ -1,0 +1,4 @@
+pub mod Sessions
+pub mod Pieces
+pub mod Reading
+pub mod Ending

@@ -1,0 +1,25 @@
+use Rattle.engine_core.proofs.Owing.{at_failure}
+use Rattle.std.proofs.Common.{refl}
+use Rattle.replay_core.specs.Text.{record_limit, replay_text}
+use Rattle.replay_core.proofs.Sessions.{held_after, owes_no_frame, owes_one_frame, part_one_frame, follows_one_frame}
+use Rattle.replay_core.proofs.session.Session.advance.Goals as goal
+
+pub returns-then-not-cut-clause-owes : goal.returns-then-not-cut-clause-owes
+returns-then-not-cut-clause-owes g c = λ read begin follows owes.
+    owes_no_frame read _ _ _ (c.take-cut.ensures.goes_on read follows.cutter) c.take-cut.ensures.whole c.if-not-cut.true begin _ _ owes
+
+pub returns-clause-owes : goal.returns-clause-owes
+returns-clause-owes g c = λ read begin follows owes.
+    owes_one_frame read _ _ _ _ _ (c.take-cut.ensures.goes_on read follows.cutter) c.take-cut.ensures.whole c.if-not-cut.false c.body.ensures.frame follows.place begin _ _
+    (c.in_ok-answer.ensures.owes record_limit (held_after read) begin (replay_text read) follows.engine owes)
+
+pub returns-clause-follows : goal.returns-clause-follows
+returns-clause-follows g c = λ read follows.
+    follows_one_frame read _ _ _ _ _ _ _ (c.take-cut.ensures.goes_on read follows.cutter) c.take-cut.ensures.whole c.if-not-cut.false c.body.ensures.frame follows.place refl refl refl
+    (c.in_ok-answer.ensures.stands record_limit (held_after read) follows.engine)
+
+pub returns-in_err-answer-clause-part : goal.returns-in_err-answer-clause-part
+returns-in_err-answer-clause-part g c = λ read begin follows owes.
+    at_failure _ (
+    part_one_frame read _ _ c.args.piece.now c.take-cut.result.used _ _ (c.take-cut.ensures.goes_on read follows.cutter) c.take-cut.ensures.whole c.if-not-cut.false c.body.ensures.frame follows.place begin _
+    (c.in_err-answer.ensures.part record_limit (held_after read) begin (replay_text read) follows.engine owes))
