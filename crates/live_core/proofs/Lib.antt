@@ -1,0 +1,10 @@
+pub mod Leaving
+pub mod Frames
+pub mod Pieces
+pub mod Reading
+pub mod Ending
+pub mod Again
+pub mod Recovering
+pub mod Restoring
+pub mod Sessions
+pub mod OneDamage

@@ -1,0 +1,5 @@
+pub mod Safe
+pub mod Kept
+pub mod Ends
+pub mod Damage
+pub mod Recovered
