@@ -1,23 +1,23 @@
-//! Trading halts of US equities over a live input.
+//! Trading halts of US equities over a live input and a journal.
 #![tactic(auto)]
 
-mod engine;
-mod outbox;
 mod run;
-mod serve;
-mod session;
 #[cfg(test)]
 mod tests;
+mod words;
 
-use host_core::{RealHost, Status};
+use host_core::{JournalFile, RealHost, Status};
 use run::run;
 use std::env::{self, Env};
 use std::io;
 use std::process::ExitCode;
+use std::rt::Files;
 use std::thread::Threads;
 
 /// Does what the words behind the journal's path say, over the standard streams.
-fn start<Rt: Env + Input + Print + AllocGlobal + Threads + Sync>(rt: &Rt) -> io::Result<Status> {
+fn start<Rt: Env + Input + Print + Files + AllocGlobal + Threads + Sync>(
+    rt: &Rt,
+) -> io::Result<Status> {
     let alloc = rt.alloc();
     let mut words = Vec::new(alloc);
     for word in env::args(rt)? {
@@ -30,7 +30,8 @@ fn start<Rt: Env + Input + Print + AllocGlobal + Threads + Sync>(rt: &Rt) -> io:
     for word in &words[2..] {
         rest.push(word.as_str())?;
     }
-    let mut host = RealHost::new(rt.reader(), io::writer(rt));
+    let journal = JournalFile::new(rt, words[1].as_str());
+    let mut host = RealHost::new(rt.reader(), io::writer(rt), journal);
     Ok(run(rt, alloc, &rest, &mut host))
 }
 
@@ -38,7 +39,7 @@ fn start<Rt: Env + Input + Print + AllocGlobal + Threads + Sync>(rt: &Rt) -> io:
 fn tell<Rt: Eprint>(rt: &Rt, status: Status) -> io::Result<()> {
     match status {
         Status::Done => Ok(()),
-        Status::Usage => eprintln!(rt; "halts: usage: halts <journal> serve"),
+        Status::Usage => eprintln!(rt; "halts: usage: halts <journal> format|serve|replay"),
         Status::Truncated => eprintln!(rt; "halts: the input ends inside a frame"),
         Status::ReadFault => eprintln!(rt; "halts: the input could not be read"),
         Status::SendFault => eprintln!(rt; "halts: the output could not be written"),

@@ -1,5 +1,8 @@
-use crate::run::{run, serve};
-use host_core::{Call, MemoryHost, Status};
+mod ends;
+mod stops;
+
+use crate::run::run;
+use host_core::{MemoryHost, Status};
 use std::alloc::Global;
 use std::process::Abort;
 use std::test::Fail;
@@ -46,35 +49,50 @@ fn bytes(alloc: Global, frames: &[&str]) -> Result<Vec<u8>, Fail> {
     Ok(all)
 }
 
-/// Serves the input of a host, and compares what was sent and how it ended.
-fn serves<Rt: Abort + Threads + Sync>(
+/// An empty journal.
+fn fresh<Rt: Abort + Threads + Sync>(
     rt: &Rt,
     alloc: Global,
-    mut host: MemoryHost,
+    words: &[&str],
+) -> Result<Vec<u8>, Fail> {
+    let mut host = MemoryHost::new(alloc, b"", b"")?;
+    assert_eq!(rt; run(rt, alloc, words, &mut host), Status::Done);
+    Ok(host.disk().to_vec(alloc)?)
+}
+
+/// Does what the words say over a disk and an input, compares what was sent and how it ended, and answers the disk.
+fn runs<Rt: Abort + Threads + Sync>(
+    rt: &Rt,
+    alloc: Global,
+    words: &[&str],
+    disk: &[u8],
+    input: &[&str],
     answers: &[&str],
     want: Status,
-) -> Result<(), Fail> {
+) -> Result<Vec<u8>, Fail> {
+    let input = bytes(alloc, input)?;
     let answers = bytes(alloc, answers)?;
-    let status = run(rt, alloc, &["serve"], &mut host);
+    let mut host = MemoryHost::new(alloc, &input, disk)?;
+    let status = run(rt, alloc, words, &mut host);
     assert!(rt;
         host.sent() == answers.as_slice(),
         "{:?} was sent",
         host.sent()
     );
     assert_eq!(rt; status, want);
-    Ok(())
+    Ok(host.disk().to_vec(alloc)?)
 }
 
-/// Serves whole frames, and compares the answers.
+/// Serves whole frames over an empty journal, and compares the answers.
 fn answers<Rt: Abort + Threads + Sync>(
     rt: &Rt,
     alloc: Global,
     frames: &[&str],
     answers: &[&str],
 ) -> Result<(), Fail> {
-    let input = bytes(alloc, frames)?;
-    let host = MemoryHost::new(alloc, &input, b"")?;
-    serves(rt, alloc, host, answers, Status::Done)
+    let disk = fresh(rt, alloc, &["format"])?;
+    runs(rt, alloc, &["serve"], &disk, frames, answers, Status::Done)?;
+    Ok(())
 }
 
 #[test]
@@ -177,111 +195,133 @@ fn a_level_uses_up_the_lower_ones(rt: HostRuntime) -> Result<(), Fail> {
 }
 
 #[test]
-fn an_input_that_ends_inside_a_frame_is_truncated(rt: HostRuntime) -> Result<(), Fail> {
+fn a_restart_tells_what_is_held_and_sends_again_what_is_asked_for(
+    rt: HostRuntime,
+) -> Result<(), Fail> {
     let alloc = rt.alloc();
-    let input = bytes(alloc, &FALL)?;
-    assert_eq!(rt; input.len(), 48);
-    for len in 34..48 {
-        let host = MemoryHost::new(alloc, &input[..len], b"")?;
-        let want = if len == 34 {
-            Status::Done
-        } else {
-            Status::Truncated
-        };
-        serves(&rt, alloc, host, &FALL_ANSWERS[..3], want)?;
-    }
+    let disk = fresh(&rt, alloc, &["format"])?;
+    let disk = runs(
+        &rt,
+        alloc,
+        &["serve"],
+        &disk,
+        &FALL,
+        &FALL_ANSWERS,
+        Status::Done,
+    )?;
+    let held = "118100000000000000030000000000000001";
+    let disk = runs(&rt, alloc, &["serve"], &disk, &[], &[held], Status::Done)?;
+    let again = [FALL_ANSWERS[3], held];
+    let disk = runs(
+        &rt,
+        alloc,
+        &["serve", "--from", "1"],
+        &disk,
+        &[],
+        &again,
+        Status::Done,
+    )?;
+    runs(
+        &rt,
+        alloc,
+        &["serve", "--from", "2"],
+        &disk,
+        &[],
+        &[held],
+        Status::Done,
+    )?;
     Ok(())
 }
 
 #[test]
-fn pieces_of_any_size_get_the_same_answers(rt: HostRuntime) -> Result<(), Fail> {
+fn a_full_journal_refuses(rt: HostRuntime) -> Result<(), Fail> {
     let alloc = rt.alloc();
-    let input = bytes(alloc, &FALL)?;
-    for read in 1..=7 {
-        let mut host = MemoryHost::new(alloc, &input, b"")?;
-        host.pieces(read, 8 - read);
-        serves(&rt, alloc, host, &FALL_ANSWERS, Status::Done)?;
-    }
+    let disk = fresh(&rt, alloc, &["format", "--limit", "3"])?;
+    let clock = "090700001f1aced9f000";
+    let disk = runs(
+        &rt,
+        alloc,
+        &["serve"],
+        &disk,
+        &[DAY, clock, clock, clock],
+        &[HELLO, ACK_1, ACK_2, ACK_3, "0b8300000000000000040900"],
+        Status::Done,
+    )?;
+    let held = "118100000000000000030000000000000000";
+    runs(&rt, alloc, &["serve"], &disk, &[], &[held], Status::Done)?;
     Ok(())
 }
 
 #[test]
-fn what_was_read_before_a_failed_read_is_answered(rt: HostRuntime) -> Result<(), Fail> {
+fn a_replay_sends_messages_and_refusals_alone(rt: HostRuntime) -> Result<(), Fail> {
+    let alloc = rt.alloc();
+    runs(
+        &rt,
+        alloc,
+        &["replay"],
+        b"",
+        &FALL,
+        &[FALL_ANSWERS[3]],
+        Status::Done,
+    )?;
+    let refused = ["0b8300000000000000010200"];
+    runs(
+        &rt,
+        alloc,
+        &["replay"],
+        b"",
+        &["00"],
+        &refused,
+        Status::Done,
+    )?;
+    runs(
+        &rt,
+        alloc,
+        &["replay", "--bytes", "1"],
+        b"",
+        &["00"],
+        &refused,
+        Status::SessionFull,
+    )?;
+    Ok(())
+}
+
+#[test]
+fn damage_and_a_missing_journal_are_told(rt: HostRuntime) -> Result<(), Fail> {
+    let alloc = rt.alloc();
+    let mut disk = fresh(&rt, alloc, &["format"])?;
+    disk.truncate(16);
+    disk.extend_from_slice(&[1, 0, 0, 0, 0, 0])?;
+    runs(
+        &rt,
+        alloc,
+        &["serve"],
+        &disk,
+        &FALL,
+        &[],
+        Status::Damaged { at: 16 },
+    )?;
+    runs(&rt, alloc, &["serve"], b"", &FALL, &[], Status::NoJournal)?;
+    Ok(())
+}
+
+#[test]
+fn other_words_call_nothing(rt: HostRuntime) -> Result<(), Fail> {
     let alloc = rt.alloc();
     let input = bytes(alloc, &FALL)?;
-    for (good, answers) in [
-        (0u32, &FALL_ANSWERS[..1]),
-        (1, &FALL_ANSWERS[..2]),
-        (2, &FALL_ANSWERS[..3]),
-        (3, &FALL_ANSWERS[..5]),
+    for words in [
+        [].as_slice(),
+        &["report"],
+        &["serve", "serve"],
+        &["serve", "--batch", "65"],
+        &["serve", "--bytes", "0"],
+        &["serve", "--bytes", "01"],
+        &["serve", "--bytes", "1099511627777"],
+        &["serve", "--from", "18446744073709551616"],
+        &["serve", "--from", "1", "--from", "2"],
+        &["format", "--limit", "2000000001"],
+        &["replay", "--from", "1"],
     ] {
-        let mut host = MemoryHost::new(alloc, &input, b"")?;
-        host.pieces(20, 64);
-        host.fail(Call::Read, u64::from(good) + 1)?;
-        serves(&rt, alloc, host, answers, Status::ReadFault)?;
-    }
-    Ok(())
-}
-
-#[test]
-fn a_failed_send_ends_the_session(rt: HostRuntime) -> Result<(), Fail> {
-    let alloc = rt.alloc();
-    let input = bytes(alloc, &FALL)?;
-    for (good, answers) in [
-        (0u32, &FALL_ANSWERS[..0]),
-        (1, &FALL_ANSWERS[..1]),
-        (2, &FALL_ANSWERS[..2]),
-        (3, &FALL_ANSWERS[..3]),
-    ] {
-        let mut host = MemoryHost::new(alloc, &input, b"")?;
-        host.pieces(20, 64);
-        host.fail(Call::Send, u64::from(good) + 1)?;
-        serves(&rt, alloc, host, answers, Status::SendFault)?;
-    }
-    Ok(())
-}
-
-#[test]
-fn a_session_is_full_at_its_limit_of_bytes(rt: HostRuntime) -> Result<(), Fail> {
-    let alloc = rt.alloc();
-    let input = bytes(alloc, &FALL)?;
-    // At no byte, inside and at the end of the first frame, inside the last one, at the input's end and above it.
-    for (most, answers, want) in [
-        (0u32, &FALL_ANSWERS[..1], Status::SessionFull),
-        (19, &FALL_ANSWERS[..1], Status::SessionFull),
-        (20, &FALL_ANSWERS[..2], Status::SessionFull),
-        (47, &FALL_ANSWERS[..3], Status::SessionFull),
-        (48, &FALL_ANSWERS[..5], Status::SessionFull),
-        (49, &FALL_ANSWERS[..5], Status::Done),
-    ] {
-        let answers = bytes(alloc, answers)?;
-        let mut host = MemoryHost::new(alloc, &input, b"")?;
-        let status = serve(alloc, &mut host, u64::from(most));
-        assert!(rt; host.sent() == answers.as_slice(), "under {most}");
-        assert_eq!(rt; status, want, "under {most}");
-    }
-    Ok(())
-}
-
-#[test]
-fn answers_that_find_no_room_are_sent_before_the_piece_ends(rt: HostRuntime) -> Result<(), Fail> {
-    let alloc = rt.alloc();
-    let mut host = MemoryHost::new(alloc, &[0; 6000], b"")?;
-    let status = run(&rt, alloc, &["serve"], &mut host);
-    assert_eq!(rt; status, Status::Done);
-    // A greeting and 6,000 refusals, in three sends between two reads.
-    let last = bytes(alloc, &["0b8300000000000017700200"])?;
-    assert!(rt; host.sent().ends_with(&last));
-    assert_eq!(rt; host.sent().len(), 18 + 6000 * 12);
-    assert_eq!(rt; host.calls(), 5);
-    Ok(())
-}
-
-#[test]
-fn other_words_read_and_send_nothing(rt: HostRuntime) -> Result<(), Fail> {
-    let alloc = rt.alloc();
-    let input = bytes(alloc, &FALL)?;
-    for words in [[].as_slice(), &["replay"], &["serve", "serve"]] {
         let mut host = MemoryHost::new(alloc, &input, b"")?;
         let status = run(&rt, alloc, words, &mut host);
         assert_eq!(rt; status, Status::Usage);
