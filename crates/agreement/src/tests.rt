@@ -1,0 +1,6 @@
+mod build;
+mod drawn;
+mod market;
+mod pauses;
+mod prices;
+mod sent;

@@ -1,0 +1,68 @@
+use crate::Draw;
+use afresh_core::{afresh, is_lawful};
+use market_core::{Admission, Market};
+use std::alloc::Global;
+use std::process::Abort;
+use std::test::Fail;
+use wire_in::{Record, Refusal};
+use wire_out::Stamped;
+
+/// A hundred records that are drawn with a seed.
+fn drawn(alloc: Global, seed: u64) -> Result<Vec<Record>, Fail> {
+    let mut draw = Draw::new(seed);
+    let mut xs = Vec::new(alloc);
+    for _ in 0..100 {
+        let x = draw.record();
+        xs.extend_from_slice(&[x])?;
+    }
+    Ok(xs)
+}
+
+/// The verdict on a record, which is admitted where there is none.
+fn tried(admission: &mut Admission, x: &Record) -> Result<Option<Refusal>, Fail> {
+    let verdict = admission.verdict(x);
+    if verdict.is_none() {
+        admission.admit(x)?;
+    }
+    Ok(verdict)
+}
+
+/// Those that are admitted of these records.
+fn admissible(alloc: Global, xs: &[Record]) -> Result<Vec<Record>, Fail> {
+    let mut admission = Admission::new(alloc, u64::MAX)?;
+    let mut taken = Vec::new(alloc);
+    for x in xs {
+        if tried(&mut admission, x)?.is_none() {
+            taken.push(*x)?;
+        }
+    }
+    Ok(taken)
+}
+
+/// The messages of a market that is given each of these records.
+fn applied(alloc: Global, xs: &[Record]) -> Result<Vec<Stamped>, Fail> {
+    let mut market = Market::new(alloc)?;
+    let mut out = Vec::new(alloc);
+    for x in xs {
+        market.apply(x, &mut out)?;
+    }
+    Ok(out)
+}
+
+fn expect_agreement<R: Abort + AllocGlobal>(rt: &R, seed: u64) -> Result<(), Fail> {
+    let records = drawn(rt.alloc(), seed)?;
+    let xs = admissible(rt.alloc(), &records)?;
+    assert!(rt; is_lawful(rt.alloc(), &xs)?);
+    let want = afresh(rt.alloc(), &xs)?;
+    let given = applied(rt.alloc(), &xs)?;
+    assert!(rt; given.as_slice() == want.as_slice());
+    Ok(())
+}
+
+#[test]
+fn a_market_gives_the_messages_that_the_list_gives(rt: HostRuntime) -> Result<(), Fail> {
+    for seed in 1..9 {
+        expect_agreement(&rt, seed)?;
+    }
+    Ok(())
+}
