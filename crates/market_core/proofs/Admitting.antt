@@ -1,7 +1,7 @@
 -- An admission that stands for a list stands for the list with one more record.
-use Rattle.std.proofs.Common.{◌≡◌, ℕ, zero, suc, ◌+◌, ◌-◌, ◌*◌, ◌<◌, ◌≤◌, Bool, true, false, cond, List, [], ◌∷◌, ◌++◌, length, map, get_or, Option, Some, None, Result, Ok, Err, is_some, is_none, not, refl, sym, ap, subst, ◌∙◌, true≢false, arith}
-use Rattle.std.specs.Prelude.{IsTrue, OnOk, slice_get, slice_set, position, nat_le, ◌&&◌, ◌==◌}
-use Rattle.std.specs.List.{list_any, list_all, position_from}
+use Rattle.std.proofs.Common.{◌≡◌, ℕ, zero, suc, ◌+◌, ◌*◌, Bool, true, false, cond, List, [], ◌∷◌, ◌++◌, length, map, Option, Some, None, Result, Ok, Err, is_some, is_none, refl, sym, ap, subst, ◌∙◌, true≢false, arith}
+use Rattle.std.specs.Prelude.{IsTrue, OnOk, slice_set, position, nat_le, ◌&&◌, ◌==◌}
+use Rattle.std.specs.List.{list_any}
 use Rattle.std.specs.Option.{option_map_or}
 use Rattle.std.specs.Str.{bytes_eq}
 use Rattle.std.proofs.lemmas.Bool.{false≢true}
@@ -14,10 +14,10 @@ use Rattle.session_core.specs.Dates.{Civil, date_number}
 use Rattle.wire_in.specs.declared.record.Record.{Record}
 use Rattle.wire_in.specs.declared.record.Record.TheVariants as in_
 use Rattle.wire_in.specs.declared.record.Refusal.{Refusal}
-use Rattle.rulebook.specs.Admission.{names, last_day, is_listed_name, with_name}
+use Rattle.rulebook.specs.Admission.{names, is_listed_name, with_name}
 use Rattle.market_core.specs.Dated.{is_on, is_up_to, are_up_to}
-use Rattle.market_core.specs.Admitted.{Admitted, StandsFor, refusal_of, is_date_early, is_out_of_order, is_before_day, lacks_room, is_full_for, added, put_at, dates_listed, admitted_with}
-use Rattle.rulebook.proofs.Listings.{same_name, own_name}
+use Rattle.market_core.specs.Admitted.{Admitted, StandsFor, refusal_of, is_date_early, added, dates_listed, admitted_with}
+use Rattle.rulebook.proofs.Listings.{own_name}
 use Rattle.rulebook.proofs.Places.{is_some-position}
 use Rattle.rulebook.proofs.Ids.{one_place}
 use Rattle.market_core.proofs.Marks.{marked, map-marked, map-marked_none}

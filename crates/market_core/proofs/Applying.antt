@@ -1,5 +1,5 @@
 -- What a market gives and keeps at an admissible record is what the list of applied records gives.
-use Rattle.std.proofs.Common.{◌≡◌, ◌≢◌, ℕ, zero, ◌+◌, ◌<◌, ◌≤◌, Bool, true, false, cond, List, [], ◌∷◌, ◌++◌, length, map, Option, Some, None, Result, Ok, Err, is_none, is_some, not, ◌&&◌, ◌||◌, refl, sym, ap, subst, ◌∙◌, append_assoc, length-append, true≢false, arith}
+use Rattle.std.proofs.Common.{◌≡◌, ℕ, ◌+◌, ◌<◌, ◌≤◌, Bool, true, false, cond, List, [], ◌∷◌, ◌++◌, length, Option, Some, None, Result, Ok, Err, is_none, is_some, not, ◌&&◌, ◌||◌, refl, sym, ap, subst, ◌∙◌, append_assoc, length-append, true≢false, arith}
 use Rattle.std.specs.Prelude.{OnOk, option_map, unwrap_or, position, slice_get, nat_le, ◌==◌, filter}
 use Rattle.std.proofs.lemmas.Bool.Decides.{nat_tests}
 use Rattle.std.specs.List.{list_any, position_from}
@@ -21,29 +21,28 @@ use Rattle.wire_out.specs.declared.message.Stamped.{Stamped}
 use Rattle.breaker_core.specs.Kept.{started, with_declared}
 use Rattle.breaker_core.specs.Levels.{ends, declares}
 use Rattle.rulebook.specs.declared.event.Event.{Event}
-use Rattle.rulebook.specs.declared.event.Event.TheVariants.{Accepted, Published}
-use Rattle.rulebook.specs.Admission.{verdict, names, with_name, is_among, id_of, last_day, is_early, is_unknown, is_listed, lists_again, finds_no_id}
+use Rattle.rulebook.specs.declared.event.Event.TheVariants.{Accepted}
+use Rattle.rulebook.specs.Admission.{verdict, names, with_name, is_among, last_day, is_early, is_unknown, is_listed, lists_again, finds_no_id}
 use Rattle.rulebook.specs.Book.{named, evaluate_all, evaluate_own, evaluate_market, ids_below, listed_ids, target, step, history, newest_messages}
 use Rattle.rulebook.specs.History.{now, today, records, step_messages, publish}
-use Rattle.rulebook.specs.Market.{day_record, halt_in, market_halt, greatest_in, greatest_declared, breaks, resume_at, declare_at, declare_on, is_stopped}
-use Rattle.rulebook.proofs.Histories.{own_part, parts, market_part, tick_part, tick-part, publish-append, records-history, in_order, step_messages-publish, last_day-day_record, first_part}
-use Rattle.rulebook.proofs.Ids.{own-kept, listed-below}
-use Rattle.rulebook.proofs.Listings.{own_name, list_any-append}
+use Rattle.rulebook.specs.Market.{day_record, halt_in, market_halt, greatest_in, greatest_declared, breaks, resume_at, declare_at, declare_on}
+use Rattle.rulebook.proofs.Histories.{own_part, parts, market_part, tick-part, publish-append, records-history, in_order, step_messages-publish, last_day-day_record, first_part}
+use Rattle.rulebook.proofs.Ids.{listed-below}
+use Rattle.rulebook.proofs.Listings.{own_name}
 use Rattle.rulebook.proofs.Places.{is_some-position}
-use Rattle.rulebook.proofs.Speakers.{AllOfSymbols, NoneBy, of_symbol, own_part-by, by_other, parts-of_symbols, greatest-publish, market_halt-publish}
-use Rattle.symbol_core.specs.declared.symbol.MarketView.{MarketView}
+use Rattle.rulebook.proofs.Speakers.{AllOfSymbols, of_symbol, own_part-by, by_other, parts-of_symbols, greatest-publish, market_halt-publish}
 use Rattle.symbol_core.specs.Rests.{Held, Rests}
 use Rattle.symbol_core.specs.Silent.{SaysNothing}
 use Rattle.market_core.specs.declared.market.Today.{Today}
 use Rattle.market_core.specs.Admitted.{lacks_room, added}
-use Rattle.market_core.specs.Applied.{EachEvaluated, OneEvaluated, Finds, Lists, Ticks, Evaluated, Applies}
+use Rattle.market_core.specs.Applied.{EachEvaluated, OneEvaluated, Finds, Ticks, Evaluated, Applies}
 use Rattle.market_core.specs.Kept.{Kept, StandsFor, SymbolsStandFor, day_of}
-use Rattle.market_core.specs.Ruled.{stamped, resumption, tick_messages, with_breaker_resumed, with_level_on, level_on, ruled, ruling, view_of}
-use Rattle.market_core.proofs.Admitting.{passes, is_there, added_name}
+use Rattle.market_core.specs.Ruled.{stamped, resumption, with_level_on, ruled, ruling, view_of}
+use Rattle.market_core.proofs.Admitting.{passes, added_name}
 use Rattle.market_core.proofs.Resting.{says-on, of_others, of_none}
-use Rattle.market_core.proofs.Stepping.{opened, records-opened, day-kept, Begun, own_step, own_symbol, agree-before, swap_ids}
+use Rattle.market_core.proofs.Stepping.{opened, day-kept, Begun, own_step, own_symbol, agree-before}
 use Rattle.market_core.proofs.Telling.{id_within}
-use Rattle.market_core.proofs.Ticking.{Ticked, ToldBelow, told_below, day_below, ruled_history, parts_to, before_id, history_to, history-before, none-before}
+use Rattle.market_core.proofs.Ticking.{Ticked, ToldBelow, told_below, day_below, ruled_history, parts_to, before_id, history-before, none-before}
 use Rattle.market_core.proofs.Verdicts.{no_room}
 
 -- What an admissible record finds.
@@ -109,17 +108,21 @@ place_listed ns name = by (position (bytes_eq name) ns) refl where
 -- The market-wide rules at a tick.
 
 -- the open step of an index tick after a resumption, or none
-abbrev resumed_if : Bool → ℕ → ℕ → List Event → List Event
+abbrev pub resumed_if : Bool → ℕ → ℕ → List Event → List Event
 resumed_if b t value h = publish (cond b (MarketResume ∷ []) []) (Accepted (in_.IndexTick t value) ∷ h)
 
 -- the level that it declares then
-abbrev level_if : Bool → ℕ → ℕ → List Event → Day × ℕ → Option Level
+abbrev pub level_if : Bool → ℕ → ℕ → List Event → Day × ℕ → Option Level
 level_if b t value h d = declares (cond b None (market_halt h)) (greatest_declared h) d.1 d.0 t value
 
-declared : (b : Bool) (t value : ℕ) (A : List Record) (d : Day × ℕ) → day_record A ≡ Some d
-    → declare_at (in_.IndexTick t value) (resumed_if b t value (history A)) ≡ breaks value (level_if b t value (history A) d)
-declared true t value A d on = ap (λ o. option_map_or (declare_on value (resumed_if true t value (history A))) o []) (ap day_record (records-history A) ∙ on)
-declared false t value A d on = ap (λ o. option_map_or (declare_on value (resumed_if false t value (history A))) o []) (ap day_record (records-history A) ∙ on)
+pub declared : (b : Bool) (t value : ℕ) (h : List Event) (d : Day × ℕ) → day_record (records h) ≡ Some d
+    → declare_at (in_.IndexTick t value) (resumed_if b t value h) ≡ breaks value (level_if b t value h d)
+declared true t value h d on = ap (λ o. option_map_or (declare_on value (resumed_if true t value h)) o []) on
+declared false t value h d on = ap (λ o. option_map_or (declare_on value (resumed_if false t value h)) o []) on
+
+-- the day of a history is that of its records
+day_recorded : (A : List Record) (d : Day × ℕ) → day_record A ≡ Some d → day_record (records (history A)) ≡ Some d
+day_recorded A d on = ap day_record (records-history A) ∙ on
 
 -- the breakers after it, by what the history says
 abbrev day_in : List Event → Day × ℕ → Today
@@ -139,7 +142,7 @@ tick_kept : (b : Bool) (t value : ℕ) (A : List Record) (d : Day × ℕ) → da
     → with_level_on t value (day_resumed b (history A) d) ≡ day_in (publish (declare_at (in_.IndexTick t value) (resumed_if b t value (history A))) (resumed_if b t value (history A))) d
 tick_kept b t value A d on =
     with_level_said b t value (history A) d (level_if b t value (history A) d)
-    ∙ ap (λ ms. day_in (publish ms (resumed_if b t value (history A))) d) (sym (declared b t value A d on))
+    ∙ ap (λ ms. day_in (publish ms (resumed_if b t value (history A))) d) (sym (declared b t value (history A) d (day_recorded A d on)))
 
 clock_kept : (b : Bool) (t : ℕ) (h : List Event) (d : Day × ℕ) → day_resumed b h d ≡ day_in (publish (cond b (MarketResume ∷ []) []) (Accepted (in_.Clock t) ∷ h)) d
 clock_kept true t h d = refl
@@ -149,7 +152,7 @@ clock_kept false t h d = refl
 ruling-part : (x : Record) (A : List Record) (d : Day × ℕ) → is_tick x ≡ true → day_record A ≡ Some d → ruling x (day_of A d) ≡ market_part x (opened x A)
 ruling-part (in_.Clock t) A d e on = sym (append-nil (resumption t (day_of A d)))
 ruling-part (in_.IndexTick t value) A d e on =
-    ap (λ (ms : List Message). resumption t (day_of A d) ++ ms) (sym (declared (ends t (market_halt (history A))) t value A d on))
+    ap (λ (ms : List Message). resumption t (day_of A d) ++ ms) (sym (declared (ends t (market_halt (history A))) t value (history A) d (day_recorded A d on)))
 ruling-part (in_.Day t day c) A d e on = absurd cc
 ruling-part (in_.Listing t n k l c) A d e on = absurd cc
 ruling-part (in_.Trade t s n p q f) A d e on = absurd cc
@@ -305,7 +308,7 @@ listing_goes limit t name k l c A old new before after stands passed listed =
 
 -- A clock or an index tick.
 
-step_tick : (x : Record) (A : List Record) (n : ℕ) → is_day x ≡ false → is_tick x ≡ true → n ≡ length (names (x ∷ A)) → step x (history A) ≡ publish (before_id n x A) (opened x A)
+pub step_tick : (x : Record) (A : List Record) (n : ℕ) → is_day x ≡ false → is_tick x ≡ true → n ≡ length (names (x ∷ A)) → step x (history A) ≡ publish (before_id n x A) (opened x A)
 step_tick x A n no_day tick count =
     (λ i. cond (no_day i) (opened x A) (cond (tick i) (evaluate_all x (listed_ids (records (opened x A))) (evaluate_market x (opened x A)))
     (option_map_or (λ k. evaluate_own x (named (records (opened x A)) k) (opened x A)) (target (records (opened x A)) x) (opened x A))))

@@ -6,3 +6,5 @@ pub mod Resting
 pub mod Stepping
 pub mod Ticking
 pub mod Applying
+pub mod Views
+pub mod Alone

@@ -1,20 +1,15 @@
 -- What is kept of a symbol goes on under records and messages that say nothing of it.
-use Rattle.std.proofs.Common.{◌≡◌, ℕ, ◌+◌, ◌≤◌, Bool, true, false, cond, List, [], ◌∷◌, ◌++◌, Option, Some, None, refl, sym, ap, ◌∙◌}
+use Rattle.std.proofs.Common.{◌≡◌, ℕ, ◌≤◌, Bool, true, false, cond, List, [], ◌∷◌, Option, Some, None, refl, sym, ap, ◌∙◌}
 use Rattle.std.specs.Prelude.{◌==◌}
 use Rattle.std.specs.Option.{option_map_or}
-use Rattle.session_core.specs.declared.day.Day.{Day}
-use Rattle.session_core.specs.declared.state.Phase.{Phase}
-use Rattle.price_core.specs.declared.quote.Bands.{Bands}
-use Rattle.price_core.specs.declared.quote.Collars.{Collars}
 use Rattle.wire_in.specs.declared.record.Record.{Record}
 use Rattle.wire_in.specs.declared.record.Record.TheVariants as in_
-use Rattle.wire_in.specs.Records.{moment_of, is_day, is_tick, name_of, symbol_of}
+use Rattle.wire_in.specs.Records.{moment_of, is_day, is_tick, name_of}
 use Rattle.wire_out.specs.declared.message.Message.{Message}
 use Rattle.wire_out.specs.declared.message.Message.TheVariants as out
-use Rattle.rulebook.specs.declared.symbol.Banded.{Banded}
 use Rattle.rulebook.specs.declared.event.Event.{Event}
 use Rattle.rulebook.specs.declared.event.Event.TheVariants.{Accepted, Published}
-use Rattle.rulebook.specs.Admission.{names, id_of}
+use Rattle.rulebook.specs.Admission.{names}
 use Rattle.rulebook.specs.Book.{named, target}
 use Rattle.rulebook.specs.History.{now, records, publish}
 use Rattle.rulebook.specs.Market.{day_record}

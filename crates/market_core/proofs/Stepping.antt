@@ -1,10 +1,8 @@
 -- What symbols that are evaluated at a record publish is what the step of the record publishes, and they rest on the history with it.
-use Rattle.std.proofs.Common.{◌≡◌, ◌≢◌, ℕ, zero, suc, ◌+◌, ◌<◌, ◌≤◌, Bool, true, false, cond, List, [], ◌∷◌, ◌++◌, length, map, Option, Some, None, is_some, not, refl, sym, ap, subst, ◌∙◌, append_assoc, true≢false, arith}
-use Rattle.std.specs.Prelude.{◌&&◌, ◌==◌, filter, slice_get, option_map}
+use Rattle.std.proofs.Common.{◌≡◌, ◌≢◌, ℕ, ◌≤◌, Bool, true, false, cond, List, [], ◌∷◌, ◌++◌, Option, Some, is_some, not, refl, sym, ap, subst, ◌∙◌, true≢false, arith}
+use Rattle.std.specs.Prelude.{◌&&◌, ◌==◌, slice_get}
 use Rattle.std.specs.Option.{option_map_or}
 use Rattle.std.proofs.lemmas.Bool.Decides.{nat_tests}
-use Rattle.std.proofs.lemmas.List.{append-nil, map-append}
-use Rattle.std.proofs.lemmas.List.Elements.{filter-append}
 use Rattle.session_core.specs.declared.day.Day.{Day}
 use Rattle.wire_in.specs.declared.record.Record.{Record}
 use Rattle.wire_in.specs.declared.record.Record.TheVariants as in_
@@ -12,24 +10,23 @@ use Rattle.wire_in.specs.Records.{moment_of, is_day, is_tick, name_of}
 use Rattle.wire_out.specs.declared.message.Message.{Message}
 use Rattle.wire_out.specs.declared.message.Stamped.{Stamped}
 use Rattle.rulebook.specs.declared.event.Event.{Event}
-use Rattle.rulebook.specs.declared.event.Event.TheVariants.{Accepted, Published}
-use Rattle.rulebook.specs.Admission.{names, id_of, is_listed}
-use Rattle.rulebook.specs.Book.{Named, named, all_obeyed, announced, symbol_rules, evaluate_all, evaluate_own, evaluate_market, evaluate_record, ids_below, listed_ids, target, step, history}
-use Rattle.rulebook.specs.History.{now, today, records, publish}
-use Rattle.rulebook.specs.Market.{day_record, halt_in, market_halt, is_stopped}
-use Rattle.rulebook.specs.Symbol.{terms, terms_in}
-use Rattle.rulebook.proofs.Histories.{part, own_part, parts, market_part, publish-append, evaluate_own-part, records-history, records-step, records-publish}
-use Rattle.rulebook.proofs.Ids.{Agree, own-kept, terms-listed, same_id, own_id}
-use Rattle.rulebook.proofs.Speakers.{AllBy, NoneBy, NoneBy-append, by_market, by_other, own_part-by, part-by, market_part-by, parts-append, parts-below, parts-of_symbols, market_halt-publish}
+use Rattle.rulebook.specs.declared.event.Event.TheVariants.{Accepted}
+use Rattle.rulebook.specs.Book.{Named, named, all_obeyed, announced, symbol_rules, evaluate_all, evaluate_own, evaluate_market, listed_ids, target, step, history}
+use Rattle.rulebook.specs.History.{now, records, publish}
+use Rattle.rulebook.specs.Market.{day_record, is_stopped}
+use Rattle.rulebook.specs.Symbol.{terms}
+use Rattle.rulebook.proofs.Histories.{part, own_part, evaluate_own-part, records-history, records-publish}
+use Rattle.rulebook.proofs.Ids.{Agree, own-kept, same_id, own_id}
+use Rattle.rulebook.proofs.Speakers.{NoneBy, by_other, own_part-by}
 use Rattle.symbol_core.specs.declared.symbol.MarketView.{MarketView}
-use Rattle.symbol_core.specs.Evaluates.{Evaluates, Opens, open_history, part_of, step_of}
+use Rattle.symbol_core.specs.Evaluates.{Opens, part_of, step_of}
 use Rattle.symbol_core.specs.Rests.{Held, Rests}
 use Rattle.symbol_core.specs.Silent.{IsOfOthers}
 use Rattle.symbol_core.specs.Stands as symbol
-use Rattle.market_core.specs.Applied.{Tells, TellsAt, TellsBelow}
+use Rattle.market_core.specs.Applied.{TellsAt}
 use Rattle.market_core.specs.Kept.{SymbolsStandFor}
 use Rattle.market_core.specs.Ruled.{stamped}
-use Rattle.market_core.proofs.Resting.{silent, rests-agree, rests-publish, rests-on, of_others, of_none}
+use Rattle.market_core.proofs.Resting.{silent, rests-agree, rests-on, of_others}
 
 pub apart_ids : (a b : ℕ) → (a == b) ≡ false → a ≢ b
 apart_ids a b e same = true≢false (sym (sym (ap (λ (n : ℕ). a == n) same) ∙ own_id a) ∙ e)
@@ -67,7 +64,7 @@ pub same_named : (x : Record) (A : List Record) (id s : ℕ) → id ≡ s → sy
 same_named x A id s e = ap (λ (i : ℕ). symbol.named (named (x ∷ A) s).own i) e
 
 -- a listing that names the symbol is its own
-own_listing : (x : Record) (A : List Record) (s : ℕ) → (target (x ∷ A) x ≡ Some s) → option_map_or (named (x ∷ A) s).own (name_of x) true ≡ true
+pub own_listing : (x : Record) (A : List Record) (s : ℕ) → (target (x ∷ A) x ≡ Some s) → option_map_or (named (x ∷ A) s).own (name_of x) true ≡ true
 own_listing (in_.Listing t n k l c) A s e = ap (λ (o : Option ℕ). option_map_or (λ id. id == s) o false) e ∙ own_id s
 own_listing (in_.Day t d c) A s e = refl
 own_listing (in_.Trade t i n p q f) A s e = refl
@@ -114,7 +111,7 @@ own_step x A s no_day no_tick e =
     ∙ ap (λ (o : Option ℕ). option_map_or (λ k. evaluate_own x (named (x ∷ A) k) (opened x A)) o (opened x A)) e
     ∙ evaluate_own-part x (named (x ∷ A) s) (opened x A)
 
-own_said : (x : Record) (A : List Record) (d : Day × ℕ) (market : MarketView) (s id : ℕ) → Begun x A d market [] → is_tick x ≡ false → id ≡ s
+pub own_said : (x : Record) (A : List Record) (d : Day × ℕ) (market : MarketView) (s id : ℕ) → Begun x A d market [] → is_tick x ≡ false → id ≡ s
     → part_of market.day (symbol.named (named (x ∷ A) s).own id) x (opened x A) ≡ own_part x (named (x ∷ A) s) (opened x A)
 own_said x A d market s id b no_tick is =
     let S = named (x ∷ A) s in

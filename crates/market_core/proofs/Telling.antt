@@ -1,5 +1,5 @@
 -- Symbols that are evaluated one after the other.
-use Rattle.std.proofs.Common.{◌≡◌, ℕ, Bool, true, false, zero, suc, ◌+◌, ◌<◌, ◌≤◌, ◌≢◌, List, [], ◌∷◌, length, get_or, ◌++◌, length-append, Option, Some, None, Result, Ok, Err, is_ok, cond, refl, sym, ap, subst, ◌∙◌, add-one, arith}
+use Rattle.std.proofs.Common.{◌≡◌, ℕ, Bool, true, zero, suc, ◌+◌, ◌<◌, ◌≤◌, ◌≢◌, List, [], ◌∷◌, length, get_or, ◌++◌, length-append, Option, Some, None, Result, Ok, Err, is_ok, cond, refl, sym, ap, subst, ◌∙◌, add-one, arith}
 use Rattle.std.specs.Prelude.{OnOk, slice_get, slice_set, position, unwrap_or}
 use Rattle.std.specs.Str.{bytes_eq}
 use Rattle.std.proofs.lemmas.List.Quantifiers.{position-Some}
@@ -15,7 +15,7 @@ use Rattle.rulebook.specs.declared.event.Event.{Event}
 use Rattle.symbol_core.specs.Rests.{Held, Rests}
 use Rattle.symbol_core.specs.Silent.{SaysNothing}
 use Rattle.market_core.specs.declared.market.Today.{Today}
-use Rattle.market_core.specs.Applied.{Tells, TellsAt, TellsBelow, OneEvaluated, Evaluated, Ticks, Applies, Finds, Lists, OnToday}
+use Rattle.market_core.specs.Applied.{Tells, TellsBelow, OneEvaluated, Evaluated, Ticks, Applies, Finds, Lists, OnToday}
 use Rattle.market_core.specs.Admitted.{added}
 use Rattle.market_core.specs.Kept.{Kept}
 use Rattle.market_core.specs.Ruled.{view_of}

@@ -1,8 +1,7 @@
 -- All symbols of a market at a record of no symbol: a day, a clock or an index tick.
-use Rattle.std.proofs.Common.{◌≡◌, ◌≢◌, ℕ, zero, suc, ◌+◌, ◌<◌, ◌≤◌, Bool, true, false, cond, List, [], ◌∷◌, ◌++◌, length, Option, Some, None, is_some, not, refl, sym, ap, subst, ◌∙◌, append_assoc, arith}
+use Rattle.std.proofs.Common.{◌≡◌, ◌≢◌, ℕ, zero, suc, ◌<◌, ◌≤◌, Bool, true, false, cond, List, [], ◌∷◌, ◌++◌, Some, is_some, not, refl, sym, ap, subst, ◌∙◌, append_assoc, arith}
 use Rattle.std.specs.Prelude.{◌&&◌, ◌==◌, filter, slice_get}
 use Rattle.std.specs.Option.{option_map_or}
-use Rattle.std.proofs.lemmas.Bool.Decides.{nat_tests}
 use Rattle.std.proofs.lemmas.List.{append-nil, map-append}
 use Rattle.std.proofs.lemmas.List.Elements.{filter-append}
 use Rattle.session_core.specs.declared.day.Day.{Day}
@@ -12,20 +11,20 @@ use Rattle.wire_in.specs.Records.{moment_of, is_day, is_tick, name_of}
 use Rattle.wire_out.specs.declared.message.Message.{Message}
 use Rattle.wire_out.specs.declared.message.Stamped.{Stamped}
 use Rattle.rulebook.specs.declared.event.Event.{Event}
-use Rattle.rulebook.specs.declared.event.Event.TheVariants.{Accepted, Published}
-use Rattle.rulebook.specs.Admission.{names, is_listed}
+use Rattle.rulebook.specs.declared.event.Event.TheVariants.{Accepted}
+use Rattle.rulebook.specs.Admission.{is_listed}
 use Rattle.rulebook.specs.Book.{Named, named, all_obeyed, announced, symbol_rules, ids_below, history}
 use Rattle.rulebook.specs.History.{now, records, publish}
 use Rattle.rulebook.specs.Market.{day_record, is_stopped}
 use Rattle.rulebook.specs.Symbol.{terms, terms_in}
 use Rattle.rulebook.proofs.Histories.{part, parts, market_part, publish-append}
 use Rattle.rulebook.proofs.Ids.{terms-listed, same_id}
-use Rattle.rulebook.proofs.Speakers.{NoneBy, NoneBy-append, by_market, by_other, all_obeyed-by, rules_speak, market_part-by, parts-append, parts-below, parts-of_symbols, market_halt-publish}
+use Rattle.rulebook.proofs.Speakers.{AllBy, NoneBy, NoneBy-append, by_market, by_other, all_obeyed-by, rules_speak, market_part-by, parts-append, parts-below, parts-of_symbols, market_halt-publish}
 use Rattle.symbol_core.specs.declared.symbol.MarketView.{MarketView}
-use Rattle.symbol_core.specs.Evaluates.{Evaluates, Opens, open_history, part_of, step_of}
+use Rattle.symbol_core.specs.Evaluates.{Opens, open_history, part_of}
 use Rattle.symbol_core.specs.Rests.{Held, Rests}
 use Rattle.symbol_core.specs.Stands as symbol
-use Rattle.market_core.specs.Applied.{Tells, TellsAt, TellsBelow}
+use Rattle.market_core.specs.Applied.{TellsAt, TellsBelow}
 use Rattle.market_core.specs.Kept.{SymbolsStandFor}
 use Rattle.market_core.specs.Ruled.{stamped}
 use Rattle.market_core.proofs.Resting.{rests-publish}
@@ -57,12 +56,15 @@ none-before n s x A le =
 
 -- What one symbol publishes.
 
-abbrev said_if : Bool → Day → Named → Record → List Event → List Message
+abbrev pub said_if : Bool → Day → Named → Record → List Event → List Message
 said_if listed day s x h = cond listed (all_obeyed day s x symbol_rules h) []
 
+pub said_if-own : (listed : Bool) (day : Day) (s : Named) (x : Record) (h : List Event) → AllBy (Some s.symbol) (said_if listed day s x h)
+said_if-own true day s x h = all_obeyed-by day s x symbol_rules h rules_speak
+said_if-own false day s x h = tt
+
 said_if-by : (listed : Bool) (day : Day) (s : Named) (x : Record) (h : List Event) (k : ℕ) → (s.symbol == k) ≡ false → NoneBy k (said_if listed day s x h)
-said_if-by true day s x h k apart = by_other k s.symbol (all_obeyed day s x symbol_rules h) apart (all_obeyed-by day s x symbol_rules h rules_speak)
-said_if-by false day s x h k apart = tt
+said_if-by listed day s x h k apart = by_other k s.symbol (said_if listed day s x h) apart (said_if-own listed day s x h)
 
 -- the market tick of a known day
 pub record Ticked (x : Record) (A : List Record) (d : Day × ℕ) (market : MarketView) : Type 0 where
@@ -72,7 +74,7 @@ pub record Ticked (x : Record) (A : List Record) (d : Day × ℕ) (market : Mark
   pub stopped : market.stopped ≡ is_stopped (ruled_history x A)
   pub later : now (history A) ≤ moment_of x
 
-tick_day : (x : Record) → is_tick x ≡ true → is_day x ≡ false
+pub tick_day : (x : Record) → is_tick x ≡ true → is_day x ≡ false
 tick_day (in_.IndexTick t v) e = refl
 tick_day (in_.Clock t) e = refl
 tick_day (in_.Day t d c) e = absurd cc
@@ -83,7 +85,7 @@ tick_day (in_.Quote t s b o y z) e = refl
 tick_day (in_.Notice t s k) e = refl
 tick_day (in_.Indication t s p u) e = refl
 
-tick_name : (own : List ℕ → Bool) (x : Record) → is_tick x ≡ true → option_map_or own (name_of x) true ≡ true
+pub tick_name : (own : List ℕ → Bool) (x : Record) → is_tick x ≡ true → option_map_or own (name_of x) true ≡ true
 tick_name own (in_.IndexTick t v) e = refl
 tick_name own (in_.Clock t) e = refl
 tick_name own (in_.Day t d c) e = refl
@@ -105,7 +107,7 @@ tick_announces s (in_.Quote t i b o y z) h e = refl
 tick_announces s (in_.Notice t i k) h e = refl
 tick_announces s (in_.Indication t i p u) h e = refl
 
-part_of-tick : (day : Day) (s : Named) (x : Record) (h : List Event) (listed : Bool) → is_tick x ≡ true → is_some (terms h s.own) ≡ listed → part_of day s x h ≡ said_if listed day s x h
+pub part_of-tick : (day : Day) (s : Named) (x : Record) (h : List Event) (listed : Bool) → is_tick x ≡ true → is_some (terms h s.own) ≡ listed → part_of day s x h ≡ said_if listed day s x h
 part_of-tick day s x h listed e is =
     (λ i. cond (e i && not (is i)) [] (tick_announces s x h e i ++ all_obeyed day s x symbol_rules (publish (tick_announces s x h e i) h))) ∙ by listed
   where
@@ -114,7 +116,7 @@ part_of-tick day s x h listed e is =
     by false = refl
 
 -- a symbol has terms where it is listed
-listed-open : (ms : List Message) (x : Record) (A : List Record) (s : ℕ) → is_some (terms (publish ms (opened x A)) (named (x ∷ A) s).own) ≡ is_listed (x ∷ A) s
+pub listed-open : (ms : List Message) (x : Record) (A : List Record) (s : ℕ) → is_some (terms (publish ms (opened x A)) (named (x ∷ A) s).own) ≡ is_listed (x ∷ A) s
 listed-open ms x A s = ap (λ (B : List Record). is_some (terms_in (named (x ∷ A) s).own B)) (records-opened ms x A) ∙ terms-listed (x ∷ A) s
 
 said-tick : (x : Record) (A : List Record) (d : Day × ℕ) (market : MarketView) (n id : ℕ) → Ticked x A d market → id ≡ n
@@ -127,7 +129,7 @@ said-tick x A d market n id k is =
     ∙ ap (λ (g : List Event). said_if (is_listed (x ∷ A) n) d.0 S x g) (history-before n x A)
 
 -- and one more symbol's part of the step
-parts-more : (x : Record) (A : List Record) (d : Day × ℕ) (market : MarketView) (n : ℕ) → Ticked x A d market
+pub parts-more : (x : Record) (A : List Record) (d : Day × ℕ) (market : MarketView) (n : ℕ) → Ticked x A d market
     → parts_to (suc n) x A ≡ parts_to n x A ++ said_if (is_listed (x ∷ A) n) d.0 (named (x ∷ A) n) x (history_to n x A)
 parts-more x A d market n k =
     let listed = is_listed (x ∷ A) in

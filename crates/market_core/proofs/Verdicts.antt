@@ -1,7 +1,6 @@
 -- What an admission refuses by what it keeps is what the list of admitted records refuses.
-use Rattle.std.proofs.Common.{◌≡◌, ℕ, Bool, true, false, cond, List, [], ◌∷◌, length, map, Option, Some, None, is_some, is_none, not, refl, sym, ap, ◌∙◌, arith}
+use Rattle.std.proofs.Common.{◌≡◌, ℕ, Bool, false, cond, List, [], ◌∷◌, length, map, Option, Some, None, is_some, is_none, not, refl, sym, ap, ◌∙◌, arith}
 use Rattle.std.specs.Prelude.{slice_get, position, nat_le, ◌&&◌, option_map}
-use Rattle.std.specs.List.{list_any}
 use Rattle.std.specs.Option.{option_map_or}
 use Rattle.std.specs.Str.{bytes_eq}
 use Rattle.std.proofs.lemmas.Bool.Decides.{nat_tests}
@@ -13,7 +12,7 @@ use Rattle.wire_in.specs.declared.record.Record.TheVariants as in_
 use Rattle.wire_in.specs.declared.record.Refusal.{Refusal}
 use Rattle.wire_in.specs.declared.record.Refusal.TheVariants.{NoDay, OutOfOrder, UnknownSymbol, AlreadyListed, DirectoryFull, JournalFull}
 use Rattle.wire_in.specs.Records.{symbol_of, is_day}
-use Rattle.rulebook.specs.Admission.{verdict, names, last_day, is_among, is_listed_name, is_listed, is_early, is_unknown, lists_again, finds_no_id}
+use Rattle.rulebook.specs.Admission.{verdict, names, last_day, is_listed_name, is_listed, is_early, is_unknown, lists_again, finds_no_id}
 use Rattle.market_core.specs.Dated.{is_on}
 use Rattle.market_core.specs.Admitted.{Admitted, StandsFor, refusal_of, last_moment, is_out_of_order, is_listed_id, names_unlisted, lists_twice, lacks_room}
 use Rattle.rulebook.proofs.Places.{is_some-position}

@@ -1,5 +1,5 @@
 -- What an admission keeps, and how it stands for the list of admitted records, the newest first.
-use Rattle.std.specs.Prelude.{◌≡◌, ℕ, Bool, true, false, Option, Some, None, List, [], ◌∷◌, ◌++◌, ◌+◌, nat_lt, nat_le, if◌then◌else◌, not, ◌&&◌, IsTrue, length, is_none, position, slice_get, slice_set, map}
+use Rattle.std.specs.Prelude.{◌≡◌, ℕ, Bool, false, Option, Some, None, List, [], ◌∷◌, ◌++◌, ◌+◌, nat_lt, nat_le, if◌then◌else◌, not, ◌&&◌, IsTrue, length, is_none, position, slice_get, slice_set, map}
 use Rattle.std.specs.Option.{option_map_or}
 use Rattle.std.specs.Str.{bytes_eq}
 use Rattle.session_core.specs.declared.day.Day.{Day}
@@ -9,7 +9,7 @@ use Rattle.wire_in.specs.declared.record.Record.TheVariants as in_
 use Rattle.wire_in.specs.declared.record.Refusal.{Refusal}
 use Rattle.wire_in.specs.declared.record.Refusal.TheVariants.{NoDay, OutOfOrder, UnknownSymbol, AlreadyListed, DirectoryFull, JournalFull}
 use Rattle.wire_in.specs.Records.{moment_of, is_day, symbol_of}
-use Rattle.rulebook.specs.Admission.{last_day, names, is_listed_name, is_among, with_name}
+use Rattle.rulebook.specs.Admission.{last_day, names, is_listed_name}
 use Rattle.market_core.specs.Dated.{is_on, are_up_to}
 
 -- The limit of records, how many were admitted, the last day, the moment of the last record, the names ever listed,

@@ -1,5 +1,5 @@
 -- What the code does at a record, whatever the history. Private words: no public clause cites them.
-use Rattle.std.specs.Prelude.{◌≡◌, ◌≢◌, ℕ, zero, suc, ◌<◌, ◌≤◌, Bool, Option, Some, List, [], ◌++◌, length, position, unwrap_or, slice_get}
+use Rattle.std.specs.Prelude.{◌≡◌, ◌≢◌, ℕ, zero, suc, ◌<◌, ◌≤◌, Bool, Some, List, [], ◌++◌, length, position, unwrap_or, slice_get}
 use Rattle.std.specs.Str.{bytes_eq}
 use Rattle.wire_in.specs.declared.record.Record.{Record}
 use Rattle.wire_in.specs.declared.record.Record.TheVariants as in_

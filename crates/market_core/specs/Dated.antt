@@ -1,5 +1,5 @@
 -- Dates against the day that a market has.
-use Rattle.std.specs.Prelude.{ℕ, Bool, true, false, Option, Some, None, List, ◌==◌, ◌&&◌, nat_le}
+use Rattle.std.specs.Prelude.{Bool, false, Option, Some, None, List, ◌==◌, ◌&&◌, nat_le}
 use Rattle.std.specs.List.{list_all}
 use Rattle.session_core.specs.Dates.{Civil, date_number}
 use Rattle.session_core.specs.declared.day.Day.{Day}

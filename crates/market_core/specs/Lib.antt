@@ -4,3 +4,4 @@ pub mod Admitted
 pub mod Kept
 pub mod Ruled
 pub mod Applied
+pub mod Alone

@@ -1,8 +1,9 @@
-//! Admission of records, and one market.
+//! Admission of records, one market, and the law of its single symbols.
 #![tactic(auto)]
 
 mod admission;
 mod directory;
+mod law;
 mod market;
 mod symbols;
 #[cfg(test)]
@@ -10,4 +11,5 @@ mod tests;
 
 pub use admission::Admission;
 pub use directory::Directory;
+pub use law::a_symbol_speaks_alone;
 pub use market::{Market, Today};

@@ -3,10 +3,12 @@ ghost use Rattle.std.specs.Str.{bytes_eq};
 ghost use Rattle.wire_in.specs.declared.record.Record.{Record};
 ghost use Rattle.wire_in.specs.Records.{moment_of, name_of, is_day, is_tick};
 ghost use Rattle.breaker_core.specs.Kept.{started};
-ghost use Rattle.rulebook.specs.Admission.{verdict};
+ghost use Rattle.rulebook.specs.Admission.{verdict, IsLawful};
+ghost use Rattle.rulebook.specs.Alone.{for_symbol};
 ghost use Rattle.rulebook.specs.Market.{breaks};
 ghost use Rattle.rulebook.specs.Book.{newest_messages};
 ghost use Rattle.market_core.specs.Kinds.{is_trade};
+ghost use Rattle.market_core.specs.Alone.{newest_alone};
 ghost use Rattle.market_core.specs.Admitted.{is_full_for, lacks_room, added};
 
 use crate::directory::{Directory, is_full_for};
@@ -267,7 +269,8 @@ impl Market {
         }
     }
 
-    /// Applies a record that is admissible after the applied ones, and appends the messages of its step. An error
+    /// Applies a record that is admissible after the applied ones, and appends the messages of its step. What it appends
+    /// of one symbol is what that symbol says alone, over its own records and the market-wide ones. An error
     /// leaves market and list as they were. It takes no memory where the record is neither a Listing nor a Trade and
     /// the list has room for 2 messages and 16 for each name.
     pub fn apply(&mut self, x: &Record, out: &mut Vec<Stamped>) -> Result<(), NoMemory>
@@ -275,6 +278,8 @@ impl Market {
             → OnOk result (out.new.items ≡ out.old.items ++ newest_messages (x.now ∷ applied)) }
         ensures stands { (limit : ℕ) (applied : List Record) → StandsFor self.old applied → verdict limit applied x.now ≡ None
             → OnOk result (StandsFor self.new (x.now ∷ applied)) }
+        ensures alone { (limit : ℕ) (applied : List Record) (s : ℕ) → StandsFor self.old applied → IsLawful limit (x.now ∷ applied)
+            → OnOk result (for_symbol s out.new.items ≡ for_symbol s out.old.items ++ newest_alone s (x.now ∷ applied)) }
         ensures err { OnErr result ((self.new ≡ self.old) × (out.new.items ≡ out.old.items)) }
         ensures few { vec_len out.new ≤ vec_len out.old + (2 + 16 * 16384) }
         ensures room { name_of x.now ≡ None → is_trade x.now ≡ false

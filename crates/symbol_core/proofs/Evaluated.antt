@@ -23,7 +23,7 @@ use Rattle.symbol_core.specs.Steps.{Starts, Steps}
 use Rattle.symbol_core.proofs.Resting.{rests-apart}
 
 -- a clock or an index tick, while this listing isn't there
-abbrev away : Record → Option Terms → Bool
+abbrev pub away : Record → Option Terms → Bool
 away x listed = is_tick x && not (is_some listed)
 
 away-record : (mine : List ℕ → Bool) (x : Record) (r : List Record) → away x (terms_in mine (x ∷ r)) ≡ away x (terms_in mine r)
@@ -38,7 +38,7 @@ away-record mine (in_.Notice t i k) r = refl
 away-record mine (in_.Indication t i p u) r = refl
 
 -- the same in the open history as in what is kept
-away-open : (mine : List ℕ → Bool) (held : Held) (x : Record) (others : List Message) (h : List Event) → Rests mine held h → away x (terms (open_history x others h) mine) ≡ away x held.kept.terms
+pub away-open : (mine : List ℕ → Bool) (held : Held) (x : Record) (others : List Message) (h : List Event) → Rests mine held h → away x (terms (open_history x others h) mine) ≡ away x held.kept.terms
 away-open mine held x others h r =
     ap (λ (e : List Record). away x (terms_in mine e)) (records-publish others (Accepted x ∷ h))
     ∙ away-record mine x (records h)
@@ -48,7 +48,7 @@ away-open mine held x others h r =
 abbrev pub step_for : MarketView → Record → Step
 step_for market x = record { moment = moment_of x; day = market.day; stopped = market.stopped; input = x }
 
-starts : (mine : List ℕ → Bool) (held : Held) (market : MarketView) (x : Record) (others : List Message) (h : List Event) → Opens mine held market x others h
+pub starts : (mine : List ℕ → Bool) (held : Held) (market : MarketView) (x : Record) (others : List Message) (h : List Event) → Opens mine held market x others h
     → Starts mine held.kept held.deals (step_for market x) others h
 starts mine held market x others h p =
     record { rests = p.rests; silent = p.silent; no_day = p.no_day; name = p.name; index = p.index; day = p.day; moment = refl; stopped = p.stopped; later = p.later }

@@ -13,3 +13,4 @@ pub mod Steps
 pub mod Others
 pub mod Resting
 pub mod Evaluated
+pub mod Twins

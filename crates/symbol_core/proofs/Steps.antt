@@ -38,6 +38,23 @@ day_record-after (in_.Clock t) r e = refl
 day_record-after (in_.Notice t i k) r e = refl
 day_record-after (in_.Indication t i p u) r e = refl
 
+-- the kept state that a record is taken into stands for its open step
+pub stands-opened : (mine : List ℕ → Bool) (step : Step) (k : Kept) (kept : List Deal) (others : List Message) (h : List Event) → Starts mine k kept step others h
+    → Stands mine (taken k step) (filter (leaves k.id step.input) kept) step (open_history step.input others h)
+stands-opened mine step k kept others h p =
+    let dropped = filter (leaves k.id step.input) kept in
+    let first = record step { stopped = is_stopped (Accepted step.input ∷ h) } in
+    subst (λ (b : Bool). Stands mine (taken k step) dropped (record step { stopped = b }) (open_history step.input others h)) (sym p.stopped)
+    (stands-others mine (taken k step) dropped first others (Accepted step.input ∷ h) p.silent
+    (stands-taken mine k kept first p.index h p.no_day p.name p.day p.rests p.moment refl p.later))
+
+-- the open step has the step's day, whatever it has published
+pub day_opened : (mine : List ℕ → Bool) (step : Step) (k : Kept) (kept : List Deal) (others : List Message) (h : List Event) (p : Starts mine k kept step others h) (ms : List Message)
+    → day_record (records (publish ms (open_history step.input others h))) ≡ Some (step.day, p.index)
+day_opened mine step k kept others h p ms =
+    ap (λ (r : List Record). day_record r) (records-publish ms (open_history step.input others h) ∙ records-publish others (Accepted step.input ∷ h))
+    ∙ day_record-after step.input (records h) p.no_day ∙ p.day
+
 -- what the code does at a record, call by call
 pub record Parts (step : Step) (k said mid : Kept) (kept left : List Deal) (before between after : List Message) : Type 0 where
   pub announces : Says (announcing (taken k step) step.input) step (taken k step) said before between
@@ -63,9 +80,7 @@ evaluated step k said mid kept left before between after parts =
           subst (Stands mine mid dropped step) (sym (publish-append ms (all_obeyed step.day (named mine k.id) step.input symbol_rules (publish ms H)) H))
           (subst (λ (i : ℕ). Stands mine mid dropped step (publish (all_obeyed step.day (named mine i) step.input symbol_rules (publish ms H)) (publish ms H))) a.id (o.stands mine (publish ms H) (opened mine others h p))) in
           let same : option_to_list mid.deal ≡ option_to_list (taken k step).deal = t.deal ∙ ap (λ (i : ℕ). deals_in step.day i [] (Accepted step.input ∷ [])) (o.id ∙ a.id) ∙ sym (own-taken step.day k.id step.input) in
-          let day : day_record (records all) ≡ Some (step.day, p.index) =
-          ap (λ (r : List Record). day_record r) (records-publish (step_of step.day (named mine k.id) step.input H) H ∙ records-publish others (Accepted step.input ∷ h)) ∙ day_record-after step.input (records h) p.no_day ∙ p.day in
-          rests-finished mine mid dropped left step p.index all p.no_day day
+          rests-finished mine mid dropped left step p.index all p.no_day (day_opened mine step k kept others h p (step_of step.day (named mine k.id) step.input H))
           (subst (λ (own : List Deal). SameLive step.moment left ((if mid.is_fresh then [] else dropped) ++ (if is_some mid.begun then own else []))) (sym same) parts.keeps) t;
       id = o.id ∙ a.id;
     }
@@ -79,20 +94,13 @@ evaluated step k said mid kept left before between after parts =
     o : ObeysAll (filter (leaves k.id step.input) kept) symbol_rules step said mid between after
     o = parts.obeys
 
-    stands : (mine : List ℕ → Bool) (others : List Message) (h : List Event) → Starts mine k kept step others h → Stands mine (taken k step) dropped step (open_history step.input others h)
-    stands mine others h p =
-        let first = record step { stopped = is_stopped (Accepted step.input ∷ h) } in
-        subst (λ (b : Bool). Stands mine (taken k step) dropped (record step { stopped = b }) (open_history step.input others h)) (sym p.stopped)
-        (stands-others mine (taken k step) dropped first others (Accepted step.input ∷ h) p.silent
-        (stands-taken mine k kept first p.index h p.no_day p.name p.day p.rests p.moment refl p.later))
-
     gives : (mine : List ℕ → Bool) (others : List Message) (h : List Event) → Starts mine k kept step others h
         → announced (named mine k.id) step.input (open_history step.input others h) ≡ announcing (taken k step) step.input
-    gives mine others h p = announced-gives (taken k step) step mine dropped (open_history step.input others h) step.input (stands mine others h p)
+    gives mine others h p = announced-gives (taken k step) step mine dropped (open_history step.input others h) step.input (stands-opened mine step k kept others h p)
 
     opened : (mine : List ℕ → Bool) (others : List Message) (h : List Event) → Starts mine k kept step others h
         → Stands mine said dropped step (publish (announced (named mine k.id) step.input (open_history step.input others h)) (open_history step.input others h))
-    opened mine others h p = rw (gives mine others h p) (a.stands mine dropped (open_history step.input others h) (stands mine others h p))
+    opened mine others h p = rw (gives mine others h p) (a.stands mine dropped (open_history step.input others h) (stands-opened mine step k kept others h p))
 
 pub step-evaluates : (step : Step) (k said mid took new : Kept) (kept dropped lent left : List Deal) (before between after : List Message)
     → dropped ≡ filter (leaves k.id step.input) kept → lent ≡ dropped → took ≡ taken k step

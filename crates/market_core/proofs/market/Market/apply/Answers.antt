@@ -1,3 +1,4 @@
+use Rattle.market_core.proofs.Alone.{call_alone}
 use Rattle.market_core.proofs.Applying.{has_room, call_gives, call_stands}
 use Rattle.market_core.proofs.market.Market.apply.Goals as goal
 
@@ -8,3 +9,7 @@ returns-clause-given c = λ limit applied s passed.
 pub returns-clause-stands : goal.returns-clause-stands
 returns-clause-stands c = λ limit applied s passed.
     call_stands c.keep.result limit c.args.x.now applied c.args.self.now c.keep.new.self _ _ s passed (c.keep.ensures.ok (has_room limit applied c.args.self.now c.args.x.now s passed))
+
+pub returns-clause-alone : goal.returns-clause-alone
+returns-clause-alone c = λ limit applied s stands lawful.
+    call_alone c.keep.result limit c.args.x.now applied s c.args.self.now c.keep.new.self _ _ stands lawful (c.keep.ensures.ok (has_room limit applied c.args.self.now c.args.x.now stands lawful.0))

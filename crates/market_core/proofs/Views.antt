@@ -1,0 +1,203 @@
+-- The records that concern a symbol, and the messages for it.
+use Rattle.std.proofs.Common.{◌≡◌, ℕ, Bool, true, false, cond, List, [], ◌∷◌, ◌++◌, Some, None, is_some, refl, sym, ap, ◌∙◌}
+use Rattle.std.specs.Prelude.{◌==◌, filter}
+use Rattle.wire_in.specs.declared.record.Record.{Record}
+use Rattle.wire_in.specs.declared.record.Record.TheVariants as in_
+use Rattle.wire_in.specs.Records.{is_day, is_tick}
+use Rattle.wire_out.specs.declared.message.Message.{Message}
+use Rattle.wire_out.specs.declared.message.Message.TheVariants as out
+use Rattle.wire_out.specs.declared.message.Stamped.{Stamped}
+use Rattle.rulebook.specs.declared.event.Event.{Event}
+use Rattle.rulebook.specs.declared.event.Event.TheVariants.{Accepted}
+use Rattle.rulebook.specs.Admission.{names}
+use Rattle.rulebook.specs.Alone.{alone, concerns, for_symbol, history_alone, is_for, is_listed_alone, view}
+use Rattle.rulebook.specs.Book.{evaluate, evaluate_market, evaluate_own, named}
+use Rattle.rulebook.specs.History.{records}
+use Rattle.rulebook.specs.Symbol.{terms_in}
+use Rattle.rulebook.proofs.Histories.{evaluate-part, evaluate_market-part, evaluate_own-part, market_part, own_part, part, records-publish}
+use Rattle.rulebook.proofs.Ids.{Agree, earlier_agree, own-kept, own_id}
+use Rattle.rulebook.proofs.Listings.{among_own}
+use Rattle.rulebook.proofs.Speakers.{AllBy, AllOfSymbols, NoneBy, by_other, is_by, of_symbol, speaker}
+use Rattle.market_core.specs.Ruled.{stamped}
+
+-- Records.
+
+-- a record is market-wide, or of s by its id or by a test of its name
+abbrev concerns_by : (List ℕ → Bool) → ℕ → Record → Bool
+concerns_by own s (in_.Day t d c) = true
+concerns_by own s (in_.Listing t name k l c) = own name
+concerns_by own s (in_.Trade t i n p q f) = i == s
+concerns_by own s (in_.Cancel t i n) = i == s
+concerns_by own s (in_.Quote t i b o y z) = i == s
+concerns_by own s (in_.IndexTick t v) = true
+concerns_by own s (in_.Clock t) = true
+concerns_by own s (in_.Notice t i k) = i == s
+concerns_by own s (in_.Indication t i p u) = i == s
+
+concerns-by : (A : List Record) (s : ℕ) (x : Record) → concerns A s x ≡ concerns_by (named A s).own s x
+concerns-by A s (in_.Day t d c) = refl
+concerns-by A s (in_.Listing t name k l c) = refl
+concerns-by A s (in_.Trade t i n p q f) = refl
+concerns-by A s (in_.Cancel t i n) = refl
+concerns-by A s (in_.Quote t i b o y z) = refl
+concerns-by A s (in_.IndexTick t v) = refl
+concerns-by A s (in_.Clock t) = refl
+concerns-by A s (in_.Notice t i k) = refl
+concerns-by A s (in_.Indication t i p u) = refl
+
+by-agree : (own other : List ℕ → Bool) (s : ℕ) (x : Record) (A : List Record) → Agree own other (x ∷ A) → concerns_by own s x ≡ concerns_by other s x
+by-agree own other s (in_.Listing t name k l c) A e = e.at name (among_own (names A) name)
+by-agree own other s (in_.Day t d c) A e = refl
+by-agree own other s (in_.Trade t i n p q f) A e = refl
+by-agree own other s (in_.Cancel t i n) A e = refl
+by-agree own other s (in_.Quote t i b o y z) A e = refl
+by-agree own other s (in_.IndexTick t v) A e = refl
+by-agree own other s (in_.Clock t) A e = refl
+by-agree own other s (in_.Notice t i k) A e = refl
+by-agree own other s (in_.Indication t i p u) A e = refl
+
+filter-agree : (own other : List ℕ → Bool) (s : ℕ) (A : List Record) → Agree own other A → filter (concerns_by own s) A ≡ filter (concerns_by other s) A
+filter-agree own other s [] e = refl
+filter-agree own other s (x ∷ A) e =
+    let rest = filter-agree own other s A (earlier_agree own other x A e) in
+    λ i. cond (by-agree own other s x A e i) (x ∷ rest i) (rest i)
+
+-- a further record changes no earlier one's place in the view
+view-kept : (x : Record) (A : List Record) (s : ℕ) → filter (concerns (x ∷ A) s) A ≡ view A s
+view-kept x A s =
+    (λ i. filter (λ y. concerns-by (x ∷ A) s y i) A)
+    ∙ sym (filter-agree (named A s).own (named (x ∷ A) s).own s A (own-kept x A s))
+    ∙ (λ i. filter (λ y. sym (concerns-by A s y) i) A)
+
+pub view-more : (x : Record) (A : List Record) (s : ℕ) (b : Bool) → concerns (x ∷ A) s x ≡ b → view (x ∷ A) s ≡ cond b (x ∷ view A s) (view A s)
+view-more x A s b e = λ i. cond (e i) (x ∷ view-kept x A s i) (view-kept x A s i)
+
+-- the records of a symbol's own history are those that it is of
+pub records-alone : (s : ℕ) (v : List Record) → records (history_alone s v) ≡ v
+records-alone s [] = refl
+records-alone s (x ∷ v) = by (is_day x) (is_tick x) (is_listed_alone (records (Accepted x ∷ history_alone s v))) ∙ ap (λ (earlier : List Record). x ∷ earlier) (records-alone s v) where
+  h : List Event
+  h = Accepted x ∷ history_alone s v
+
+  market : records (evaluate_market x h) ≡ records h
+  market = ap records (evaluate_market-part x h) ∙ records-publish (market_part x h) h
+
+  by : (day tick listed : Bool)
+      → records (cond day h (cond tick (cond listed (evaluate x (alone s) (evaluate_market x h)) (evaluate_market x h)) (evaluate_own x (alone s) h))) ≡ records h
+  by true tick listed = refl
+  by false true true = ap records (evaluate-part x (alone s) (evaluate_market x h)) ∙ records-publish (part x (alone s) (evaluate_market x h)) (evaluate_market x h) ∙ market
+  by false true false = market
+  by false false listed = ap records (evaluate_own-part x (alone s) h) ∙ records-publish (own_part x (alone s) h) h
+
+-- alone, a symbol has terms where there is a listing
+pub terms-alone : (v : List Record) → is_some (terms_in (λ name. true) v) ≡ is_listed_alone v
+terms-alone [] = refl
+terms-alone (in_.Day t d c ∷ v) = refl
+terms-alone (in_.Listing t name k l c ∷ v) = refl
+terms-alone (in_.Trade t i n p q f ∷ v) = terms-alone v
+terms-alone (in_.Cancel t i n ∷ v) = terms-alone v
+terms-alone (in_.Quote t i b o y z ∷ v) = terms-alone v
+terms-alone (in_.IndexTick t x ∷ v) = terms-alone v
+terms-alone (in_.Clock t ∷ v) = terms-alone v
+terms-alone (in_.Notice t i k ∷ v) = terms-alone v
+terms-alone (in_.Indication t i p u ∷ v) = terms-alone v
+
+-- Messages.
+
+abbrev pub NotFor : ℕ → List Message → Type 0
+NotFor s [] = Unit {0}
+NotFor s (m ∷ ms) = (is_for s m ≡ false) × NotFor s ms
+
+abbrev pub AllFor : ℕ → List Message → Type 0
+AllFor s [] = Unit {0}
+AllFor s (m ∷ ms) = (is_for s m ≡ true) × AllFor s ms
+
+pub NotFor-append : (s : ℕ) (a b : List Message) → NotFor s a → NotFor s b → NotFor s (a ++ b)
+NotFor-append s [] b first second = second
+NotFor-append s (m ∷ a) b first second = (first.0, NotFor-append s a b first.1 second)
+
+one_not_for : (s : ℕ) (m : Message) → is_some (speaker m) ≡ true → is_by s m ≡ false → is_for s m ≡ false
+one_not_for s (out.Listed i name) of e = e
+one_not_for s (out.State i p) of e = e
+one_not_for s (out.Band i why reference lower upper) of e = e
+one_not_for s (out.Straddle i on) of e = e
+one_not_for s (out.Collar i round lower upper) of e = e
+one_not_for s (out.Release i price) of e = e
+one_not_for s (out.Short i kind) of e = e
+one_not_for s (out.Breaker level index) of e = absurd cc
+one_not_for s out.MarketResume of e = absurd cc
+
+-- messages of symbols, none of them s
+pub not_for : (s : ℕ) (ms : List Message) → AllOfSymbols ms → NoneBy s ms → NotFor s ms
+not_for s [] all none = tt
+not_for s (m ∷ ms) all none = (one_not_for s m all.0 none.0, not_for s ms all.1 none.1)
+
+pub others_for : (s k : ℕ) (ms : List Message) → (k == s) ≡ false → AllBy (Some k) ms → NotFor s ms
+others_for s k ms apart all = not_for s ms (of_symbol k ms all) (by_other s k ms apart all)
+
+one_by : (s : ℕ) (m : Message) → is_for s m ≡ false → is_by s m ≡ false
+one_by s (out.Listed i name) e = e
+one_by s (out.State i p) e = e
+one_by s (out.Band i why reference lower upper) e = e
+one_by s (out.Straddle i on) e = e
+one_by s (out.Collar i round lower upper) e = e
+one_by s (out.Release i price) e = e
+one_by s (out.Short i kind) e = e
+one_by s (out.Breaker level index) e = absurd cc
+one_by s out.MarketResume e = absurd cc
+
+pub none_by : (s : ℕ) (ms : List Message) → NotFor s ms → NoneBy s ms
+none_by s [] none = tt
+none_by s (m ∷ ms) none = (one_by s m none.0, none_by s ms none.1)
+
+one_own : (s i : ℕ) → Some i ≡ Some s → (i == s) ≡ true
+one_own s i e = let same : i ≡ s = cc in ap (λ (k : ℕ). k == s) same ∙ own_id s
+
+one_for : (s : ℕ) (m : Message) → speaker m ≡ Some s → is_for s m ≡ true
+one_for s (out.Listed i name) e = one_own s i e
+one_for s (out.State i p) e = one_own s i e
+one_for s (out.Band i why reference lower upper) e = one_own s i e
+one_for s (out.Straddle i on) e = one_own s i e
+one_for s (out.Collar i round lower upper) e = one_own s i e
+one_for s (out.Release i price) e = one_own s i e
+one_for s (out.Short i kind) e = one_own s i e
+one_for s (out.Breaker level index) e = absurd cc
+one_for s out.MarketResume e = absurd cc
+
+pub own_for : (s : ℕ) (ms : List Message) → AllBy (Some s) ms → AllFor s ms
+own_for s [] all = tt
+own_for s (m ∷ ms) all = (one_for s m all.0, own_for s ms all.1)
+
+one_market : (s : ℕ) (m : Message) → speaker m ≡ None → is_for s m ≡ true
+one_market s (out.Listed i name) e = absurd cc
+one_market s (out.State i p) e = absurd cc
+one_market s (out.Band i why reference lower upper) e = absurd cc
+one_market s (out.Straddle i on) e = absurd cc
+one_market s (out.Collar i round lower upper) e = absurd cc
+one_market s (out.Release i price) e = absurd cc
+one_market s (out.Short i kind) e = absurd cc
+one_market s (out.Breaker level index) e = refl
+one_market s out.MarketResume e = refl
+
+pub market_for : (s : ℕ) (ms : List Message) → AllBy None ms → AllFor s ms
+market_for s [] all = tt
+market_for s (m ∷ ms) all = (one_market s m all.0, market_for s ms all.1)
+
+pub filter-all : (s : ℕ) (ms : List Message) → AllFor s ms → filter (is_for s) ms ≡ ms
+filter-all s [] all = refl
+filter-all s (m ∷ ms) all = let rest = filter-all s ms all.1 in λ i. cond (all.0 i) (m ∷ rest i) (rest i)
+
+pub filter-none : (s : ℕ) (ms : List Message) → NotFor s ms → filter (is_for s) ms ≡ []
+filter-none s [] none = refl
+filter-none s (m ∷ ms) none = let rest = filter-none s ms none.1 in λ i. cond (none.0 i) (m ∷ rest i) (rest i)
+
+pub for-stamped : (s t : ℕ) (ms : List Message) → for_symbol s (stamped t ms) ≡ stamped t (filter (is_for s) ms)
+for-stamped s t [] = refl
+for-stamped s t (m ∷ ms) = by (is_for s m) (for-stamped s t ms) where
+  one : Stamped
+  one = record { moment = t; message = m }
+
+  by : (b : Bool) → for_symbol s (stamped t ms) ≡ stamped t (filter (is_for s) ms)
+      → cond b (one ∷ for_symbol s (stamped t ms)) (for_symbol s (stamped t ms)) ≡ stamped t (cond b (m ∷ filter (is_for s) ms) (filter (is_for s) ms))
+  by true rest = ap (λ (later : List Stamped). one ∷ later) rest
+  by false rest = rest
