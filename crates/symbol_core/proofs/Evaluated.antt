@@ -113,12 +113,12 @@ evaluated-away market x held before is_away =
         ap (λ (b : Bool). if b then [] else step_of market.day (named mine held.kept.id) x (open_history x others h)) (away-open mine held x others h p.rests ∙ is_away)
 
 -- the same, over what the code has
-pub step-obeyed : (market : MarketView) (x : Record) (held : Held) (k : Kept) (kept lent : List Deal) (new : Held) (before got after : List Message) (t : ℕ) → record { kept = k; deals = kept } ≡ held → t ≡ moment_of x → lent ≡ kept → got ≡ before
+pub step-obeyed : (market : MarketView) (x : Record) (held : Held) (k : Kept) (kept lent : List Deal) (new : Held) (before got after : List Message) (step : Step) → record { kept = k; deals = kept } ≡ held → step ≡ step_for market x → lent ≡ kept → got ≡ before
     → is_day x ≡ false → away x held.kept.terms ≡ false
-    → Steps (record { moment = t; day = market.day; stopped = market.stopped; input = x }) k new.kept lent new.deals got after → Evaluates market x held new before after
-step-obeyed market x held k kept lent new before got after t v m l g no_day here s =
+    → Steps step k new.kept lent new.deals got after → Evaluates market x held new before after
+step-obeyed market x held k kept lent new before got after step v m l g no_day here s =
     step-evaluated market x held new before after no_day here
     (subst (λ (a : Held). Steps (step_for market x) a.kept new.kept a.deals new.deals before after) v
-    (subst (λ (u : ℕ). Steps (record { moment = u; day = market.day; stopped = market.stopped; input = x }) k new.kept kept new.deals before after) m
-    (subst (λ (ds : List Deal). Steps (record { moment = t; day = market.day; stopped = market.stopped; input = x }) k new.kept ds new.deals before after) l
-    (subst (λ (ms : List Message). Steps (record { moment = t; day = market.day; stopped = market.stopped; input = x }) k new.kept lent new.deals ms after) g s))))
+    (subst (λ (u : Step). Steps u k new.kept kept new.deals before after) m
+    (subst (λ (ds : List Deal). Steps step k new.kept ds new.deals before after) l
+    (subst (λ (ms : List Message). Steps step k new.kept lent new.deals ms after) g s))))

@@ -14,3 +14,4 @@ pub mod Others
 pub mod Resting
 pub mod Evaluated
 pub mod Twins
+pub mod Unmoved

@@ -130,10 +130,10 @@ abbrev AllAgree : List (Context → List Message) → Type 0
 AllAgree [] = Unit {0}
 AllAgree (rule ∷ later) = Agrees rule × AllAgree later
 
-abbrev leaving : Kept → Step → List Message
+abbrev pub leaving : Kept → Step → List Message
 leaving k step = if is_limit k.phase && not (at_band k.phase k.quote k.band) then becoming k Trading else []
 
-abbrev entering : Kept → Step → List Message
+abbrev pub entering : Kept → Step → List Message
 entering k step =
     if not (is_trading k.phase) then []
     else if at_band LimitLow k.quote k.band then becoming k LimitLow

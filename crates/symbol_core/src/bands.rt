@@ -125,7 +125,8 @@ impl Kept {
         }
     }
 
-    fn reference(&self, step: &Step, deals: &SummedDeals) -> Option<Priced>
+    /// A new reference price, where there is one.
+    pub fn reference(&self, step: &Step, deals: &SummedDeals) -> Option<Priced>
         ensures { result ≡ pricing.reference self.now step.now (mean_of (live step.now.moment (window self.now deals.now.deals))) }
     {
         if !is_trading(self.phase) {
@@ -157,7 +158,8 @@ impl Kept {
         }
     }
 
-    fn time_changes(&self, step: &Step, last: &Banded) -> bool
+    /// Whether time gives other bands than these last ones.
+    pub fn time_changes(&self, step: &Step, last: &Banded) -> bool
         ensures { result ≡ pricing.time_changes self.now step.now last.now }
     {
         match self.terms {

@@ -5,6 +5,7 @@ mod bands;
 mod chain;
 mod kept;
 mod pausing;
+mod quiet;
 mod records;
 mod reopening;
 mod restriction;

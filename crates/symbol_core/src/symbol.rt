@@ -1,5 +1,6 @@
 ghost use Rattle.std.specs.Prelude.{◌≡◌, ◌+◌, ◌≤◌, ℕ, Bool, true, false, None, List, ◌∷◌, ◌&&◌, not, IsOk, IfOk, OnOk, OnErr, is_some, length, option_to_list, vec_len, vec_capacity};
-ghost use Rattle.wire_in.specs.Records.{is_day, is_tick};
+ghost use Rattle.wire_in.specs.Records.{is_day, is_tick, moment_of};
+ghost use Rattle.wire_out.specs.declared.message.Message.{Message as Said};
 ghost use Rattle.rulebook.specs.declared.event.Event.{Event};
 ghost use Rattle.rulebook.specs.Symbol as of;
 ghost use Rattle.rulebook.specs.Symbol.{traded_price};
@@ -7,8 +8,10 @@ ghost use Rattle.symbol_core.specs.Steps.{Steps};
 ghost use Rattle.symbol_core.specs.Taken.{deal_of};
 
 use crate::kept::{Kept, Step};
+use crate::quiet::Quiet;
 use crate::records::{is_day, is_tick, traded_price};
 use crate::taking::{drop_cancelled, keep_deals};
+use pause_core::is_done;
 use price_core::NoMemory;
 use session_core::{Day, Phase};
 use std::alloc::Global;
@@ -29,14 +32,30 @@ pub struct MarketView {
 pub struct Symbol {
     kept: Kept,
     deals: SummedDeals,
+    quiet: Option<Quiet>,
 }
 
 impl Model for Symbol {
+    ghost use Rattle.symbol_core.specs.Quiet.{IsQuiet};
     ghost use Rattle.symbol_core.specs.Rests.{Held};
 
     ghost Value = { Held };
 
     ghost view = { λ s. record { kept = s.kept; deals = s.deals.deals } };
+
+    ghost invariant = { λ s. IsQuiet s.quiet s.kept };
+}
+
+/// The step of a record.
+fn step_of(x: &Record, market: &MarketView) -> Step
+    ensures { result ≡ record { moment = moment_of x.now; day = market.now.day; stopped = market.now.stopped; input = x.now } }
+{
+    Step {
+        moment: x.moment(),
+        day: market.day,
+        stopped: market.stopped,
+        input: *x,
+    }
 }
 
 /// The room that the step's deal takes.
@@ -64,6 +83,7 @@ impl Symbol {
         Ok(Symbol {
             kept: Kept::renewed(id, false),
             deals: SummedDeals::new(alloc)?,
+            quiet: None,
         })
     }
 
@@ -90,6 +110,7 @@ impl Symbol {
     {
         let _day = is_day(x);
         let renewed = Kept::renewed(self.kept.id, self.kept.triggered);
+        self.quiet = None;
         self.kept = renewed;
         self.deals.clear();
     }
@@ -99,6 +120,25 @@ impl Symbol {
         ensures { result ≡ is_tick x.now && not (is_some self.now.kept.terms) }
     {
         is_tick(x) && !self.kept.terms.is_some()
+    }
+
+    /// Whether the record is a clock or an index tick that brings nothing: the symbol is closed, or quiet with no new mean.
+    fn is_unmoved(&self, x: &Record, market: &MarketView) -> bool
+        ensures { result ≡ true → (before : List Said) → Evaluates market.now x.now self.now self.now before before }
+    {
+        if !is_tick(x) {
+            return false;
+        }
+        if is_done(self.kept.phase) {
+            return true;
+        }
+        match &self.quiet {
+            Some(quiet) if quiet.holds(x.moment(), market) => {
+                let step = step_of(x, market);
+                self.kept.reference(&step, &self.deals).is_none()
+            }
+            _ => false,
+        }
     }
 
     /// Evaluates a record: appends what it announces of the symbol and what the rules then give. It appends nothing at a
@@ -124,6 +164,9 @@ impl Symbol {
         if self.is_away(x) {
             return Ok(());
         }
+        if self.is_unmoved(x, market) {
+            return Ok(());
+        }
         self.obey(x, market, out)
     }
 
@@ -142,18 +185,14 @@ impl Symbol {
         ensures few { vec_len out.new ≤ vec_len out.old + 16 }
         ensures capacity { vec_capacity out.old ≤ vec_capacity out.new }
     {
-        let step = Step {
-            moment: x.moment(),
-            day: market.day,
-            stopped: market.stopped,
-            input: *x,
-        };
+        let step = step_of(x, market);
         match out.reserve(16) {
             Ok(()) => {}
             Err(_) => return Err(NoMemory),
         }
         self.deals.reserve(room_needed(self.kept.id, &step))?;
         take_step(&mut self.kept, &mut self.deals, &step, out);
+        self.quiet = self.kept.quiet(&step);
         Ok(())
     }
 }

@@ -94,7 +94,7 @@ impl Kept {
 }
 
 /// Whether a quotation is at that side of the bands.
-fn at_band(side: Phase, quote: &Option<Quotation>, band: &Option<Banded>) -> bool
+pub fn at_band(side: Phase, quote: &Option<Quotation>, band: &Option<Banded>) -> bool
     ensures { result ≡ at_band side quote.now band.now }
 {
     match (quote, band) {
@@ -152,7 +152,7 @@ impl Kept {
         }
     }
 
-    fn is_straddling_now(&self) -> bool
+    pub fn is_straddling_now(&self) -> bool
         ensures { result ≡ is_straddling_now self.now }
     {
         is_trading(self.phase) && straddles_bands(&self.quote, &self.band)

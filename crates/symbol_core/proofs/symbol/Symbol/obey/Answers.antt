@@ -4,5 +4,5 @@ use Rattle.symbol_core.proofs.symbol.Symbol.obey.Goals as goal
 pub returns-clause-ok : goal.returns-clause-ok
 returns-clause-ok c =
     step-obeyed c.args.market.now c.args.x.now c.args.self.now c.self.inside.kept c.self.inside.deals.deals c.reserve-2.new.self.deals
-    (record { kept = c.take_step.new.k; deals = c.take_step.new.deals.deals }) c.args.out.now.items c.reserve.new.self.items c.take_step.new.out.items c.moment.result
-    c.self.view_is c.moment.ensures c.reserve-2.ensures.deals c.reserve.ensures.items c.requires.day c.requires.listed c.take_step.ensures.steps
+    (record { kept = c.take_step.new.k; deals = c.take_step.new.deals.deals }) c.args.out.now.items c.reserve.new.self.items c.take_step.new.out.items c.step_of-step.result
+    c.self.view_is c.step_of-step.ensures c.reserve-2.ensures.deals c.reserve.ensures.items c.requires.day c.requires.listed c.take_step.ensures.steps

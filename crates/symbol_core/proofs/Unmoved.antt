@@ -1,0 +1,293 @@
+-- A clock or an index tick at which no rule says anything of the symbol.
+use Rattle.std.proofs.Common.{◌≡◌, ℕ, ◌<◌, ◌≤◌, Bool, true, false, cond, List, [], ◌∷◌, ◌++◌, refl, sym, ap, ◌∙◌, subst}
+use Rattle.std.specs.Prelude.{Option, Some, None, if◌then◌else◌, ◌&&◌, ◌||◌, not, filter, is_some}
+use Rattle.std.specs.Option.{option_map_or}
+use Rattle.price_core.specs.declared.quote.Cause.TheVariants.{Times}
+use Rattle.session_core.specs.declared.day.Day.{Day}
+use Rattle.session_core.specs.declared.state.Phase.{Phase}
+use Rattle.session_core.specs.declared.state.Phase.TheVariants as Phase
+use Rattle.session_core.specs.Times.{in_last_10_minutes, in_session, is_closed}
+use Rattle.wire_in.specs.declared.record.Record.{Record}
+use Rattle.wire_in.specs.declared.record.Record.TheVariants as in_
+use Rattle.wire_in.specs.Records.{is_day, is_tick, moment_of}
+use Rattle.wire_out.specs.declared.message.Message.{Message}
+use Rattle.wire_out.specs.declared.message.Message.TheVariants as out
+use Rattle.wire_out.specs.declared.message.ShortKind.TheVariants.{Triggered}
+use Rattle.limit_core.specs.Timers.{has_lasted}
+use Rattle.pause_core.specs.Phases.{can_start, can_stop, is_done, is_in_halt, is_limit, is_trading}
+use Rattle.pause_core.specs.Turns.{phase_after_halt}
+use Rattle.pause_core.specs.Turns as turns
+use Rattle.percent_core.specs.Percentages.{category_of, percent_of, span_at}
+use Rattle.percent_core.specs.PriceBands.{bands_at}
+use Rattle.price_core.specs.declared.quote.Bands.{Bands}
+use Rattle.refprice_core.specs.declared.reference.Priced.{Priced}
+use Rattle.window_core.specs.declared.window.Deal.{Deal}
+use Rattle.window_core.specs.Deals.{live, mean_of}
+use Rattle.rulebook.specs.declared.event.Event.{Event}
+use Rattle.rulebook.specs.declared.event.Event.TheVariants.{Accepted, Published}
+use Rattle.rulebook.specs.declared.symbol.Banded.{Banded}
+use Rattle.rulebook.specs.declared.symbol.Terms.{Terms}
+use Rattle.rulebook.specs.Auction.{is_paused}
+use Rattle.rulebook.specs.Book.{Named, all_obeyed, announced, context, obeyed, symbol_rules}
+use Rattle.rulebook.specs.History.{publish}
+use Rattle.rulebook.specs.Rules as rules
+use Rattle.rulebook.specs.Rules.{Context, asks_to_pause, at_band, triggers}
+use Rattle.rulebook.specs.Symbol.{phase, terms}
+use Rattle.rulebook.specs.Symbol as of
+use Rattle.symbol_core.specs.declared.kept.Kept.{Kept}
+use Rattle.symbol_core.specs.declared.kept.Step.{Step}
+use Rattle.symbol_core.specs.declared.quiet.Quiet.{Quiet}
+use Rattle.symbol_core.specs.declared.symbol.MarketView.{MarketView}
+use Rattle.symbol_core.specs.Evaluates.{Evaluates, Opens, open_history, part_of, step_of}
+use Rattle.symbol_core.specs.Kept.{becoming, brakes, is_straddling_now, pausing_as, reopening_after, straddling, turning}
+use Rattle.symbol_core.specs.Pricing.{band, banding, band_by_time, reference, time_changes}
+use Rattle.symbol_core.specs.Quiet.{IsRested, IsSettled, Lasts, Quiets, waits}
+use Rattle.symbol_core.specs.Rests.{Held, Rests}
+use Rattle.symbol_core.specs.Silent.{IsOfOthers}
+use Rattle.symbol_core.specs.Stands.{named, Stands}
+use Rattle.symbol_core.specs.Taken.{cancelled_by, leaves, taken}
+use Rattle.symbol_core.specs.Window.{window}
+use Rattle.symbol_core.proofs.Cancels.{leaves-all}
+use Rattle.symbol_core.proofs.Evaluated.{starts, step_for}
+use Rattle.symbol_core.proofs.Gives.{banding-gives, by_kept, mean-gives, pause-gives, reopen-gives, restrict-gives, straddle-gives, turned-gives}
+use Rattle.symbol_core.proofs.Resting.{rests-apart}
+use Rattle.symbol_core.proofs.Steps.{stands-opened}
+use Rattle.symbol_core.proofs.Twins.{entering, leaving}
+
+-- What a tick is not.
+
+tick_day : (x : Record) → is_tick x ≡ true → is_day x ≡ false
+tick_day (in_.IndexTick t v) e = refl
+tick_day (in_.Clock t) e = refl
+tick_day (in_.Day t d c) e = absurd cc
+tick_day (in_.Listing t n k l c) e = refl
+tick_day (in_.Trade t i n p q f) e = refl
+tick_day (in_.Cancel t i n) e = refl
+tick_day (in_.Quote t i b o y z) e = refl
+tick_day (in_.Notice t i k) e = refl
+tick_day (in_.Indication t i p u) e = refl
+
+-- what a tick leaves of each rule of a record
+record OfNone (s : ℕ) (x : Record) : Type 0 where
+  pub others : (mine : List ℕ → Bool) → IsOfOthers mine s x
+  pub announces : (n : Named) (h : List Event) → announced n x h ≡ []
+  pub asks : asks_to_pause s x ≡ false
+  pub triggers : (day : Day) (listed : Option Terms) → triggers day s x listed ≡ false
+  pub cancels : cancelled_by s x ≡ None
+  pub takes : (k : Kept) (step : Step) → k.id ≡ s → step.input ≡ x → IsRested k → taken k step ≡ k
+
+quote_stays : {X : Type 0} (b : Bool) (x : X) → cond b x x ≡ x
+quote_stays true x = refl
+quote_stays false x = refl
+
+tick_of_none : (s : ℕ) (x : Record) → is_tick x ≡ true → OfNone s x
+tick_of_none s (in_.Clock t) e =
+    record {
+      others = λ mine. record { symbol = refl; name = refl };
+      announces = λ n h. refl;
+      asks = refl;
+      triggers = λ day listed. refl;
+      cancels = refl;
+      takes = λ k step is input r. (λ i. taken k (record step { input = input i }))
+          ∙ (λ i. record k { quote = quote_stays (is_some k.begun) k.quote i; left_limit = sym r.left_limit i; released = sym r.released i; deal = sym r.deal i; is_fresh = sym r.is_fresh i });
+    }
+tick_of_none s (in_.IndexTick t v) e =
+    record {
+      others = λ mine. record { symbol = refl; name = refl };
+      announces = λ n h. refl;
+      asks = refl;
+      triggers = λ day listed. refl;
+      cancels = refl;
+      takes = λ k step is input r. (λ i. taken k (record step { input = input i }))
+          ∙ (λ i. record k { quote = quote_stays (is_some k.begun) k.quote i; left_limit = sym r.left_limit i; released = sym r.released i; deal = sym r.deal i; is_fresh = sym r.is_fresh i });
+    }
+tick_of_none s (in_.Day t d c) e = absurd cc
+tick_of_none s (in_.Listing t n k l c) e = absurd cc
+tick_of_none s (in_.Trade t i n p q f) e = absurd cc
+tick_of_none s (in_.Cancel t i n) e = absurd cc
+tick_of_none s (in_.Quote t i b o y z) e = absurd cc
+tick_of_none s (in_.Notice t i k) e = absurd cc
+tick_of_none s (in_.Indication t i p u) e = absurd cc
+
+-- Where no rule says anything, the symbol stays as it is.
+
+abbrev NoneSaid : Day → Named → Record → List Event → List (Context → List Message) → Type 0
+NoneSaid day s x h [] = Unit {0}
+NoneSaid day s x h (rule ∷ later) = (obeyed day s x rule h ≡ []) × NoneSaid day s x h later
+
+none_said : (day : Day) (s : Named) (x : Record) (h : List Event) (later : List (Context → List Message)) → NoneSaid day s x h later → all_obeyed day s x later h ≡ []
+none_said day s x h [] n = refl
+none_said day s x h (rule ∷ later) n = (λ i. n.0 i ++ all_obeyed day s x later (publish (n.0 i) h)) ∙ none_said day s x h later n.1
+
+evaluated-none : (market : MarketView) (x : Record) (held : Held) (before : List Message) → is_tick x ≡ true
+    → ((mine : List ℕ → Bool) (others : List Message) (h : List Event) → Opens mine held market x others h → NoneSaid market.day (named mine held.kept.id) x (open_history x others h) symbol_rules)
+    → Evaluates market x held held before before
+evaluated-none market x held before tick none =
+    record {
+      says = λ mine others h p. append_nothing before ∙ ap (λ (ms : List Message). before ++ ms) (sym (part_is mine others h p));
+      rests = λ mine others h p. rw (part_is mine others h p) (rests-apart mine held x others h p.no_day (of_none.others mine) p.silent p.later p.rests);
+      says_no_day = λ e. refl;
+      begins = λ e mine h r. let apart : true ≡ false = sym e ∙ tick_day x tick in cc;
+      id = refl;
+    }
+  where
+    of_none : OfNone held.kept.id x
+    of_none = tick_of_none held.kept.id x tick
+
+    append_nothing : (xs : List Message) → xs ≡ xs ++ []
+    append_nothing [] = refl
+    append_nothing (m ∷ xs) = ap (λ (ys : List Message). m ∷ ys) (append_nothing xs)
+
+    part_is : (mine : List ℕ → Bool) (others : List Message) (h : List Event) → Opens mine held market x others h → part_of market.day (named mine held.kept.id) x (open_history x others h) ≡ []
+    part_is mine others h p =
+        let S = named mine held.kept.id in
+        let H = open_history x others h in
+        let away = is_tick x && not (is_some (terms H mine)) in
+        (λ i. cond away [] (of_none.announces S H i ++ all_obeyed market.day S x symbol_rules (publish (of_none.announces S H i) H)))
+        ∙ ap (λ (ms : List Message). cond away [] ms) (none_said market.day S x H symbol_rules (none mine others h p))
+        ∙ quote_stays away []
+
+-- A closed symbol.
+
+pub evaluated-closed : (market : MarketView) (x : Record) (held : Held) (before : List Message) → is_tick x ≡ true → is_done held.kept.phase ≡ true → Evaluates market x held held before before
+evaluated-closed market x held before tick done = evaluated-none market x held before tick (λ mine others h p. all symbol_rules mine others h (closed mine others h p)) where
+  closed : (mine : List ℕ → Bool) (others : List Message) (h : List Event) → Opens mine held market x others h → is_done (phase (open_history x others h) held.kept.id) ≡ true
+  closed mine others h p =
+      let s = stands-opened mine (step_for market x) held.kept held.deals others h (starts mine held market x others h p) in
+      ap is_done (sym s.phase) ∙ done
+
+  all : (later : List (Context → List Message)) (mine : List ℕ → Bool) (others : List Message) (h : List Event) → is_done (phase (open_history x others h) held.kept.id) ≡ true
+      → NoneSaid market.day (named mine held.kept.id) x (open_history x others h) later
+  all [] mine others h e = tt
+  all (rule ∷ later) mine others h e =
+      (ap (λ (b : Bool). cond b [] (rule (context market.day (named mine held.kept.id) x (open_history x others h)))) e, all later mine others h e)
+
+-- A quiet symbol.
+
+record Waits (p : Phase) : Type 0 where
+  pub limit : is_limit p ≡ false
+  pub paused : is_paused p ≡ false
+  pub in_halt : is_in_halt p ≡ false
+
+waiting : (p : Phase) → waits p ≡ true → Waits p
+waiting Phase.Shut e = record { limit = refl; paused = refl; in_halt = refl }
+waiting Phase.Trading e = record { limit = refl; paused = refl; in_halt = refl }
+waiting Phase.LimitLow e = absurd cc
+waiting Phase.LimitHigh e = absurd cc
+waiting Phase.Paused e = absurd cc
+waiting Phase.Halted e = absurd cc
+waiting Phase.Stopped e = absurd cc
+waiting Phase.Closing e = absurd cc
+waiting Phase.Closed e = absurd cc
+
+start_none : (a b c : Bool) → (a && b) ≡ false → (a && (b && c)) ≡ false
+start_none true true c e = absurd cc
+start_none true false c e = refl
+start_none false b c e = refl
+
+same_straddle : (k : Kept) (b : Bool) → cond (b && not b) (out.Straddle k.id true ∷ []) (cond (b && not b) (out.Straddle k.id false ∷ []) []) ≡ []
+same_straddle k true = refl
+same_straddle k false = refl
+
+-- time brings no bands where the part of the session stays
+times_stay : (k : Kept) (a b : Step) → a.day ≡ b.day → span_at a.moment a.day ≡ span_at b.moment b.day → option_map_or (time_changes k a) k.band false ≡ option_map_or (time_changes k b) k.band false
+times_stay k a b day span = by k.band where
+  one : (last : Banded) (o : Option Terms)
+      → option_map_or (λ listed. rules.differs (of.bands_of listed a.day a.moment last.reference) last.bands) o false ≡ option_map_or (λ listed. rules.differs (of.bands_of listed b.day b.moment last.reference) last.bands) o false
+  one last None = refl
+  one last (Some listed) =
+      let category = category_of listed.close in
+      λ i. rules.differs (bands_at last.reference category (percent_of (day i).profile listed.tier category (span i)) listed.leverage) last.bands
+
+  by : (o : Option Banded) → option_map_or (time_changes k a) o false ≡ option_map_or (time_changes k b) o false
+  by None = refl
+  by (Some last) = one last k.terms
+
+quiet_rules : (k : Kept) (deals : List Deal) (q : Quiet) (step : Step) → Quiets k q → is_tick step.input ≡ true → q.from ≤ step.moment → step.moment < q.until → step.day ≡ q.market.day → step.stopped ≡ q.market.stopped
+    → reference k step (mean_of (live step.moment (window k deals))) ≡ None → (mine : List ℕ → Bool) (h : List Event) → Stands mine k deals step h → NoneSaid step.day (named mine k.id) step.input h symbol_rules
+quiet_rules k deals q step quiets tick from until day stopped none mine h s = (
+  said rules.close (turned-gives turns.close k step mine deals h s ∙ ap (λ (b : Bool). option_map_or (becoming k) (if b then Some Phase.Closed else None) []) (ap (λ (d : Day). is_closed t d) day ∙ lasts.closed t until)),
+  (said rules.stop (turned-gives turns.stop k step mine deals h s ∙ ap (λ (b : Bool). option_map_or (becoming k) (if b && can_stop k.phase then Some Phase.Stopped else None) []) (stopped ∙ running)),
+  (said rules.start (turned-gives turns.start k step mine deals h s
+      ∙ ap (λ (b : Bool). option_map_or (becoming k) (if b then Some Phase.Trading else None) [])
+          (start_none (can_start k.phase) (in_session t step.day) (not step.stopped) (ap (λ (d : Day). can_start k.phase && in_session t d) day ∙ lasts.starts t until))),
+  (said rules.halt (turned-gives turns.halt k step mine deals h s
+      ∙ (λ i. option_map_or (becoming k) (if settled.halted i then (if is_in_halt k.phase then None else Some Phase.Halted) else if waiting_now.in_halt i then Some (phase_after_halt (brakes k step)) else None) [])),
+  (said rules.pause (pause-gives k step mine deals h s
+      ∙ (λ i. option_map_or (pausing_as k) (if (waiting_now.limit i && has_lasted k.since t) || (of_none.asks i && is_trading k.phase && k.straddling) then (if in_last_10_minutes t step.day then Some Phase.Closing else Some Phase.Paused) else None) [])),
+  (said rules.reopen (reopen-gives k step mine deals h s ∙ ap (λ (b : Bool). if b then option_map_or (reopening_after k step) k.round [] else []) waiting_now.paused),
+  (said rules.leave_limit (by_kept leaving mine k step deals h s ∙ ap (λ (b : Bool). if b && not (at_band k.phase k.quote k.band) then becoming k Phase.Trading else []) waiting_now.limit),
+  (said rules.publish_band (banding-gives mean k step mine deals h s (mean-gives k step mine deals h s)
+      ∙ ap (λ (o : Option Priced). elim o [ Some r ↦ band k step r.cause r.price | None ↦ option_map_or (band_by_time k step) k.band [] ]) none
+      ∙ by_time (is_trading k.phase) refl k.band refl),
+  (said rules.enter_limit (by_kept entering mine k step deals h s
+      ∙ (λ i. if not (is_trading k.phase) then [] else if settled.low i then becoming k Phase.LimitLow else if settled.high i then becoming k Phase.LimitHigh else [])
+      ∙ quote_stays (not (is_trading k.phase)) []),
+  (said rules.straddle (straddle-gives k step mine deals h s
+      ∙ (λ i. if settled.straddles i && not k.straddling then out.Straddle k.id true ∷ [] else if k.straddling && not (settled.straddles i) then out.Straddle k.id false ∷ [] else [])
+      ∙ same_straddle k k.straddling),
+  (said rules.restrict (restrict-gives k step mine deals h s ∙ ap (λ (b : Bool). if b && not k.triggered then out.Short k.id Triggered ∷ [] else []) (of_none.triggers step.day k.terms)),
+  tt)))))))))),
+) where
+  t : ℕ
+  t = step.moment
+
+  mean : Option ℕ
+  mean = mean_of (live t (window k deals))
+
+  lasts : Lasts k q.market.day q.from q.until
+  lasts = quiets.lasts
+
+  then_step : Step
+  then_step = record { moment = q.from; day = q.market.day; stopped = q.market.stopped; input = step.input }
+
+  settled : IsSettled k then_step
+  settled = quiets.settled then_step refl refl refl
+
+  running : q.market.stopped ≡ false
+  running = settled.running
+
+  waiting_now : Waits k.phase
+  waiting_now = waiting k.phase lasts.phase
+
+  of_none : OfNone k.id step.input
+  of_none = tick_of_none k.id step.input tick
+
+  said : (rule : Context → List Message) → rule (context step.day (named mine k.id) step.input h) ≡ [] → obeyed step.day (named mine k.id) step.input rule h ≡ []
+  said rule e = ap (λ (ms : List Message). cond (is_done (phase h k.id)) [] ms) e ∙ quote_stays (is_done (phase h k.id)) []
+
+  nothing_and : (b : Bool) (ms : List Message) → (if b && false then ms else []) ≡ []
+  nothing_and true ms = refl
+  nothing_and false ms = refl
+
+  by_time : (trading : Bool) → is_trading k.phase ≡ trading → (o : Option Banded) → k.band ≡ o → option_map_or (band_by_time k step) o [] ≡ []
+  by_time trading e None is = refl
+  by_time false e (Some last) is = ap (λ (b : Bool). if b && time_changes k step last then band k step Times last.reference else []) e
+  by_time true e (Some last) is =
+      let changes : time_changes k step last ≡ false =
+      sym (ap (λ (o : Option Banded). option_map_or (time_changes k step) o false) is)
+      ∙ times_stay k step then_step day (ap (λ (d : Day). span_at t d) day ∙ lasts.span t from until e) ∙ settled.times in
+      (λ i. if is_trading k.phase && changes i then band k step Times last.reference else []) ∙ nothing_and (is_trading k.phase) (band k step Times last.reference)
+
+pub evaluated-quiet : (market : MarketView) (x : Record) (held : Held) (q : Quiet) (before : List Message) → Quiets held.kept q → is_tick x ≡ true → q.from ≤ moment_of x → moment_of x < q.until → market ≡ q.market
+    → reference held.kept (step_for market x) (mean_of (live (moment_of x) (window held.kept held.deals))) ≡ None → Evaluates market x held held before before
+evaluated-quiet market x held q before quiets tick from until same none =
+    evaluated-none market x held before tick
+    (λ mine others h p.
+    quiet_rules k held.deals q step quiets tick from until (ap (λ (m : MarketView). m.day) same) (ap (λ (m : MarketView). m.stopped) same) none mine (open_history x others h)
+    (subst (λ (ds : List Deal). Stands mine k ds step (open_history x others h)) (leaves-all k.id x held.deals of_none.cancels)
+    (subst (λ (l : Kept). Stands mine l (filter (leaves k.id x) held.deals) step (open_history x others h)) (of_none.takes k step refl refl quiets.rested)
+    (stands-opened mine step k held.deals others h (starts mine held market x others h p)))))
+  where
+    k : Kept
+    k = held.kept
+
+    step : Step
+    step = step_for market x
+
+    of_none : OfNone k.id x
+    of_none = tick_of_none k.id x tick
+
+pub none_of : {X : Type 0} (o : Option X) → is_some o ≡ false → o ≡ None
+none_of None e = refl
+none_of (Some x) e = absurd cc

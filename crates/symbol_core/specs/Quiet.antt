@@ -1,0 +1,54 @@
+-- When a clock or an index tick finds nothing to say of a symbol. Private words: no public clause cites them.
+use Rattle.std.specs.Prelude.{◌≡◌, ◌<◌, ◌≤◌, ℕ, Bool, true, false, Option, Some, None, ◌&&◌}
+use Rattle.std.specs.Option.{option_map_or}
+use Rattle.session_core.specs.declared.day.Day.{Day}
+use Rattle.session_core.specs.declared.state.Phase.{Phase}
+use Rattle.session_core.specs.declared.state.Phase.TheVariants.{Shut, Trading, LimitLow, LimitHigh}
+use Rattle.session_core.specs.Times.{in_session, is_closed}
+use Rattle.pause_core.specs.Phases.{can_start, is_trading}
+use Rattle.percent_core.specs.Percentages.{span_at}
+use Rattle.rulebook.specs.Rules.{at_band}
+use Rattle.symbol_core.specs.declared.kept.Kept.{Kept}
+use Rattle.symbol_core.specs.declared.kept.Step.{Step}
+use Rattle.symbol_core.specs.declared.quiet.Quiet.{Quiet}
+use Rattle.symbol_core.specs.Kept.{is_straddling_now}
+use Rattle.symbol_core.specs.Pricing.{time_changes}
+
+-- a phase that waits for the session or for a record
+abbrev pub waits : Phase → Bool
+waits Shut = true
+waits Trading = true
+waits p = false
+
+-- the last step left nothing for the rules of its own record
+pub record IsRested (k : Kept) : Type 0 where
+  pub left_limit : k.left_limit ≡ false
+  pub released : k.released ≡ None
+  pub deal : k.deal ≡ None
+  pub is_fresh : k.is_fresh ≡ false
+
+-- no rule would say more at that step, whatever its time brings
+pub record IsSettled (k : Kept) (step : Step) : Type 0 where
+  pub halted : k.halted ≡ false
+  pub running : step.stopped ≡ false
+  pub low : at_band LimitLow k.quote k.band ≡ false
+  pub high : at_band LimitHigh k.quote k.band ≡ false
+  pub straddles : is_straddling_now k ≡ k.straddling
+  pub times : option_map_or (time_changes k step) k.band false ≡ false
+
+-- from a moment of a day on and before another, time brings nothing
+pub record Lasts (k : Kept) (day : Day) (from until : ℕ) : Type 0 where
+  pub phase : waits k.phase ≡ true
+  pub closed : (u : ℕ) → u < until → is_closed u day ≡ false
+  pub starts : (u : ℕ) → u < until → (can_start k.phase && in_session u day) ≡ false
+  pub span : (u : ℕ) → from ≤ u → u < until → is_trading k.phase ≡ true → span_at u day ≡ span_at from day
+
+-- a tick of that market from that moment on and before the other finds nothing to say but what the mean may bring
+pub record Quiets (k : Kept) (q : Quiet) : Type 0 where
+  pub rested : IsRested k
+  pub settled : (step : Step) → step.day ≡ q.market.day → step.moment ≡ q.from → step.stopped ≡ q.market.stopped → IsSettled k step
+  pub lasts : Lasts k q.market.day q.from q.until
+
+abbrev pub IsQuiet : Option Quiet → Kept → Type 0
+IsQuiet None k = Unit {0}
+IsQuiet (Some q) k = Quiets k q
