@@ -1,5 +1,6 @@
-ghost use Rattle.std.specs.Prelude.{◌≡◌, ◌+◌, ◌≤◌, ℕ, Bool, true, false, None, List, ◌∷◌, ◌&&◌, not, IsOk, IfOk, OnOk, OnErr, is_some, length, option_to_list, vec_len, vec_capacity};
-ghost use Rattle.wire_in.specs.Records.{is_day, is_tick};
+ghost use Rattle.std.specs.Prelude.{◌≡◌, ◌+◌, ◌≤◌, ℕ, Bool, true, false, None, List, [], ◌∷◌, ◌&&◌, not, IsOk, IfOk, OnOk, OnErr, is_some, length, option_to_list, vec_len, vec_capacity};
+ghost use Rattle.wire_in.specs.Records.{is_day, is_tick, moment_of};
+ghost use Rattle.window_core.specs.Deals.{live};
 ghost use Rattle.rulebook.specs.declared.event.Event.{Event};
 ghost use Rattle.rulebook.specs.Symbol as of;
 ghost use Rattle.rulebook.specs.Symbol.{traded_price};
@@ -87,6 +88,7 @@ impl Symbol {
         requires { is_day x.now ≡ true }
         ensures begins { (own : List ℕ → Bool) (h : List Event) → Rests own self.old h → Rests own self.new (Event.Accepted x.now ∷ h) }
         ensures id { self.new.kept.id ≡ self.old.kept.id }
+        ensures none { self.new.deals ≡ [] }
     {
         let _day = is_day(x);
         let renewed = Kept::renewed(self.kept.id, self.kept.triggered);
@@ -104,7 +106,7 @@ impl Symbol {
     /// Evaluates a record: appends what it announces of the symbol and what the rules then give. It appends nothing at a
     /// Day record, which begins the day, nor at a clock or an index tick of a day on which the symbol isn't listed. Out of
     /// memory, it changes nothing; that can't come of room for 16 messages and a record that is no eligible trade of the
-    /// symbol.
+    /// symbol. Of a listed symbol, no trade that is five minutes old is kept.
     pub fn evaluate(
         &mut self,
         x: &Record,
@@ -116,6 +118,7 @@ impl Symbol {
         ensures room { vec_len out.old + 16 ≤ vec_capacity out.old → traded_price market.now.day self.old.kept.id x.now ≡ None → IsOk result }
         ensures few { vec_len out.new ≤ vec_len out.old + 16 }
         ensures capacity { vec_capacity out.old ≤ vec_capacity out.new }
+        ensures recent { is_some self.new.kept.terms ≡ true → OnOk result (live (moment_of x.now) self.new.deals ≡ self.new.deals) }
     {
         if is_day(x) {
             self.begin_day(x);
@@ -141,6 +144,7 @@ impl Symbol {
         ensures room { vec_len out.old + 16 ≤ vec_capacity out.old → traded_price market.now.day self.old.kept.id x.now ≡ None → IsOk result }
         ensures few { vec_len out.new ≤ vec_len out.old + 16 }
         ensures capacity { vec_capacity out.old ≤ vec_capacity out.new }
+        ensures recent { OnOk result (live (moment_of x.now) self.new.deals ≡ self.new.deals) }
     {
         let step = Step {
             moment: x.moment(),
@@ -165,6 +169,7 @@ fn take_step(k: &mut Kept, deals: &mut SummedDeals, step: &Step, out: &mut Vec<M
     ensures steps { Steps step.now k.old k.new deals.old.deals deals.new.deals out.old.items out.new.items }
     ensures few { vec_len out.new ≤ vec_len out.old + 15 }
     ensures capacity { vec_capacity out.old ≤ vec_capacity out.new }
+    ensures recent { step.now.moment ≡ moment_of step.now.input → live step.now.moment deals.new.deals ≡ deals.new.deals }
 {
     drop_cancelled(k.id, &step.input, deals);
     k.take(step);
