@@ -1,8 +1,11 @@
 -- A clock or an index tick at which no rule says anything of the symbol.
-use Rattle.std.proofs.Common.{◌≡◌, ℕ, ◌<◌, ◌≤◌, Bool, true, false, cond, List, [], ◌∷◌, ◌++◌, refl, sym, ap, ◌∙◌, subst}
-use Rattle.std.specs.Prelude.{Option, Some, None, if◌then◌else◌, ◌&&◌, ◌||◌, not, filter, is_some}
+use Rattle.std.proofs.Common.{arith, ◌≡◌, ℕ, ◌<◌, ◌≤◌, Bool, true, false, cond, List, [], ◌∷◌, ◌++◌, refl, sym, ap, ◌∙◌, subst}
+use Rattle.std.specs.Prelude.{Option, Some, None, if◌then◌else◌, ◌&&◌, ◌||◌, not, filter, is_some, option_and_then, option_to_list, unwrap_or}
 use Rattle.std.specs.Option.{option_map_or}
-use Rattle.price_core.specs.declared.quote.Cause.TheVariants.{Times}
+use Rattle.std.proofs.lemmas.List.{append-nil}
+use Rattle.price_core.specs.Moves.{has_moved_one_percent}
+use Rattle.price_core.specs.declared.quote.Cause.TheVariants.{First, Moved, Times}
+use Rattle.refprice_core.specs.Prices.{because, forced, has_stood, is_opening}
 use Rattle.session_core.specs.declared.day.Day.{Day}
 use Rattle.session_core.specs.declared.state.Phase.{Phase}
 use Rattle.session_core.specs.declared.state.Phase.TheVariants as Phase
@@ -31,7 +34,7 @@ use Rattle.rulebook.specs.Auction.{is_paused}
 use Rattle.rulebook.specs.Book.{Named, all_obeyed, announced, context, obeyed, symbol_rules}
 use Rattle.rulebook.specs.History.{publish}
 use Rattle.rulebook.specs.Rules as rules
-use Rattle.rulebook.specs.Rules.{Context, asks_to_pause, at_band, triggers}
+use Rattle.rulebook.specs.Rules.{Context, asks_to_pause, at_band, or_else, triggers}
 use Rattle.rulebook.specs.Symbol.{phase, terms}
 use Rattle.rulebook.specs.Symbol as of
 use Rattle.symbol_core.specs.declared.kept.Kept.{Kept}
@@ -40,8 +43,8 @@ use Rattle.symbol_core.specs.declared.quiet.Quiet.{Quiet}
 use Rattle.symbol_core.specs.declared.symbol.MarketView.{MarketView}
 use Rattle.symbol_core.specs.Evaluates.{Evaluates, Opens, open_history, part_of, step_of}
 use Rattle.symbol_core.specs.Kept.{becoming, brakes, is_straddling_now, pausing_as, reopening_after, straddling, turning}
-use Rattle.symbol_core.specs.Pricing.{band, banding, band_by_time, reference, time_changes}
-use Rattle.symbol_core.specs.Quiet.{IsRested, IsSettled, Lasts, Quiets, waits}
+use Rattle.symbol_core.specs.Pricing.{adoption, band, banding, band_by_time, later_price, offered, reference, time_changes}
+use Rattle.symbol_core.specs.Quiet.{IsRested, IsSettled, Lasts, Quiets, awaits_after, awaits_mean, SameAwaited, waits}
 use Rattle.symbol_core.specs.Rests.{Held, Rests}
 use Rattle.symbol_core.specs.Silent.{IsOfOthers}
 use Rattle.symbol_core.specs.Stands.{named, Stands}
@@ -203,37 +206,103 @@ times_stay k a b day span = by k.band where
   by None = refl
   by (Some last) = one last k.terms
 
-quiet_rules : (k : Kept) (deals : List Deal) (q : Quiet) (step : Step) → Quiets k q → is_tick step.input ≡ true → q.from ≤ step.moment → step.moment < q.until → step.day ≡ q.market.day → step.stopped ≡ q.market.stopped
-    → reference k step (mean_of (live step.moment (window k deals))) ≡ None → (mine : List ℕ → Bool) (h : List Event) → Stands mine k deals step h → NoneSaid step.day (named mine k.id) step.input h symbol_rules
-quiet_rules k deals q step quiets tick from until day stopped none mine h s = (
+-- while all kept deals are live, they are the window
+pub window_live : (k : Kept) (deals : List Deal) (t : ℕ) → IsRested k → live t deals ≡ deals → live t (window k deals) ≡ deals
+window_live k deals t r all_live =
+    ap (live t) ((λ i. (if r.is_fresh i then [] else deals) ++ (if is_some k.begun then option_to_list (r.deal i) else [])) ∙ ap (λ (ds : List Deal). deals ++ ds) (quote_stays (is_some k.begun) []) ∙ append-nil deals)
+    ∙ all_live
+
+-- the new reference price at a tick, by whether a mean would be taken
+abbrev by_mean : Bool → Option ℕ → Option Banded → Option Priced
+by_mean awaits mean None = because First (if awaits then mean else None)
+by_mean awaits mean (Some b) = because Moved (option_and_then (λ m. if has_moved_one_percent m b.reference && awaits then Some m else None) mean)
+
+offers_none : (k : Kept) (step : Step) → is_tick step.input ≡ true → offered k step ≡ None
+offers_none k step tick = by step.input tick where
+  by : (x : Record) → is_tick x ≡ true → or_else (of.opening_price step.day k.id x) (if rules.opens_on_quotes k.id x then of.close_of k.terms else None) ≡ None
+  by (in_.Clock t) e = refl
+  by (in_.IndexTick t v) e = refl
+  by (in_.Day t d c) e = absurd cc
+  by (in_.Listing t n k l c) e = absurd cc
+  by (in_.Trade t i n p q f) e = absurd cc
+  by (in_.Cancel t i n) e = absurd cc
+  by (in_.Quote t i b o y z) e = absurd cc
+  by (in_.Notice t i k) e = absurd cc
+  by (in_.Indication t i p u) e = absurd cc
+
+reference_by_mean : (k : Kept) (step : Step) (mean : Option ℕ) → IsRested k → is_tick step.input ≡ true
+    → reference k step mean ≡ (if not (is_trading k.phase) then None else by_mean (awaits_mean k step.moment) mean k.band)
+reference_by_mean k step mean r tick =
+    (λ i. if not (is_trading k.phase) then None else if r.left_limit i then forced mean else later_price k step mean k.band)
+    ∙ ap (λ (o : Option Priced). if not (is_trading k.phase) then None else o) (by k.band)
+  where
+    opening : (b : Bool) → (if b then offered k step else mean) ≡ (if not b then mean else None)
+    opening true = offers_none k step tick
+    opening false = refl
+
+    by : (o : Option Banded) → later_price k step mean o ≡ by_mean (awaits_after k step.moment o) mean o
+    by (Some b) = refl
+    by None = (λ i. because First (or_else (r.released i) (if is_opening (unwrap_or k.begun 0) step.moment then offered k step else mean))) ∙ ap (λ (o : Option ℕ). because First o) (opening (is_opening (unwrap_or k.begun 0) step.moment))
+
+-- so a tick at which a mean is awaited as before finds the price as before
+pub reference_stays : (k : Kept) (a b : Step) (mean : Option ℕ) → IsRested k → is_tick a.input ≡ true → is_tick b.input ≡ true → awaits_mean k b.moment ≡ awaits_mean k a.moment → reference k a mean ≡ None → reference k b mean ≡ None
+reference_stays k a b mean r one two same none =
+    reference_by_mean k b mean r two ∙ ap (λ (awaits : Bool). if not (is_trading k.phase) then None else by_mean awaits mean k.band) same ∙ sym (reference_by_mean k a mean r one) ∙ none
+
+quiet_rules : (k : Kept) (deals : List Deal) (q : Quiet) (step : Step) → Quiets k deals q → is_tick step.input ≡ true → q.from ≤ step.moment → step.moment < q.until → step.day ≡ q.market.day → step.stopped ≡ q.market.stopped
+    → live step.moment deals ≡ deals → (mine : List ℕ → Bool) (h : List Event) → Stands mine k deals step h → NoneSaid step.day (named mine k.id) step.input h symbol_rules
+quiet_rules k deals q step quiets tick from until day stopped all_live mine h s = (
   said rules.close (turned-gives turns.close k step mine deals h s ∙ ap (λ (b : Bool). option_map_or (becoming k) (if b then Some Phase.Closed else None) []) (ap (λ (d : Day). is_closed t d) day ∙ lasts.closed t until)),
-  (said rules.stop (turned-gives turns.stop k step mine deals h s ∙ ap (λ (b : Bool). option_map_or (becoming k) (if b && can_stop k.phase then Some Phase.Stopped else None) []) (stopped ∙ running)),
-  (said rules.start (turned-gives turns.start k step mine deals h s
-      ∙ ap (λ (b : Bool). option_map_or (becoming k) (if b then Some Phase.Trading else None) [])
+  (
+    said rules.stop (turned-gives turns.stop k step mine deals h s ∙ ap (λ (b : Bool). option_map_or (becoming k) (if b && can_stop k.phase then Some Phase.Stopped else None) []) (stopped ∙ running)),
+    (
+      said rules.start (turned-gives turns.start k step mine deals h s
+          ∙ ap (λ (b : Bool). option_map_or (becoming k) (if b then Some Phase.Trading else None) [])
           (start_none (can_start k.phase) (in_session t step.day) (not step.stopped) (ap (λ (d : Day). can_start k.phase && in_session t d) day ∙ lasts.starts t until))),
-  (said rules.halt (turned-gives turns.halt k step mine deals h s
-      ∙ (λ i. option_map_or (becoming k) (if settled.halted i then (if is_in_halt k.phase then None else Some Phase.Halted) else if waiting_now.in_halt i then Some (phase_after_halt (brakes k step)) else None) [])),
-  (said rules.pause (pause-gives k step mine deals h s
-      ∙ (λ i. option_map_or (pausing_as k) (if (waiting_now.limit i && has_lasted k.since t) || (of_none.asks i && is_trading k.phase && k.straddling) then (if in_last_10_minutes t step.day then Some Phase.Closing else Some Phase.Paused) else None) [])),
-  (said rules.reopen (reopen-gives k step mine deals h s ∙ ap (λ (b : Bool). if b then option_map_or (reopening_after k step) k.round [] else []) waiting_now.paused),
-  (said rules.leave_limit (by_kept leaving mine k step deals h s ∙ ap (λ (b : Bool). if b && not (at_band k.phase k.quote k.band) then becoming k Phase.Trading else []) waiting_now.limit),
-  (said rules.publish_band (banding-gives mean k step mine deals h s (mean-gives k step mine deals h s)
-      ∙ ap (λ (o : Option Priced). elim o [ Some r ↦ band k step r.cause r.price | None ↦ option_map_or (band_by_time k step) k.band [] ]) none
-      ∙ by_time (is_trading k.phase) refl k.band refl),
-  (said rules.enter_limit (by_kept entering mine k step deals h s
-      ∙ (λ i. if not (is_trading k.phase) then [] else if settled.low i then becoming k Phase.LimitLow else if settled.high i then becoming k Phase.LimitHigh else [])
-      ∙ quote_stays (not (is_trading k.phase)) []),
-  (said rules.straddle (straddle-gives k step mine deals h s
-      ∙ (λ i. if settled.straddles i && not k.straddling then out.Straddle k.id true ∷ [] else if k.straddling && not (settled.straddles i) then out.Straddle k.id false ∷ [] else [])
-      ∙ same_straddle k k.straddling),
-  (said rules.restrict (restrict-gives k step mine deals h s ∙ ap (λ (b : Bool). if b && not k.triggered then out.Short k.id Triggered ∷ [] else []) (of_none.triggers step.day k.terms)),
-  tt)))))))))),
+      (
+        said rules.halt (turned-gives turns.halt k step mine deals h s
+            ∙ (λ i. option_map_or (becoming k) (if settled.halted i then (if is_in_halt k.phase then None else Some Phase.Halted) else if waiting_now.in_halt i then Some (phase_after_halt (brakes k step)) else None) [])),
+        (
+          said rules.pause (pause-gives k step mine deals h s
+              ∙ (λ i. option_map_or (pausing_as k) (if (waiting_now.limit i && has_lasted k.since t) || (of_none.asks i && is_trading k.phase && k.straddling) then (if in_last_10_minutes t step.day then Some Phase.Closing else Some Phase.Paused) else None) [])),
+          (
+            said rules.reopen (reopen-gives k step mine deals h s ∙ ap (λ (b : Bool). if b then option_map_or (reopening_after k step) k.round [] else []) waiting_now.paused),
+            (
+              said rules.leave_limit (by_kept leaving mine k step deals h s ∙ ap (λ (b : Bool). if b && not (at_band k.phase k.quote k.band) then becoming k Phase.Trading else []) waiting_now.limit),
+              (
+                said rules.publish_band (banding-gives mean k step mine deals h s (mean-gives k step mine deals h s)
+                    ∙ ap (λ (o : Option Priced). elim o [ Some r ↦ band k step r.cause r.price | None ↦ option_map_or (band_by_time k step) k.band [] ]) none
+                    ∙ by_time (is_trading k.phase) refl k.band refl),
+                (
+                  said rules.enter_limit (by_kept entering mine k step deals h s
+                      ∙ (λ i. if not (is_trading k.phase) then [] else if settled.low i then becoming k Phase.LimitLow else if settled.high i then becoming k Phase.LimitHigh else [])
+                      ∙ quote_stays (not (is_trading k.phase)) []),
+                  (
+                    said rules.straddle (straddle-gives k step mine deals h s
+                        ∙ (λ i. if settled.straddles i && not k.straddling then out.Straddle k.id true ∷ [] else if k.straddling && not (settled.straddles i) then out.Straddle k.id false ∷ [] else [])
+                        ∙ same_straddle k k.straddling),
+                    (
+                      said rules.restrict (restrict-gives k step mine deals h s ∙ ap (λ (b : Bool). if b && not k.triggered then out.Short k.id Triggered ∷ [] else []) (of_none.triggers step.day k.terms)),
+                      tt,
+                    ),
+                  ),
+                ),
+              ),
+            ),
+          ),
+        ),
+      ),
+    ),
+  ),
 ) where
   t : ℕ
   t = step.moment
 
   mean : Option ℕ
   mean = mean_of (live t (window k deals))
+
+  none : reference k step mean ≡ None
+  none = ap (λ (ds : List Deal). reference k step (mean_of ds)) (window_live k deals t quiets.rested all_live) ∙ quiets.priced step tick from until
 
   lasts : Lasts k q.market.day q.from q.until
   lasts = quiets.lasts
@@ -269,12 +338,12 @@ quiet_rules k deals q step quiets tick from until day stopped none mine h s = (
       ∙ times_stay k step then_step day (ap (λ (d : Day). span_at t d) day ∙ lasts.span t from until e) ∙ settled.times in
       (λ i. if is_trading k.phase && changes i then band k step Times last.reference else []) ∙ nothing_and (is_trading k.phase) (band k step Times last.reference)
 
-pub evaluated-quiet : (market : MarketView) (x : Record) (held : Held) (q : Quiet) (before : List Message) → Quiets held.kept q → is_tick x ≡ true → q.from ≤ moment_of x → moment_of x < q.until → market ≡ q.market
-    → reference held.kept (step_for market x) (mean_of (live (moment_of x) (window held.kept held.deals))) ≡ None → Evaluates market x held held before before
-evaluated-quiet market x held q before quiets tick from until same none =
+pub evaluated-quiet : (market : MarketView) (x : Record) (held : Held) (q : Quiet) (before : List Message) → Quiets held.kept held.deals q → is_tick x ≡ true → q.from ≤ moment_of x → moment_of x < q.until → market ≡ q.market
+    → live (moment_of x) held.deals ≡ held.deals → Evaluates market x held held before before
+evaluated-quiet market x held q before quiets tick from until same all_live =
     evaluated-none market x held before tick
     (λ mine others h p.
-    quiet_rules k held.deals q step quiets tick from until (ap (λ (m : MarketView). m.day) same) (ap (λ (m : MarketView). m.stopped) same) none mine (open_history x others h)
+    quiet_rules k held.deals q step quiets tick from until (ap (λ (m : MarketView). m.day) same) (ap (λ (m : MarketView). m.stopped) same) all_live mine (open_history x others h)
     (subst (λ (ds : List Deal). Stands mine k ds step (open_history x others h)) (leaves-all k.id x held.deals of_none.cancels)
     (subst (λ (l : Kept). Stands mine l (filter (leaves k.id x) held.deals) step (open_history x others h)) (of_none.takes k step refl refl quiets.rested)
     (stands-opened mine step k held.deals others h (starts mine held market x others h p)))))
@@ -288,6 +357,26 @@ evaluated-quiet market x held q before quiets tick from until same none =
     of_none : OfNone k.id x
     of_none = tick_of_none k.id x tick
 
-pub none_of : {X : Type 0} (o : Option X) → is_some o ≡ false → o ≡ None
-none_of None e = refl
-none_of (Some x) e = absurd cc
+-- what is quiet after a tick's step
+pub quiets : (k : Kept) (deals : List Deal) (step : Step) (lasts awaited until : ℕ) → is_tick step.input ≡ true → IsRested k → IsSettled k step → reference k step (mean_of deals) ≡ None → Lasts k step.day step.moment lasts
+    → ((u : ℕ) → step.moment ≤ u → u < awaited → SameAwaited k step.moment u) → until ≤ lasts → until ≤ awaited
+    → Quiets k deals (record { from = step.moment; until = until; market = record { day = step.day; stopped = step.stopped } })
+quiets k deals step lasts awaited until tick r s none l same within before =
+    record {
+      rested = r;
+      settled = λ now day moment stopped. record {
+        halted = s.halted;
+        running = stopped ∙ s.running;
+        low = s.low;
+        high = s.high;
+        straddles = s.straddles;
+        times = times_stay k now step day (λ i. span_at (moment i) (day i)) ∙ s.times;
+      };
+      lasts = record {
+        phase = l.phase;
+        closed = λ u lt. l.closed u (omega arith);
+        starts = λ u lt. l.starts u (omega arith);
+        span = λ u le lt trading. l.span u le (omega arith) trading;
+      };
+      priced = λ now ticks from lt. reference_stays k step now (mean_of deals) r tick ticks (same now.moment from (omega arith)) none;
+    }

@@ -53,7 +53,8 @@ impl Kept {
         }
     }
 
-    fn begun_at(&self) -> Moment
+    /// The moment at which the run began, midnight outside a run.
+    pub fn begun_at(&self) -> Moment
         ensures { result ≡ unwrap_or self.now.begun 0 }
     {
         match self.begun {
@@ -100,13 +101,20 @@ impl Kept {
         }
     }
 
+    /// The run's last adoption of a reference price, that of these bands.
+    pub fn adoption(&self, b: &Banded) -> Adoption
+        ensures { result ≡ pricing.adoption self.now b.now }
+    {
+        Adoption {
+            moment: self.adopted,
+            price: b.reference,
+        }
+    }
+
     fn moved_price(&self, step: &Step, deals: &SummedDeals, b: &Banded) -> Option<Price>
         ensures { result ≡ prices.moved_price (pricing.adoption self.now b.now) step.now.moment (mean_of (live step.now.moment (window self.now deals.now.deals))) }
     {
-        let adoption = Adoption {
-            moment: self.adopted,
-            price: b.reference,
-        };
+        let adoption = self.adoption(b);
         if adoption.has_stood(step.moment) {
             adoption.moved_price(step.moment, self.mean(step.moment, deals))
         } else {

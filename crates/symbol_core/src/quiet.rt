@@ -1,18 +1,21 @@
 // Clocks and index ticks at which no rule has anything to say of a symbol.
-ghost use Rattle.std.specs.Prelude.{◌≡◌, ◌<◌, ◌≤◌, ◌&&◌, ℕ, true, false, IfSome};
+ghost use Rattle.std.specs.Prelude.{◌≡◌, ◌<◌, ◌≤◌, ◌&&◌, ℕ, true, false, IfSome, None};
 ghost use Rattle.std.specs.Option.{option_map_or};
 ghost use Rattle.session_core.specs.Times.{is_closed};
 ghost use Rattle.percent_core.specs.Percentages.{span_at};
-ghost use Rattle.symbol_core.specs.Pricing.{time_changes};
-ghost use Rattle.symbol_core.specs.Quiet.{IsQuiet, IsRested, IsSettled, Lasts};
+ghost use Rattle.window_core.specs.Deals.{mean_of};
+ghost use Rattle.symbol_core.specs.Pricing.{reference, time_changes};
+ghost use Rattle.symbol_core.specs.Quiet.{IsQuiet, IsRested, IsSettled, Lasts, SameAwaited};
 
 use crate::kept::{Kept, Step};
 use crate::records::is_tick;
 use crate::symbol::MarketView;
 use crate::turns::at_band;
+use refprice_core::is_opening;
 use session_core::{Day, Moment, Phase, close_moment};
+use window_core::SummedDeals;
 
-/// Until when ticks of one market bring nothing but a new mean.
+/// From when on and until when ticks of one market bring nothing, while no kept deal is five minutes old.
 #[derive(Clone, Copy, Debug)]
 pub struct Quiet {
     pub from: Moment,
@@ -29,6 +32,12 @@ const AFTER_FIRST_15: u64 = 35_100_000_000_000;
 
 /// 25 minutes, in nanoseconds.
 const LAST_25: u64 = 1_500_000_000_000;
+
+/// In nanoseconds.
+const THIRTY_SECONDS: u64 = 30_000_000_000;
+
+/// In nanoseconds.
+const FIVE_MINUTES: u64 = 300_000_000_000;
 
 /// The close, or before it the next moment at which the percentages change, in nanoseconds of the day.
 fn next_change(t: Moment, day: &Day) -> u64
@@ -59,9 +68,7 @@ impl Quiet {
         ensures until { result ≡ true → t < self.now.until }
         ensures market { result ≡ true → market.now ≡ self.now.market }
     {
-        self.from.nanos() <= t.nanos()
-            && t.nanos() < self.until
-            && is_same(market, &self.market)
+        self.from.nanos() <= t.nanos() && t.nanos() < self.until && is_same(market, &self.market)
     }
 }
 
@@ -103,18 +110,42 @@ impl Kept {
         }
     }
 
-    /// The ticks after a tick's step that bring nothing but a new mean, where there may be such. After a step of the symbol's
-    /// own record the next tick is evaluated in any case.
-    pub fn quiet(&self, step: &Step) -> Option<Quiet>
-        ensures { IsQuiet result self.now }
+    /// Until when no mean is awaited that wasn't, in nanoseconds of the day: the mean is taken from five minutes after the
+    /// begin of a run on, and 30 seconds after the last reference price (LULD Plan, Section V).
+    fn awaits_mean_until(&self, t: Moment) -> u64
+        ensures { (u : ℕ) → t ≤ u → u < result → SameAwaited self.now t u }
     {
-        if !is_tick(&step.input) || !self.is_rested() || !self.is_settled(step) {
+        match self.band {
+            Some(last) if self.adoption(&last).has_stood(t) => u64::MAX,
+            Some(_) => self.adopted.nanos() + THIRTY_SECONDS,
+            None if is_opening(self.begun_at(), t) => self.begun_at().nanos() + FIVE_MINUTES,
+            None => u64::MAX,
+        }
+    }
+
+    /// Whether there is no new reference price, and the mean is that of all kept deals.
+    fn is_priced(&self, step: &Step, deals: &SummedDeals) -> bool
+        ensures { result ≡ true → IsRested self.now → reference self.now step.now (mean_of deals.now.deals) ≡ None }
+    {
+        deals.are_live(step.moment) && self.reference(step, deals).is_none()
+    }
+
+    /// The ticks after a tick's step that bring nothing while the kept deals are live, where there may be such. After a step
+    /// of the symbol's own record the next tick is evaluated in any case.
+    pub fn quiet(&self, step: &Step, deals: &SummedDeals) -> Option<Quiet>
+        ensures { IsQuiet result self.now deals.now.deals }
+    {
+        if !is_tick(&step.input)
+            || !self.is_rested()
+            || !self.is_settled(step)
+            || !self.is_priced(step, deals)
+        {
             return None;
         }
         match self.lasts_until(step) {
             Some(until) => Some(Quiet {
                 from: step.moment,
-                until,
+                until: until.min(self.awaits_mean_until(step.moment)),
                 market: MarketView {
                     day: step.day,
                     stopped: step.stopped,

@@ -1,5 +1,6 @@
-ghost use Rattle.std.specs.Prelude.{◌≡◌, ◌+◌, ◌≤◌, ℕ, Bool, true, false, None, List, ◌∷◌, ◌&&◌, not, IsOk, IfOk, OnOk, OnErr, is_some, length, option_to_list, vec_len, vec_capacity};
+ghost use Rattle.std.specs.Prelude.{◌≡◌, ◌+◌, ◌≤◌, ℕ, Bool, true, false, None, List, [], ◌∷◌, ◌&&◌, not, IsOk, IfOk, OnOk, OnErr, is_some, length, option_to_list, vec_len, vec_capacity};
 ghost use Rattle.wire_in.specs.Records.{is_day, is_tick, moment_of};
+ghost use Rattle.window_core.specs.Deals.{live};
 ghost use Rattle.wire_out.specs.declared.message.Message.{Message as Said};
 ghost use Rattle.rulebook.specs.declared.event.Event.{Event};
 ghost use Rattle.rulebook.specs.Symbol as of;
@@ -43,7 +44,7 @@ impl Model for Symbol {
 
     ghost view = { λ s. record { kept = s.kept; deals = s.deals.deals } };
 
-    ghost invariant = { λ s. IsQuiet s.quiet s.kept };
+    ghost invariant = { λ s. IsQuiet s.quiet s.kept s.deals.deals };
 }
 
 /// The step of a record.
@@ -107,6 +108,7 @@ impl Symbol {
         requires { is_day x.now ≡ true }
         ensures begins { (own : List ℕ → Bool) (h : List Event) → Rests own self.old h → Rests own self.new (Event.Accepted x.now ∷ h) }
         ensures id { self.new.kept.id ≡ self.old.kept.id }
+        ensures none { self.new.deals ≡ [] }
     {
         let _day = is_day(x);
         let renewed = Kept::renewed(self.kept.id, self.kept.triggered);
@@ -122,29 +124,28 @@ impl Symbol {
         is_tick(x) && !self.kept.terms.is_some()
     }
 
-    /// Whether the record is a clock or an index tick that brings nothing: the symbol is closed, or quiet with no new mean.
+    /// Whether the record is a clock or an index tick that brings nothing: the symbol is closed or quiet, and each of its
+    /// trades is less than five minutes old.
     fn is_unmoved(&self, x: &Record, market: &MarketView) -> bool
-        ensures { result ≡ true → (before : List Said) → Evaluates market.now x.now self.now self.now before before }
+        ensures nothing { result ≡ true → (before : List Said) → Evaluates market.now x.now self.now self.now before before }
+        ensures recent { result ≡ true → live (moment_of x.now) self.now.deals ≡ self.now.deals }
     {
-        if !is_tick(x) {
+        if !is_tick(x) || !self.deals.are_live(x.moment()) {
             return false;
         }
         if is_done(self.kept.phase) {
             return true;
         }
         match &self.quiet {
-            Some(quiet) if quiet.holds(x.moment(), market) => {
-                let step = step_of(x, market);
-                self.kept.reference(&step, &self.deals).is_none()
-            }
-            _ => false,
+            Some(quiet) => quiet.holds(x.moment(), market),
+            None => false,
         }
     }
 
     /// Evaluates a record: appends what it announces of the symbol and what the rules then give. It appends nothing at a
     /// Day record, which begins the day, nor at a clock or an index tick of a day on which the symbol isn't listed. Out of
     /// memory, it changes nothing; that can't come of room for 16 messages and a record that is no eligible trade of the
-    /// symbol.
+    /// symbol. Of a listed symbol, no trade that is five minutes old is kept.
     pub fn evaluate(
         &mut self,
         x: &Record,
@@ -156,6 +157,7 @@ impl Symbol {
         ensures room { vec_len out.old + 16 ≤ vec_capacity out.old → traded_price market.now.day self.old.kept.id x.now ≡ None → IsOk result }
         ensures few { vec_len out.new ≤ vec_len out.old + 16 }
         ensures capacity { vec_capacity out.old ≤ vec_capacity out.new }
+        ensures recent { is_some self.new.kept.terms ≡ true → OnOk result (live (moment_of x.now) self.new.deals ≡ self.new.deals) }
     {
         if is_day(x) {
             self.begin_day(x);
@@ -184,6 +186,7 @@ impl Symbol {
         ensures room { vec_len out.old + 16 ≤ vec_capacity out.old → traded_price market.now.day self.old.kept.id x.now ≡ None → IsOk result }
         ensures few { vec_len out.new ≤ vec_len out.old + 16 }
         ensures capacity { vec_capacity out.old ≤ vec_capacity out.new }
+        ensures recent { OnOk result (live (moment_of x.now) self.new.deals ≡ self.new.deals) }
     {
         let step = step_of(x, market);
         match out.reserve(16) {
@@ -192,7 +195,7 @@ impl Symbol {
         }
         self.deals.reserve(room_needed(self.kept.id, &step))?;
         take_step(&mut self.kept, &mut self.deals, &step, out);
-        self.quiet = self.kept.quiet(&step);
+        self.quiet = self.kept.quiet(&step, &self.deals);
         Ok(())
     }
 }
@@ -204,6 +207,7 @@ fn take_step(k: &mut Kept, deals: &mut SummedDeals, step: &Step, out: &mut Vec<M
     ensures steps { Steps step.now k.old k.new deals.old.deals deals.new.deals out.old.items out.new.items }
     ensures few { vec_len out.new ≤ vec_len out.old + 15 }
     ensures capacity { vec_capacity out.old ≤ vec_capacity out.new }
+    ensures recent { step.now.moment ≡ moment_of step.now.input → live step.now.moment deals.new.deals ≡ deals.new.deals }
 {
     drop_cancelled(k.id, &step.input, deals);
     k.take(step);

@@ -1,5 +1,6 @@
 // Taking a record in, and what is kept at the end of a step.
 ghost use Rattle.std.specs.Prelude.{◌≡◌, ◌≤◌, ◌++◌, [], is_some, if◌then◌else◌, filter, length, option_to_list};
+ghost use Rattle.window_core.specs.Deals.{live};
 ghost use Rattle.symbol_core.specs.Taken.{finished, leaves, renewed, taken};
 ghost use Rattle.symbol_core.specs.Window.{SameLive};
 
@@ -97,7 +98,8 @@ fn add_deal(k: &Kept, deal: &Option<Deal>, deals: &mut SummedDeals)
 /// The deals of the window that are less than five minutes old become the kept ones.
 pub fn keep_deals(k: &Kept, t: Moment, deal: &Option<Deal>, deals: &mut SummedDeals)
     requires { length (option_to_list deal.now) ≤ deals.old.spare }
-    ensures { SameLive t deals.new.deals ((if k.now.is_fresh then [] else deals.old.deals) ++ (if is_some k.now.begun then option_to_list deal.now else [])) }
+    ensures same { SameLive t deals.new.deals ((if k.now.is_fresh then [] else deals.old.deals) ++ (if is_some k.now.begun then option_to_list deal.now else [])) }
+    ensures recent { live t (option_to_list deal.now) ≡ option_to_list deal.now → live t deals.new.deals ≡ deals.new.deals }
 {
     begin_window(k, deals);
     deals.keep_live(t);

@@ -135,8 +135,9 @@ impl SummedDeals {
         push_deal(d, &mut self.items);
     }
 
-    /// Whether each deal is known to be less than five minutes old: the earliest of them is.
-    fn are_live(&self, t: Moment) -> bool
+    /// Whether each deal is known to be less than five minutes old: none is before a moment that is. It takes one
+    /// comparison, however many deals there are.
+    pub fn are_live(&self, t: Moment) -> bool
         ensures { result ≡ true → live t self.now.deals ≡ self.now.deals }
     {
         t.nanos() < self.earliest.nanos() + 300_000_000_000
