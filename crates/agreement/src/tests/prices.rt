@@ -34,6 +34,26 @@ fn a_mean_that_moved_by_less_than_one_per_cent_changes_nothing(
     expect_opened(&rt, &[trade(before(t), 2, 509_998, 0), clock(t)], &[])
 }
 
+#[test]
+fn a_mean_moves_when_a_trade_becomes_five_minutes_old(rt: HostRuntime) -> Result<(), Fail> {
+    let first = at(9, 31, 0);
+    let t = at(9, 35, 0);
+    expect_opened(
+        &rt,
+        &[
+            trade(first, 2, 520_000, 0),
+            clock(at(9, 31, 30)),
+            clock(at(9, 32, 0)),
+            clock(before(t)),
+            clock(t),
+        ],
+        &[
+            band(first, Cause::Moved, 510_000, 484_500, 535_500),
+            band(t, Cause::Moved, 520_000, 494_000, 546_000),
+        ],
+    )
+}
+
 /// After two trades that open nothing these records give these messages.
 fn expect_two_trades<R: Abort + AllocGlobal>(
     rt: &R,
