@@ -4,3 +4,4 @@ pub mod Steps
 pub mod Room
 pub mod Frames
 pub mod Pieces
+pub mod Taken

@@ -1,10 +1,9 @@
 -- A record that is admissible next finds room under the limit.
-use Rattle.std.proofs.Common.{◌≡◌, ℕ, ◌<◌, Bool, true, false, cond, Option, Some, None, not, refl, arith, is_none}
-use Rattle.std.specs.Prelude.{◌&&◌, nat_le}
+use Rattle.std.proofs.Common.{◌≡◌, ℕ, ◌<◌, Bool, true, false, cond, Option, Some, None, refl, arith}
+use Rattle.std.specs.Prelude.{nat_le}
 use Rattle.std.proofs.lemmas.Bool.Decides.{nat_tests}
 use Rattle.wire_in.specs.declared.record.Record.{Record}
 use Rattle.wire_in.specs.declared.record.Refusal.{Refusal}
-use Rattle.wire_in.specs.Records.{is_day}
 use Rattle.market_core.specs.Admitted.{Admitted, refusal_of, is_before_day, is_out_of_order, names_unlisted, lists_twice, lacks_room}
 
 -- a refusal that doesn't apply leaves the others to be tried

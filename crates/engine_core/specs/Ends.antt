@@ -1,5 +1,5 @@
--- How a session ends over an input.
-use Rattle.std.specs.Prelude.{ℕ, ◌==◌, nat_le, if◌then◌else◌, List, length}
+-- How a session ends over an input, and how much of it was read.
+use Rattle.std.specs.Prelude.{◌≡◌, ℕ, ◌≤◌, ◌==◌, nat_le, if◌then◌else◌, List, length, drop, Option, option_map}
 use Rattle.host_core.specs.declared.status.Status.{Status}
 use Rattle.host_core.specs.declared.status.Status.TheVariants.{Done, Truncated, SessionFull}
 use Rattle.wire_in.specs.Cutting.{rest_of}
@@ -18,3 +18,9 @@ IsEnd Done = Unit {0}
 IsEnd Truncated = Unit {0}
 IsEnd SessionFull = Unit {0}
 IsEnd _ = ⊥
+
+-- at most so many bytes were taken from the front of the input
+pub record ReadsAtMost (most : ℕ) (old new : Option (List ℕ)) : Type 0 where
+  pub count : ℕ
+  pub within : count ≤ most
+  pub left : new ≡ option_map (λ input. drop count input) old

@@ -60,7 +60,8 @@ impl Engine {
         })
     }
 
-    /// Accepts a record that is admissible next: it is admitted and applied, and its messages are kept.
+    /// Accepts a record that is admissible next: it is admitted and applied, and its messages are kept. After an error the
+    /// engine is of no further use.
     pub fn accept(&mut self, x: &Record) -> Result<(), NoMemory>
         requires admissible { refusal_of self.old.admission x.now ≡ None }
         requires room { self.old.published + 262146 < 2 ^ 64 }

@@ -44,7 +44,7 @@ impl Outbox {
         })
     }
 
-    /// Sends all that waits.
+    /// Sends all that waits. After an error the outbox is of no further use.
     pub fn flush<H: Host>(&mut self, host: &mut H) -> Result<(), Failed>
         ensures sent { (begin : Option (List ℕ)) (text : List ℕ) → Owes begin (H.outside host.old).sent self.old text
             → OnOk result ((H.outside host.new).sent ≡ append_known begin text) }
@@ -89,7 +89,8 @@ impl Outbox {
         self.bytes.extend_from_slice(&cell[..len]).unwrap();
     }
 
-    /// Puts a frame behind those that wait, and sends these first where there is no room.
+    /// Puts a frame behind those that wait, and sends these first where there is no room. After an error the outbox is of
+    /// no further use.
     pub fn put<H: Host>(&mut self, host: &mut H, frame: &Frame) -> Result<(), Failed>
         ensures owes { (begin : Option (List ℕ)) (text : List ℕ) → Owes begin (H.outside host.old).sent self.old text
             → OnOk result (Owes begin (H.outside host.new).sent self.new (text ++ spelling frame.now)) }

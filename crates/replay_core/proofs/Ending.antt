@@ -13,8 +13,8 @@ use Rattle.replay_core.specs.declared.input.Stop.TheVariants as stop
 use Rattle.replay_core.specs.Stops.{status_of}
 use Rattle.engine_core.specs.Ends.{IsEnd, end_of}
 use Rattle.replay_core.specs.Ends.{Answered, IsAnswer}
-use Rattle.engine_core.specs.Owed.{Owes, SentPart, OnlySends}
-use Rattle.replay_core.specs.Text.{record_limit, replay_text}
+use Rattle.engine_core.specs.Owed.{Owes, SentPart}
+use Rattle.replay_core.specs.Text.{replay_text}
 use Rattle.replay_core.specs.Kept.{Follows, Serves}
 use Rattle.replay_core.specs.declared.session.Session.{Session}
 use Rattle.host_core.proofs.Told.{append_known-nil}

@@ -1,11 +1,19 @@
 -- A piece that is taken bit by bit.
-use Rattle.std.proofs.Common.{◌≡◌, ℕ, ◌+◌, List, ◌++◌, take, subst}
+use Rattle.std.proofs.Common.{ℕ, ◌+◌, List, [], ◌++◌, take, sym, subst}
 use Rattle.std.specs.Prelude.{Option}
+use Rattle.std.proofs.lemmas.List.{append-nil}
 use Rattle.replay_core.specs.declared.session.Session.{Session}
 use Rattle.replay_core.specs.Kept.{Follows}
 use Rattle.engine_core.specs.Owed.{Owes, SentPart}
 use Rattle.engine_core.proofs.Pieces.{behind, bit, all_bits}
 use Rattle.replay_core.specs.Text.{replay_text}
+
+-- before the first bit
+pub owes_from : (begin now : Option (List ℕ)) (waiting : List ℕ) (read : List ℕ) → Owes begin now waiting (replay_text read) → Owes begin now waiting (replay_text (read ++ []))
+owes_from begin now waiting read = subst (λ bytes. Owes begin now waiting (replay_text bytes)) (sym (append-nil read))
+
+pub follows_from : (session : Session) (read : List ℕ) → Follows session read → Follows session (read ++ [])
+follows_from session read = subst (λ bytes. Follows session bytes) (sym (append-nil read))
 
 pub owes_bit : (begin now : Option (List ℕ)) (waiting : List ℕ) (read piece : List ℕ) (at n : ℕ)
     → Owes begin now waiting (replay_text ((read ++ take at piece) ++ take n (behind at piece))) → Owes begin now waiting (replay_text (read ++ take (at + n) piece))

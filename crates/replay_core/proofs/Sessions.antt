@@ -1,15 +1,12 @@
 -- What a session sends for more bytes.
-use Rattle.std.proofs.Common.{◌≡◌, ℕ, ◌+◌, List, [], ◌∷◌, ◌++◌, length, cond, sym, ap, subst, ◌∙◌, append_assoc, true≢false, length-append, arith}
+use Rattle.std.proofs.Common.{◌≡◌, ℕ, ◌+◌, List, [], ◌∷◌, ◌++◌, length, sym, ap, subst, ◌∙◌, append_assoc, length-append, arith}
 use Rattle.std.specs.Prelude.{Option, Bool, true, false, not, drop, take}
-use Rattle.std.proofs.lemmas.Bool.{false≢true}
 use Rattle.std.proofs.lemmas.List.{append-nil, take-append-drop}
 use Rattle.wire_core.specs.Frames.{framed}
 use Rattle.wire_in.specs.declared.record.Record.{Record}
 use Rattle.wire_in.specs.Cutting.{bodies_of, rest_of, is_frame, pending, GoesOn}
 use Rattle.wire_in.proofs.Cuts.{bodies_of-append}
 use Rattle.wire_out.specs.declared.message.Frame.{Frame}
-use Rattle.wire_out.specs.declared.message.Frame.TheVariants.{Hello}
-use Rattle.wire_out.specs.Spelling.{spelling}
 use Rattle.rulebook.specs.Sent.{replayed_frames, unacknowledged, spelled, numbered, replies, reply, accepted, judged, with_record, accepted_of}
 use Rattle.rulebook.specs.Book.{messages_of, newest_messages}
 use Rattle.wire_out.specs.declared.message.Stamped.{Stamped}
@@ -46,12 +43,17 @@ pub text_one : (read more body : List ℕ) → bodies_of (read ++ more) ≡ bodi
 text_one read more body e =
     text_more read more (body ∷ []) e ∙ ap (λ frames. replay_text read ++ spelled (unacknowledged frames)) (append-nil (reply (length (bodies_of read) + 1) (held_after read) (judged record_limit (held_after read) body)))
 
+-- what is sent for the frames that more bytes end
+abbrev pub further_text : List ℕ → List ℕ → List ℕ
+further_text read more = spelled (unacknowledged (replies record_limit (length (bodies_of read) + 1) (held_after read) (bodies_of (rest_of read ++ more))))
+
+pub text_further : (read more : List ℕ) → replay_text read ++ further_text read more ≡ replay_text (read ++ more)
+text_further read more = sym (text_more read more (bodies_of (rest_of read ++ more)) (bodies_of-append read more))
+
 -- what was sent for the bytes read is a front of what is sent for more
 pub text_longer : (read more : List ℕ) (begin now : Option (List ℕ)) → SentPart begin now (replay_text read) → SentPart begin now (replay_text (read ++ more))
 text_longer read more begin now part =
-    let bodies = bodies_of (rest_of read ++ more) in
-    let further = spelled (unacknowledged (replies record_limit (length (bodies_of read) + 1) (held_after read) bodies)) in
-    subst (λ t. SentPart begin now t) (sym (text_more read more bodies (bodies_of-append read more))) (part_before begin now (replay_text read) further part)
+    subst (λ t. SentPart begin now t) (text_further read more) (part_before begin now (replay_text read) (further_text read more) part)
 
 pub held_one : (read more body : List ℕ) → bodies_of (read ++ more) ≡ bodies_of read ++ body ∷ []
     → with_record (held_after read) (judged record_limit (held_after read) body) ≡ held_after (read ++ more)
@@ -65,7 +67,7 @@ owes_no_frame read taken held whole on is none begin now waiting owes =
     subst (λ t. Owes begin now waiting t) (sym (text_none read taken (no_frame read taken held whole on is none))) owes
 
 -- the text after one frame, with the place that the code counts
-text_at : (read taken held body : List ℕ) (whole : Bool) (place : ℕ) → GoesOn read taken held → whole ≡ is_frame held → not whole ≡ false → framed body ≡ held → place ≡ length (bodies_of read)
+pub text_at : (read taken held body : List ℕ) (whole : Bool) (place : ℕ) → GoesOn read taken held → whole ≡ is_frame held → not whole ≡ false → framed body ≡ held → place ≡ length (bodies_of read)
     → replay_text read ++ spelled (unacknowledged (reply (place + 1) (held_after read) (judged record_limit (held_after read) body))) ≡ replay_text (read ++ taken)
 text_at read taken held body whole place on is none body_is at =
     ap (λ (p : ℕ). replay_text read ++ spelled (unacknowledged (reply (p + 1) (held_after read) (judged record_limit (held_after read) body)))) at
@@ -87,6 +89,14 @@ part_one_frame read held body piece used whole place on is none body_is at begin
     let all : (read ++ take used piece) ++ drop used piece ≡ read ++ piece = append_assoc read (take used piece) (drop used piece) ∙ ap (λ bytes. read ++ bytes) (take-append-drop used piece) in
     subst (λ bytes. SentPart begin now (replay_text bytes)) all (text_longer (read ++ take used piece) (drop used piece) begin now here)
 
+-- the text after one frame, and more bytes
+pub text_at_more : (read held body piece : List ℕ) (used : ℕ) (whole : Bool) (place : ℕ) → GoesOn read (take used piece) held → whole ≡ is_frame held → not whole ≡ false → framed body ≡ held → place ≡ length (bodies_of read)
+    → (replay_text read ++ spelled (unacknowledged (reply (place + 1) (held_after read) (judged record_limit (held_after read) body)))) ++ further_text (read ++ take used piece) (drop used piece) ≡ replay_text (read ++ piece)
+text_at_more read held body piece used whole place on is none body_is at =
+    ap (λ t. t ++ further_text (read ++ take used piece) (drop used piece)) (text_at read (take used piece) held body whole place on is none body_is at)
+    ∙ text_further (read ++ take used piece) (drop used piece)
+    ∙ ap replay_text (append_assoc read (take used piece) (drop used piece) ∙ ap (λ bytes. read ++ bytes) (take-append-drop used piece))
+
 pub follows_one_frame : (read taken held body : List ℕ) (whole : Bool) (place : ℕ) (engine : Engine) (after : Session) → GoesOn read taken held → whole ≡ is_frame held → not whole ≡ false → framed body ≡ held → place ≡ length (bodies_of read)
     → after.cutter ≡ held → after.engine ≡ engine → after.place ≡ place + 1
     → IsOf engine record_limit (with_record (held_after read) (judged record_limit (held_after read) body))
@@ -102,7 +112,7 @@ follows_one_frame read taken held body whole place engine after on is none body_
 
 -- The messages of a record.
 
-step_text : (text : List ℕ) (held : List Record) (x : Record) (before : ℕ) (messages : List Stamped) → before ≡ length (messages_of held) → messages ≡ newest_messages (x ∷ held)
+pub step_text : (text : List ℕ) (held : List Record) (x : Record) (before : ℕ) (messages : List Stamped) → before ≡ length (messages_of held) → messages ≡ newest_messages (x ∷ held)
     → text ++ spelled (numbered before messages) ≡ text ++ spelled (unacknowledged (accepted held x))
 step_text text held x before messages at gave =
     (λ i. text ++ spelled (numbered (at i) (gave i))) ∙ ap (λ frames. text ++ spelled frames) (sym (unacknowledged-step (length (messages_of held)) (length held + 1) (newest_messages (x ∷ held))))

@@ -1,5 +1,5 @@
 -- All that a replay sends for the bytes that it has read.
-use Rattle.std.specs.Prelude.{ℕ, List, []}
+use Rattle.std.specs.Prelude.{ℕ, List}
 use Rattle.wire_in.specs.Cutting.{bodies_of}
 use Rattle.rulebook.specs.Sent.{replayed_frames, spelled}
 

@@ -1,13 +1,13 @@
 //! A replay over a host: reads, evaluates and sends, up to the end of the input or to a limit of bytes.
 
 ghost use Rattle.std.specs.Prelude.{◌≡◌, ◌≢◌, ◌⊎◌, ◌+◌, ◌*◌, ◌<◌, ◌≤◌, ◌^◌, ◌==◌, [], ℕ, List, Option, Some, IfOk, OnOk, OnErr, length, min, take, if◌then◌else◌};
-ghost use Rattle.host_core.specs.Outside.{Rose, Continues};
+ghost use Rattle.host_core.specs.Outside.{Elapses, Rose, Continues};
 ghost use Rattle.wire_in.specs.Cutting.{rest_of};
 ghost use Rattle.replay_core.specs.Kept.{Follows, Serves, HasRead};
-ghost use Rattle.engine_core.specs.Owed.{Owes, SentPart, OnlySends};
+ghost use Rattle.engine_core.specs.Owed.{Owes, SentPart, SendsFront, OnlySends};
 ghost use Rattle.replay_core.specs.Stops.{stop_of, status_of};
 ghost use Rattle.replay_core.specs.Text.{replay_text};
-ghost use Rattle.engine_core.specs.Ends.{IsEnd, end_of};
+ghost use Rattle.engine_core.specs.Ends.{IsEnd, ReadsAtMost, end_of};
 ghost use Rattle.replay_core.specs.Ends.{Answered, IsAnswer};
 
 use crate::session::{Interruption, Session, feed};
@@ -40,10 +40,14 @@ fn exchange<H: Host>(
         → IfOk result (λ n. HasRead begin input count n (H.outside host.new) buffer.new) }
     ensures empty { OnOk result (session.new.outbox ≡ []) }
     ensures most { IfOk result (λ n. n ≤ most) }
+    ensures taken { IfOk result (λ n. ReadsAtMost n (H.outside host.old).input (H.outside host.new).input) }
+    ensures untaken { OnErr result ((H.outside host.new).input ≡ (H.outside host.old).input) }
     ensures unread { (begin : Option (List ℕ)) (input : List ℕ) (count : ℕ) → Serves begin input count (H.outside host.old) session.old
         → result ≡ Err Stop.ReadFault → Answered begin input count (H.outside host.new) }
     ensures part { (begin : Option (List ℕ)) (input : List ℕ) (count : ℕ) → Serves begin input count (H.outside host.old) session.old
         → OnErr result (SentPart begin (H.outside host.new).sent (replay_text (take count input))) }
+    ensures moments { (begin : Option (List ℕ)) (input : List ℕ) (count : ℕ) → Serves begin input count (H.outside host.old) session.old
+        → Elapses (H.outside host.old) (H.outside host.new) (SendsFront begin (replay_text (take count input)) (H.outside host.old)) }
     ensures disk { (H.outside host.new).disk ≡ (H.outside host.old).disk }
     ensures continues { Continues (H.outside host.old) (H.outside host.new) }
     ensures read_cause { result ≡ Err Stop.ReadFault → Rose (H.outside host.old).read_faults (H.outside host.new).read_faults }
@@ -86,10 +90,14 @@ fn turn<H: Host>(
     ensures end { (begin : Option (List ℕ)) (input : List ℕ) (count : ℕ) → Serves begin input count (H.outside host.old) session.old
         → result ≡ Ok 0 → (count ≡ length input) × Answered begin input count (H.outside host.new) }
     ensures most { IfOk result (λ n. n ≤ most) }
+    ensures taken { IfOk result (λ n. ReadsAtMost n (H.outside host.old).input (H.outside host.new).input) }
+    ensures taken_most { OnErr result (ReadsAtMost most (H.outside host.old).input (H.outside host.new).input) }
     ensures unread { (begin : Option (List ℕ)) (input : List ℕ) (count : ℕ) → Serves begin input count (H.outside host.old) session.old
         → result ≡ Err Stop.ReadFault → Answered begin input count (H.outside host.new) }
     ensures part { (begin : Option (List ℕ)) (input : List ℕ) (count : ℕ) → Serves begin input count (H.outside host.old) session.old
         → OnErr result (SentPart begin (H.outside host.new).sent (replay_text (take (count + most) input))) }
+    ensures moments { (begin : Option (List ℕ)) (input : List ℕ) (count : ℕ) → Serves begin input count (H.outside host.old) session.old
+        → Elapses (H.outside host.old) (H.outside host.new) (SendsFront begin (replay_text (take (count + most) input)) (H.outside host.old)) }
     ensures place { IfOk result (λ n. session.new.place ≤ session.old.place + n) }
     ensures few { OnOk result (session.new.engine.published ≤ 262146 * session.new.place) }
     ensures disk { (H.outside host.new).disk ≡ (H.outside host.old).disk }
@@ -139,7 +147,10 @@ fn finish<H: Host>(session: &mut Session, host: &mut H) -> Status
         → result ≡ Status.SessionFull → Answered begin input count (H.outside host.new) }
     ensures part { (begin : Option (List ℕ)) (input : List ℕ) (count : ℕ) → Serves begin input count (H.outside host.old) session.old
         → SentPart begin (H.outside host.new).sent (replay_text (take count input)) }
+    ensures moments { (begin : Option (List ℕ)) (input : List ℕ) (count : ℕ) → Serves begin input count (H.outside host.old) session.old
+        → Elapses (H.outside host.old) (H.outside host.new) (SendsFront begin (replay_text (take count input)) (H.outside host.old)) }
     ensures kind { (result ≡ Status.SessionFull) ⊎ ((result ≡ Status.SendFault) × Rose (H.outside host.old).send_faults (H.outside host.new).send_faults) }
+    ensures input { (H.outside host.new).input ≡ (H.outside host.old).input }
     ensures disk { (H.outside host.new).disk ≡ (H.outside host.old).disk }
     ensures continues { Continues (H.outside host.old) (H.outside host.new) }
 {
@@ -165,6 +176,9 @@ fn answer_input<H: Host>(
         → result ≡ Status.ReadFault → (count : ℕ) × (count < most) × Answered begin input count (H.outside host.new) }
     ensures part { (begin : Option (List ℕ)) (input : List ℕ) → Serves begin input 0 (H.outside host.old) session.old
         → SentPart begin (H.outside host.new).sent (replay_text (take most input)) }
+    ensures moments { (begin : Option (List ℕ)) (input : List ℕ) → Serves begin input 0 (H.outside host.old) session.old
+        → Elapses (H.outside host.old) (H.outside host.new) (SendsFront begin (replay_text (take most input)) (H.outside host.old)) }
+    ensures limit { ReadsAtMost most (H.outside host.old).input (H.outside host.new).input }
     ensures kind { IsAnswer result }
     ensures read_cause { result ≡ Status.ReadFault → Rose (H.outside host.old).read_faults (H.outside host.new).read_faults }
     ensures send_cause { result ≡ Status.SendFault → Rose (H.outside host.old).send_faults (H.outside host.new).send_faults }
@@ -194,6 +208,9 @@ pub struct ReplayOptions {
 /// and the refusals. The disk is not touched.
 pub fn replay<H: Host>(alloc: Global, host: &mut H, options: &ReplayOptions) -> Status
     requires bytes { options.now.bytes ≤ BYTES_MAX }
+    // Whenever the run is stopped, a front of what is due was sent, and the disk has an image from before.
+    ensures moments { (input : List ℕ) → (H.outside host.old).input ≡ Some input
+        → Elapses (H.outside host.old) (H.outside host.new) (SendsFront (H.outside host.old).sent (replay_text (take options.now.bytes input)) (H.outside host.old)) }
     // Where the end was read, all was sent, and the status is that of the end.
     ensures exact { (input : List ℕ) → (H.outside host.old).input ≡ Some input → IsEnd result
         → (result ≡ end_of options.now.bytes input) × Answered (H.outside host.old).sent input (min options.now.bytes (length input)) (H.outside host.new) }
@@ -203,6 +220,8 @@ pub fn replay<H: Host>(alloc: Global, host: &mut H, options: &ReplayOptions) -> 
     // What was sent is a front of what is due in any case.
     ensures part { (input : List ℕ) → (H.outside host.old).input ≡ Some input
         → SentPart (H.outside host.old).sent (H.outside host.new).sent (replay_text (take options.now.bytes input)) }
+    // No more bytes than asked for are read, whatever the answer.
+    ensures limit { ReadsAtMost options.now.bytes (H.outside host.old).input (H.outside host.new).input }
     ensures kind { IsAnswer result }
     // A fault is answered only where the host met one.
     ensures read_cause { result ≡ Status.ReadFault → Rose (H.outside host.old).read_faults (H.outside host.new).read_faults }

@@ -2,13 +2,13 @@
 
 ghost use Rattle.std.specs.Prelude.{◌≡◌, ◌+◌, ◌*◌, ◌<◌, ◌≤◌, ◌^◌, ◌++◌, ◌∷◌, [], ℕ, List, Option, None, OnOk, OnErr, IfOk, IfErr, length, take};
 ghost use Rattle.wire_in.specs.declared.record.Record.{Record};
-ghost use Rattle.host_core.specs.Outside.{Rose};
+ghost use Rattle.host_core.specs.Outside.{Elapses, Rose};
 ghost use Rattle.rulebook.specs.Sent.{spelled, unacknowledged, reply, judged, with_record, accepted, refused};
 ghost use Rattle.market_core.specs.Admitted.{refusal_of};
 ghost use Rattle.engine_core.specs.Kept.{IsOf};
 ghost use Rattle.replay_core.specs.Kept.{Follows};
 ghost use Rattle.replay_core.specs.Text.{replay_text};
-ghost use Rattle.engine_core.specs.Owed.{Owes, SentPart, OnlySends};
+ghost use Rattle.engine_core.specs.Owed.{Owes, SentPart, SendsFront, OnlySends};
 
 use engine_core::{Engine, Outbox, judge, put_messages, put_refusal};
 use host_core::{Failed, Host};
@@ -46,6 +46,9 @@ fn accept<H: Host>(
     ensures part { (limit : ℕ) (held : List Record) (begin : Option (List ℕ)) (text : List ℕ) → IsOf engine.old limit held
         → Owes begin (H.outside host.old).sent outbox.old text
         → OnErr result (SentPart begin (H.outside host.new).sent (text ++ spelled (unacknowledged (accepted held x.now)))) }
+    ensures moments { (limit : ℕ) (held : List Record) (begin : Option (List ℕ)) (text : List ℕ) → IsOf engine.old limit held
+        → Owes begin (H.outside host.old).sent outbox.old text
+        → Elapses (H.outside host.old) (H.outside host.new) (SendsFront begin (text ++ spelled (unacknowledged (accepted held x.now))) (H.outside host.old)) }
     ensures stands { (limit : ℕ) (held : List Record) → IsOf engine.old limit held → OnOk result (IsOf engine.new limit (x.now ∷ held)) }
     ensures few { OnOk result (engine.new.published ≤ engine.old.published + 262146) }
     ensures keeps { OnlySends (H.outside host.old) (H.outside host.new) }
@@ -71,6 +74,8 @@ fn refuse<H: Host>(
         → OnOk result (Owes begin (H.outside host.new).sent outbox.new (text ++ spelled (refused place refusal))) }
     ensures part { (begin : Option (List ℕ)) (text : List ℕ) → Owes begin (H.outside host.old).sent outbox.old text
         → OnErr result (SentPart begin (H.outside host.new).sent (text ++ spelled (refused place refusal))) }
+    ensures moments { (begin : Option (List ℕ)) (text : List ℕ) → Owes begin (H.outside host.old).sent outbox.old text
+        → Elapses (H.outside host.old) (H.outside host.new) (SendsFront begin (text ++ spelled (refused place refusal)) (H.outside host.old)) }
     ensures keeps { OnlySends (H.outside host.old) (H.outside host.new) }
     ensures cause { OnErr result (Rose (H.outside host.old).send_faults (H.outside host.new).send_faults) }
 {
@@ -94,6 +99,9 @@ fn answer<H: Host>(
     ensures part { (limit : ℕ) (held : List Record) (begin : Option (List ℕ)) (text : List ℕ) → IsOf engine.old limit held
         → Owes begin (H.outside host.old).sent outbox.old text
         → OnErr result (SentPart begin (H.outside host.new).sent (text ++ spelled (unacknowledged (reply place held (judged limit held body.now))))) }
+    ensures moments { (limit : ℕ) (held : List Record) (begin : Option (List ℕ)) (text : List ℕ) → IsOf engine.old limit held
+        → Owes begin (H.outside host.old).sent outbox.old text
+        → Elapses (H.outside host.old) (H.outside host.new) (SendsFront begin (text ++ spelled (unacknowledged (reply place held (judged limit held body.now)))) (H.outside host.old)) }
     ensures stands { (limit : ℕ) (held : List Record) → IsOf engine.old limit held → OnOk result (IsOf engine.new limit (with_record held (judged limit held body.now))) }
     ensures few { OnOk result (engine.new.published ≤ engine.old.published + 262146) }
     ensures keeps { OnlySends (H.outside host.old) (H.outside host.new) }
@@ -144,6 +152,9 @@ impl Session {
         ensures part { (read : List ℕ) (begin : Option (List ℕ)) → Follows self.old read
             → Owes begin (H.outside host.old).sent self.old.outbox (replay_text read)
             → OnErr result (SentPart begin (H.outside host.new).sent (replay_text (read ++ piece.now))) }
+        ensures moments { (read : List ℕ) (begin : Option (List ℕ)) → Follows self.old read
+            → Owes begin (H.outside host.old).sent self.old.outbox (replay_text read)
+            → Elapses (H.outside host.old) (H.outside host.new) (SendsFront begin (replay_text (read ++ piece.now)) (H.outside host.old)) }
         ensures follows { (read : List ℕ) → Follows self.old read → IfOk result (λ n. Follows self.new (read ++ take n piece.now)) }
         ensures place { self.new.place ≤ self.old.place + 1 }
         ensures few { OnOk result (self.new.engine.published ≤ 262146 * self.new.place) }
@@ -176,6 +187,9 @@ pub fn feed<H: Host>(session: &mut Session, host: &mut H, piece: &[u8]) -> Resul
     ensures part { (read : List ℕ) (begin : Option (List ℕ)) → Follows session.old read
         → Owes begin (H.outside host.old).sent session.old.outbox (replay_text read)
         → OnErr result (SentPart begin (H.outside host.new).sent (replay_text (read ++ piece.now))) }
+    ensures moments { (read : List ℕ) (begin : Option (List ℕ)) → Follows session.old read
+        → Owes begin (H.outside host.old).sent session.old.outbox (replay_text read)
+        → Elapses (H.outside host.old) (H.outside host.new) (SendsFront begin (replay_text (read ++ piece.now)) (H.outside host.old)) }
     ensures follows { (read : List ℕ) → Follows session.old read → OnOk result (Follows session.new (read ++ piece.now)) }
     ensures place { session.new.place ≤ session.old.place + length piece.now }
     ensures few { OnOk result (session.new.engine.published ≤ 262146 * session.new.place) }

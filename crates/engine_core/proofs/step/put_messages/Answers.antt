@@ -5,7 +5,7 @@ use Rattle.rulebook.specs.Sent.{spelled, numbered}
 use Rattle.engine_core.specs.Owed.{Owes}
 use Rattle.engine_core.proofs.Sending.{sends_none, sends_longer}
 use Rattle.engine_core.proofs.Owing.{onward, idle}
-use Rattle.engine_core.proofs.Steps.{owes_more, part_of_all, all_put, sends_next}
+use Rattle.engine_core.proofs.Steps.{owes_more, part_of_all, sends_next}
 use Rattle.engine_core.proofs.step.put_messages.Goals as goal
 
 pub returns-in_err-put-clause-part : goal.returns-in_err-put-clause-part

@@ -1,6 +1,9 @@
-use Rattle.std.proofs.Common.{◌≡◌, ◌-◌, ◌*◌, ◌<◌, ◌≤◌, ℕ, List, length}
+use Rattle.std.proofs.Common.{◌≡◌, ◌-◌, ◌*◌, ◌<◌, ◌≤◌, ℕ, List, length, take}
 use Rattle.std.specs.Prelude.{Option}
-use Rattle.host_core.specs.Outside.{Continues}
+use Rattle.host_core.specs.Outside.{Elapses, Continues}
+use Rattle.engine_core.specs.Ends.{ReadsAtMost}
+use Rattle.engine_core.specs.Owed.{SendsFront}
+use Rattle.replay_core.specs.Text.{replay_text}
 use Rattle.replay_core.specs.Kept.{Serves}
 use Rattle.replay_core.proofs.input.answer_input.Given as goal
 
@@ -12,6 +15,9 @@ invariant-loop-read g l = record {
   room : 0 < length l.buffer;
   serves : (begin : Option (List ℕ)) (input : List ℕ) → Serves begin input 0 (g.H.Host.outside l.initial.host) l.initial.session
       → Serves begin input l.read (g.H.Host.outside l.host) l.session;
+  moments : (begin : Option (List ℕ)) (input : List ℕ) → Serves begin input 0 (g.H.Host.outside l.initial.host) l.initial.session
+      → Elapses (g.H.Host.outside l.initial.host) (g.H.Host.outside l.host) (SendsFront begin (replay_text (take l.most input)) (g.H.Host.outside l.initial.host));
+  taken : ReadsAtMost l.read (g.H.Host.outside l.initial.host).input (g.H.Host.outside l.host).input;
   disk : (g.H.Host.outside l.host).disk ≡ (g.H.Host.outside l.initial.host).disk;
   continues : Continues (g.H.Host.outside l.initial.host) (g.H.Host.outside l.host);
 }
