@@ -1,6 +1,6 @@
 -- Messages that are asked for again, record by record.
 use Rattle.std.proofs.Common.{◌≡◌, ℕ, ◌+◌, ◌-◌, ◌<◌, ◌≤◌, ◌≢◌, List, [], ◌∷◌, ◌++◌, length, get_or, take, drop, refl, sym, ap, subst, ◌∙◌, append_assoc}
-use Rattle.std.specs.Prelude.{Option, Some, None, reverse}
+use Rattle.std.specs.Prelude.{Option, None, reverse}
 use Rattle.std.proofs.lemmas.List.{append-nil, reverse-append, take-append-drop, take_more, take_rest, take_all}
 use Rattle.host_core.specs.Outside.{Outside, Agrees, Elapses}
 use Rattle.wire_in.specs.declared.record.Record.{Record}

@@ -1,7 +1,7 @@
 -- What a session owes for more bytes.
-use Rattle.std.proofs.Common.{◌≡◌, ◌⊎◌, inl, inr, ℕ, ◌+◌, ◌≤◌, Bool, not, false, true, List, [], ◌∷◌, ◌++◌, length, take, drop, refl, sym, ap, subst, ◌∙◌, append_assoc, length-append, arith}
+use Rattle.std.proofs.Common.{◌≡◌, inl, inr, ℕ, ◌+◌, ◌≤◌, Bool, not, false, true, List, [], ◌∷◌, ◌++◌, length, take, drop, refl, sym, ap, subst, ◌∙◌, append_assoc, length-append, arith}
 use Rattle.std.specs.Prelude.{Some, Result}
-use Rattle.std.proofs.lemmas.List.{append-nil, take_at, take_all, take-append-le, take-append-drop}
+use Rattle.std.proofs.lemmas.List.{append-nil, take_at, take-append-le, take-append-drop}
 use Rattle.host_core.specs.Outside.{Outside, Agrees, Elapses, Stays}
 use Rattle.host_core.proofs.Moments.{nothing, widened}
 use Rattle.market_core.specs.Admitted.{StandsFor}
@@ -11,7 +11,7 @@ use Rattle.wire_in.specs.declared.record.Refusal.{Refusal}
 use Rattle.wire_in.specs.Cutting.{bodies_of, rest_of, is_frame, pending, GoesOn}
 use Rattle.wire_in.proofs.Cuts.{bodies_of-append}
 use Rattle.journal_core.specs.Layout.{Holds}
-use Rattle.rulebook.specs.Sent.{spelled, session_frames, replies, reply, judged, with_record, accepted_of}
+use Rattle.rulebook.specs.Sent.{spelled, replies, reply, judged, with_record}
 use Rattle.rulebook.proofs.Sending.{session_spelled-append, accepted_of-append}
 use Rattle.engine_core.specs.Owed.{Owes}
 use Rattle.engine_core.proofs.Sending.{waits}

@@ -1,5 +1,5 @@
 -- A piece that is answered bit by bit.
-use Rattle.std.proofs.Common.{◌≡◌, ℕ, ◌+◌, List, [], ◌++◌, take, sym, subst}
+use Rattle.std.proofs.Common.{ℕ, ◌+◌, List, [], ◌++◌, take, sym, subst}
 use Rattle.std.proofs.lemmas.List.{append-nil}
 use Rattle.host_core.specs.Outside.{Outside, Elapses}
 use Rattle.host_core.proofs.Moments.{goes_on}

@@ -1,13 +1,13 @@
 -- The input, read piece by piece.
-use Rattle.std.proofs.Common.{◌≡◌, ℕ, ◌+◌, ◌-◌, ◌≤◌, List, [], ◌++◌, length, take, drop, refl, sym, ap, subst, ◌∙◌, arith}
+use Rattle.std.proofs.Common.{◌≡◌, ℕ, ◌+◌, ◌-◌, ◌≤◌, List, [], ◌++◌, length, take, drop, sym, ap, subst, ◌∙◌, arith}
 use Rattle.std.specs.Prelude.{Option, Some, option_map}
-use Rattle.std.proofs.lemmas.List.{append-nil, length-drop, drop-drop}
+use Rattle.std.proofs.lemmas.List.{length-drop, drop-drop}
 use Rattle.std.proofs.Math.Seq.{take-add}
 use Rattle.host_core.specs.Outside.{Outside, Agrees, Elapses, Stays, Takes}
 use Rattle.host_core.proofs.Moments.{nothing, goes_on, widened}
 use Rattle.wire_in.specs.Cutting.{bodies_of, pending}
 use Rattle.journal_core.specs.Layout.{Holds}
-use Rattle.engine_core.specs.Owed.{Owes, SendsFront}
+use Rattle.engine_core.specs.Owed.{SendsFront}
 use Rattle.engine_core.proofs.Owing.{owes_nothing}
 use Rattle.live_core.specs.declared.session.Live.{Live}
 use Rattle.live_core.specs.Safe.{Begin, IsSafe, held_after, due}

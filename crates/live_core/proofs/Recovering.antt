@@ -1,5 +1,5 @@
 -- A journal that is read batch by batch.
-use Rattle.std.proofs.Common.{◌≡◌, inl, inr, ℕ, ◌+◌, ◌-◌, arith, List, [], ◌∷◌, ◌++◌, length, drop, refl, sym, ap, subst, ◌∙◌, append_assoc}
+use Rattle.std.proofs.Common.{◌≡◌, inl, inr, ℕ, ◌-◌, arith, List, [], ◌∷◌, ◌++◌, drop, refl, sym, ap, subst, ◌∙◌}
 use Rattle.std.specs.Prelude.{Option, Some, None, reverse}
 use Rattle.std.specs.List.{flat_map}
 use Rattle.std.proofs.lemmas.Grind.{flat_map-append}
@@ -20,7 +20,7 @@ use Rattle.engine_core.proofs.Sending.{waits, front_of_longer}
 use Rattle.live_core.specs.declared.recovery.Recovery.{Recovery}
 use Rattle.live_core.specs.Safe.{Leaves}
 use Rattle.live_core.specs.Recovered.{Resumes, IsRefusedIn, Recovers}
-use Rattle.live_core.specs.Damage.{StopsAtDamage, IsDamagedAt}
+use Rattle.live_core.specs.Damage.{StopsAtDamage}
 use Rattle.live_core.proofs.Again.{again_first}
 
 -- the records of some batches, and of one more

@@ -1,5 +1,5 @@
 -- A session over a journal that was read to its end.
-use Rattle.std.proofs.Common.{◌≡◌, ◌⊎◌, inl, inr, ℕ, List, [], ◌∷◌, ◌++◌, refl, sym, ap, subst, ◌∙◌, append_assoc}
+use Rattle.std.proofs.Common.{◌≡◌, inl, inr, ℕ, List, [], ◌∷◌, ◌++◌, sym, ap, subst, ◌∙◌, append_assoc}
 use Rattle.std.specs.Prelude.{Option, Some, IsTrue}
 use Rattle.std.proofs.lemmas.List.{append-nil}
 use Rattle.host_core.specs.Outside.{Outside, Elapses, Stays}
@@ -8,7 +8,7 @@ use Rattle.wire_in.specs.declared.record.Record.{Record}
 use Rattle.wire_in.specs.Cutting.{pending}
 use Rattle.wire_out.specs.Spelling.{spelling}
 use Rattle.journal_core.specs.Layout.{Holds, records_of}
-use Rattle.journal_core.specs.Journal.{Keeps, IsAtRest}
+use Rattle.journal_core.specs.Journal.{Keeps}
 use Rattle.journal_core.specs.Scan.{HasRead}
 use Rattle.journal_core.proofs.Readable.{readable}
 use Rattle.rulebook.specs.Sent.{spelled, sent_again, hello}

@@ -1,5 +1,5 @@
 -- Where a journal is damaged, and what a session has sent by then.
-use Rattle.std.specs.Prelude.{◌≡◌, ◌≢◌, ◌⊎◌, ℕ, List, [], ◌∷◌, ◌++◌, Option, Some, None}
+use Rattle.std.specs.Prelude.{◌≡◌, ◌≢◌, ◌⊎◌, ℕ, List, [], ◌∷◌, ◌++◌, Option, None}
 use Rattle.std.specs.Io.KnownBytes.{append_known}
 use Rattle.host_core.specs.Outside.{Outside}
 use Rattle.wire_in.specs.declared.record.Record.{Record}

@@ -74,3 +74,9 @@ IsUnserved _ = ⊥
 -- the answers to a journal that is damaged there: the damage at just that gate, or a fault or want of memory before it
 abbrev pub TellsDamage : ℕ → Status → Type 0
 TellsDamage at status = (status ≡ Damaged at) ⊎ (status ≡ DiskFault) ⊎ (status ≡ SendFault) ⊎ (status ≡ NoMemory)
+
+-- nothing of the input was read, nothing was sent, and the disk has what it had
+pub record IsLeftAlone (old new : Outside) : Type 0 where
+  pub input : new.input ≡ old.input
+  pub sent : new.sent ≡ old.sent
+  pub disk : new.disk ≡ old.disk

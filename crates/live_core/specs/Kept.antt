@@ -9,7 +9,6 @@ use Rattle.engine_core.specs.Kept as engine
 use Rattle.engine_core.specs.Owed.{Owes}
 use Rattle.live_core.specs.declared.session.Live.{Live}
 use Rattle.live_core.specs.Safe.{Begin, held_after, due}
-use Rattle.live_core.specs.Ends.{Answered}
 
 -- an engine is within the limit of a journal
 pub record IsSmall (engine : Engine) : Type 0 where

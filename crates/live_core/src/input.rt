@@ -3,7 +3,7 @@
 ghost use Rattle.std.specs.Prelude.{◌≡◌, ◌⊎◌, ◌+◌, ◌<◌, ◌≤◌, ◌^◌, ◌++◌, ◌==◌, if◌then◌else◌, [], ℕ, List, Some, Ok, Err, IfOk, IfErr, OnOk, OnErr, length, min, take};
 ghost use Rattle.host_core.specs.Outside.{Rose, Continues, Elapses};
 ghost use Rattle.wire_in.specs.Cutting.{pending, bodies_of, rest_of};
-ghost use Rattle.engine_core.specs.Ends.{IsEnd, end_of};
+ghost use Rattle.engine_core.specs.Ends.{IsEnd, ReadsAtMost, end_of};
 ghost use Rattle.live_core.specs.Safe.{Begin, IsSafe};
 ghost use Rattle.live_core.specs.Kept.{IsReady, Serves, Reads, HasRead};
 ghost use Rattle.live_core.specs.Ends.{Answered, IsInterruption, IsFault, IsLive};
@@ -26,6 +26,8 @@ fn exchange<H: Host>(
     ensures read { (begin : Begin) (input : List ℕ) (count : ℕ) → Reads begin input count live.old (H.outside host.old)
         → IfOk result (λ n. HasRead begin input count n live.new (H.outside host.new) buffer.new) }
     ensures most { IfOk result (λ n. n ≤ most) }
+    ensures taken { IfOk result (λ n. ReadsAtMost n (H.outside host.old).input (H.outside host.new).input) }
+    ensures untaken { OnErr result ((H.outside host.new).input ≡ (H.outside host.old).input) }
     ensures unread { (begin : Begin) (input : List ℕ) (count : ℕ) → Reads begin input count live.old (H.outside host.old)
         → result ≡ Err Status.ReadFault → Answered begin input count (H.outside host.new) }
     ensures moments { (begin : Begin) (input : List ℕ) (count : ℕ) → Reads begin input count live.old (H.outside host.old)
@@ -87,6 +89,8 @@ fn turn<H: Host>(
     ensures end { (begin : Begin) (input : List ℕ) (count : ℕ) → Reads begin input count live.old (H.outside host.old)
         → result ≡ Ok 0 → (count ≡ length input) × Answered begin input count (H.outside host.new) }
     ensures most { IfOk result (λ n. n ≤ most) }
+    ensures taken { IfOk result (λ n. ReadsAtMost n (H.outside host.old).input (H.outside host.new).input) }
+    ensures taken_most { OnErr result (ReadsAtMost most (H.outside host.old).input (H.outside host.new).input) }
     ensures unread { (begin : Begin) (input : List ℕ) (count : ℕ) → Reads begin input count live.old (H.outside host.old)
         → result ≡ Err Status.ReadFault → Answered begin input count (H.outside host.new) }
     ensures moments { (begin : Begin) (input : List ℕ) (count : ℕ) → Reads begin input count live.old (H.outside host.old)
@@ -132,6 +136,7 @@ fn finish<H: Host>(live: &mut Live, host: &mut H) -> Status
     ensures moments { (begin : Begin) (input : List ℕ) (count : ℕ) → Reads begin input count live.old (H.outside host.old)
         → Elapses (H.outside host.old) (H.outside host.new) (IsSafe begin (bodies_of (take count input))) }
     ensures kind { (result ≡ Status.SessionFull) ⊎ ((result ≡ Status.SendFault) × Rose (H.outside host.old).send_faults (H.outside host.new).send_faults) }
+    ensures input { (H.outside host.new).input ≡ (H.outside host.old).input }
     ensures continues { Continues (H.outside host.old) (H.outside host.new) }
 {
     match live.outbox.flush(host) {
@@ -152,6 +157,7 @@ pub fn answer_input<H: Host>(live: &mut Live, host: &mut H, buffer: &mut [u8], m
         → result ≡ Status.ReadFault → (count : ℕ) × (count < most) × Answered begin input count (H.outside host.new) }
     ensures moments { (begin : Begin) (input : List ℕ) → Reads begin input 0 live.old (H.outside host.old)
         → Elapses (H.outside host.old) (H.outside host.new) (IsSafe begin (bodies_of (take most input))) }
+    ensures limit { ReadsAtMost most (H.outside host.old).input (H.outside host.new).input }
     ensures kind { IsLive result }
     ensures continues { Continues (H.outside host.old) (H.outside host.new) }
     ensures read_cause { result ≡ Status.ReadFault → Rose (H.outside host.old).read_faults (H.outside host.new).read_faults }

@@ -406,6 +406,7 @@ pub fn restore<H: Host>(
     ensures damaged { (at : ℕ) → result ≡ Err (Status.Damaged at) → (disk : List ℕ) → (H.outside host.old).disk ≡ Some disk
         → StopsAtDamage from (H.outside host.old).sent at disk (H.outside host.new) }
     ensures unsent { result ≡ Err Status.NoJournal → (H.outside host.new).sent ≡ (H.outside host.old).sent }
+    ensures no_header_unsent { (disk : List ℕ) → (H.outside host.old).disk ≡ Some disk → HasNoHeader disk → (H.outside host.new).sent ≡ (H.outside host.old).sent }
     ensures input { (H.outside host.new).input ≡ (H.outside host.old).input }
     ensures disk { (H.outside host.new).disk ≡ (H.outside host.old).disk }
     ensures continues { Continues (H.outside host.old) (H.outside host.new) }

@@ -5,10 +5,10 @@ ghost use Rattle.host_core.specs.Outside.{Rose, Continues, Elapses, Ends, IsSett
 ghost use Rattle.wire_in.specs.Cutting.{bodies_of};
 ghost use Rattle.wire_in.specs.declared.record.Record.{Record};
 ghost use Rattle.journal_core.specs.Scan.{HasNoHeader};
-ghost use Rattle.engine_core.specs.Ends.{IsEnd, end_of};
+ghost use Rattle.engine_core.specs.Ends.{IsEnd, ReadsAtMost, end_of};
 ghost use Rattle.live_core.specs.Safe.{Begin, Begins, IsSafe, IsSafeOrPending};
 ghost use Rattle.live_core.specs.Damage.{IsDamagedAt, StopsAtDamage};
-ghost use Rattle.live_core.specs.Ends.{Answered, SentPart, IsAnswer, IsUnserved, TellsDamage};
+ghost use Rattle.live_core.specs.Ends.{Answered, SentPart, IsLeftAlone, IsAnswer, IsUnserved, TellsDamage};
 
 use crate::input::answer_input;
 use crate::recovery::restore;
@@ -82,11 +82,12 @@ fn serve_in<H: Host>(
     // What was sent is a front of what is due in any case.
     ensures part { (begin : Begin) (input : List ℕ) → begin.from ≡ options.now.from → Begins begin input (H.outside host.old)
         → SentPart begin (take options.now.bytes input) (H.outside host.new) }
-    // There is no journal exactly where no header stands, and then nothing is sent.
+    // Where no header stands it is told, unless the disk fails or memory is short, and nothing is read, sent or written.
     ensures no_journal { result ≡ Status.NoJournal → (disk : List ℕ) → (H.outside host.old).disk ≡ Some disk → HasNoHeader disk }
     ensures no_header { (disk : List ℕ) → (H.outside host.old).disk ≡ Some disk → HasNoHeader disk
         → (result ≡ Status.NoJournal) ⊎ (result ≡ Status.DiskFault) ⊎ (result ≡ Status.NoMemory) }
     ensures unsent { result ≡ Status.NoJournal → (H.outside host.new).sent ≡ (H.outside host.old).sent }
+    ensures left_alone { (disk : List ℕ) → (H.outside host.old).disk ≡ Some disk → HasNoHeader disk → IsLeftAlone (H.outside host.old) (H.outside host.new) }
     // Damage is told at the gate of the first batch that has no form or holds a record that may not follow, and never of a
     // journal of lawful records.
     ensures damaged { (at : ℕ) → result ≡ Status.Damaged at → (disk : List ℕ) → (H.outside host.old).disk ≡ Some disk
@@ -95,11 +96,16 @@ fn serve_in<H: Host>(
     // A damaged journal behind a header is told at just its gate, unless a fault or want of memory comes before.
     ensures damage_is_told { (limit at : ℕ) (before : List Record) (disk : List ℕ) → (H.outside host.old).disk ≡ Some disk → IsDamagedAt limit at before disk
         → ¬ HasNoHeader disk → TellsDamage at result }
-    // Nothing is written to it, whatever the answer.
+    // Nothing is written to it, and no input is read, whatever the answer.
     ensures damage_is_left { (limit at : ℕ) (before : List Record) (disk : List ℕ) → (H.outside host.old).disk ≡ Some disk → IsDamagedAt limit at before disk
         → (H.outside host.new).disk ≡ (H.outside host.old).disk }
-    // Nothing is written where the journal is not read to its end.
+    ensures damage_is_unserved { (limit at : ℕ) (before : List Record) (disk : List ℕ) → (H.outside host.old).disk ≡ Some disk → IsDamagedAt limit at before disk
+        → (H.outside host.new).input ≡ (H.outside host.old).input }
+    // Where there is no journal or a damaged one, nothing is written, and nothing of the input is read.
     ensures untouched { IsUnserved result → (H.outside host.new).disk ≡ (H.outside host.old).disk }
+    ensures input_is_left { IsUnserved result → (H.outside host.new).input ≡ (H.outside host.old).input }
+    // No more bytes than asked for are read, whatever the answer.
+    ensures limit { ReadsAtMost options.now.bytes (H.outside host.old).input (H.outside host.new).input }
     // With enough memory and no faults, the input is read to its end or to the limit.
     ensures complete { (begin : Begin) (input : List ℕ) → Begins begin input (H.outside host.old) → result ≢ Status.NoMemory
         → ¬ (Rose (H.outside host.old).read_faults (H.outside host.new).read_faults)
@@ -142,11 +148,12 @@ pub fn serve<H: Host>(alloc: Global, host: &mut H, options: &ServeOptions) -> St
     // What was sent is a front of what is due in any case.
     ensures part { (begin : Begin) (input : List ℕ) → begin.from ≡ options.now.from → Begins begin input (H.outside host.old)
         → SentPart begin (take options.now.bytes input) (H.outside host.new) }
-    // There is no journal exactly where no header stands, and then nothing is sent.
+    // Where no header stands it is told, unless the disk fails or memory is short, and nothing is read, sent or written.
     ensures no_journal { result ≡ Status.NoJournal → (disk : List ℕ) → (H.outside host.old).disk ≡ Some disk → HasNoHeader disk }
     ensures no_header { (disk : List ℕ) → (H.outside host.old).disk ≡ Some disk → HasNoHeader disk
         → (result ≡ Status.NoJournal) ⊎ (result ≡ Status.DiskFault) ⊎ (result ≡ Status.NoMemory) }
     ensures unsent { result ≡ Status.NoJournal → (H.outside host.new).sent ≡ (H.outside host.old).sent }
+    ensures left_alone { (disk : List ℕ) → (H.outside host.old).disk ≡ Some disk → HasNoHeader disk → IsLeftAlone (H.outside host.old) (H.outside host.new) }
     // Damage is told at the gate of the first batch that has no form or holds a record that may not follow, and never of a
     // journal of lawful records.
     ensures damaged { (at : ℕ) → result ≡ Status.Damaged at → (disk : List ℕ) → (H.outside host.old).disk ≡ Some disk
@@ -155,11 +162,16 @@ pub fn serve<H: Host>(alloc: Global, host: &mut H, options: &ServeOptions) -> St
     // A damaged journal behind a header is told at just its gate, unless a fault or want of memory comes before.
     ensures damage_is_told { (limit at : ℕ) (before : List Record) (disk : List ℕ) → (H.outside host.old).disk ≡ Some disk → IsDamagedAt limit at before disk
         → ¬ HasNoHeader disk → TellsDamage at result }
-    // Nothing is written to it, whatever the answer.
+    // Nothing is written to it, and no input is read, whatever the answer.
     ensures damage_is_left { (limit at : ℕ) (before : List Record) (disk : List ℕ) → (H.outside host.old).disk ≡ Some disk → IsDamagedAt limit at before disk
         → (H.outside host.new).disk ≡ (H.outside host.old).disk }
-    // Nothing is written where the journal is not read to its end.
+    ensures damage_is_unserved { (limit at : ℕ) (before : List Record) (disk : List ℕ) → (H.outside host.old).disk ≡ Some disk → IsDamagedAt limit at before disk
+        → (H.outside host.new).input ≡ (H.outside host.old).input }
+    // Where there is no journal or a damaged one, nothing is written, and nothing of the input is read.
     ensures untouched { IsUnserved result → (H.outside host.new).disk ≡ (H.outside host.old).disk }
+    ensures input_is_left { IsUnserved result → (H.outside host.new).input ≡ (H.outside host.old).input }
+    // No more bytes than asked for are read, whatever the answer.
+    ensures limit { ReadsAtMost options.now.bytes (H.outside host.old).input (H.outside host.new).input }
     // With enough memory and no faults, the input is read to its end or to the limit.
     ensures complete { (begin : Begin) (input : List ℕ) → Begins begin input (H.outside host.old) → result ≢ Status.NoMemory
         → ¬ (Rose (H.outside host.old).read_faults (H.outside host.new).read_faults)

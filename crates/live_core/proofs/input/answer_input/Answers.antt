@@ -1,7 +1,7 @@
-use Rattle.std.proofs.Common.{◌+◌, sym, ap, ◌∙◌, arith}
+use Rattle.std.proofs.Common.{◌+◌, refl, ap, ◌∙◌, arith}
 use Rattle.std.specs.Prelude.{Ok, Err, take}
 use Rattle.host_core.proofs.Moments.{unchanged, further}
-use Rattle.live_core.proofs.Frames.{runs_none}
+use Rattle.engine_core.proofs.Taken.{takes_none, takes_on, takes_fewer, takes_between}
 use Rattle.live_core.proofs.Reading.{turns_on, first_moments}
 use Rattle.live_core.proofs.Ending.{last_end, full_end}
 use Rattle.live_core.proofs.input.answer_input.Goals as goal
@@ -14,6 +14,7 @@ loop-read-init g c = record {
   ready = c.requires.ready;
   reads = λ begin input reads. reads;
   moments = λ begin input reads. first_moments begin input c.args.most _ (g.H.Host.outside c.args.host.now) (g.met.H.Host.sent_now c.args.host.now) reads;
+  taken = takes_none 0 _ _ refl;
   continues = unchanged (g.H.Host.outside c.args.host.now);
 }
 
@@ -27,6 +28,7 @@ loop-read-preserved g c = record {
   moments = λ begin input reads.
       turns_on begin input (c.loop-read.read + c.min-room.result) c.args.most (omega (arith, c.loop-read.invariant.within, c.min-room.ensures)) (c.loop-read.invariant.moments begin input reads)
       (c.turn.ensures.moments begin input c.loop-read.read (c.loop-read.invariant.reads begin input reads));
+  taken = takes_on c.loop-read.read c.in-Ok.count _ _ _ _ (omega arith) c.loop-read.invariant.taken (c.in-Ok.ensures).taken;
   continues = further c.loop-read.invariant.continues c.turn.ensures.continues;
 }
 
@@ -63,3 +65,14 @@ pub returns-clause-moments : goal.returns-clause-moments
 returns-clause-moments g c = λ begin input reads.
     turns_on begin input c.loop-read.read c.args.most c.loop-read.invariant.within (c.loop-read.invariant.moments begin input reads)
     (c.finish.ensures.moments begin input c.loop-read.read (c.loop-read.invariant.reads begin input reads))
+
+pub returns-in-Ok-eq0-clause-limit : goal.returns-in-Ok-eq0-clause-limit
+returns-in-Ok-eq0-clause-limit g c =
+    takes_on c.loop-read.read c.in-Ok-eq0.field-0 c.args.most _ _ _ (omega (arith, c.loop-read-test.true, c.in-Ok-eq0.field-0-test)) c.loop-read.invariant.taken (c.in-Ok-eq0.ensures).taken
+
+pub returns-in-Err-clause-limit : goal.returns-in-Err-clause-limit
+returns-in-Err-clause-limit g c =
+    takes_on c.loop-read.read c.min-room.result c.args.most _ _ _ (omega (arith, c.loop-read.invariant.within, c.min-room.ensures)) c.loop-read.invariant.taken (c.in-Err.ensures).taken_most
+
+pub returns-clause-limit : goal.returns-clause-limit
+returns-clause-limit g c = takes_fewer c.loop-read.read c.args.most _ _ c.loop-read.invariant.within (takes_between c.loop-read.read _ _ _ _ refl c.finish.ensures.input c.loop-read.invariant.taken)

@@ -1,4 +1,4 @@
-use Rattle.std.proofs.Common.{◌≡◌, ℕ, [], refl, sym, ap, subst, ◌∙◌}
+use Rattle.std.proofs.Common.{◌≡◌, ℕ, [], refl, ap, subst, ◌∙◌}
 use Rattle.std.specs.Prelude.{Result, Err}
 use Rattle.host_core.specs.declared.status.Status.{Status}
 use Rattle.live_core.specs.declared.recovery.Recovery.{Recovery}

@@ -7,6 +7,7 @@ use Rattle.live_core.specs.Recovered.{Recovers}
 use Rattle.live_core.specs.Damage.{StopsAtDamage}
 use Rattle.live_core.proofs.Restoring.{opens, opens_on, stands_restored, owes_restored, greeted, greets, ready_still}
 use Rattle.live_core.proofs.OneDamage.{holds_read}
+use Rattle.live_core.proofs.Sessions.{header_stands}
 use Rattle.live_core.proofs.recovery.restore.Goals as goal
 
 one_status : (r : Result Live Status) (s t : Status) → r ≡ Err s → r ≡ Err t → s ≡ t
@@ -75,3 +76,21 @@ pub returns-in-Ok-greet-clause-lawful : goal.returns-in-Ok-greet-clause-lawful
 returns-in-Ok-greet-clause-lawful g c = λ disk told.
     let one = (c.in-Ok.ensures).recovers c.args.from disk (c.begin.ensures.disk ∙ told) in
     holds_read c.args.from _ disk c.read_all.new.self (g.H.Host.outside c.read_all.new.host) ((c.in-Ok-read_all.ensures).recovers _ disk one) (c.in-Ok-read_all.ensures).closed
+
+pub returns-in-Err-read_all-clause-no_header_unsent : goal.returns-in-Err-read_all-clause-no_header_unsent
+returns-in-Err-read_all-clause-no_header_unsent g c = λ disk told none.
+    let header = (c.in-Ok.ensures).header disk (c.begin.ensures.disk ∙ told) in
+    absurd (header_stands disk header.0 header.1 none)
+
+pub returns-in-Ok-greet-clause-no_header_unsent : goal.returns-in-Ok-greet-clause-no_header_unsent
+returns-in-Ok-greet-clause-no_header_unsent g c = λ disk told none.
+    let header = (c.in-Ok.ensures).header disk (c.begin.ensures.disk ∙ told) in
+    absurd (header_stands disk header.0 header.1 none)
+
+pub returns-in-Err-greet-clause-no_header_unsent : goal.returns-in-Err-greet-clause-no_header_unsent
+returns-in-Err-greet-clause-no_header_unsent g c = λ disk told none.
+    let header = (c.in-Ok.ensures).header disk (c.begin.ensures.disk ∙ told) in
+    absurd (header_stands disk header.0 header.1 none)
+
+pub returns-in-Err-clause-no_header_unsent : goal.returns-in-Err-clause-no_header_unsent
+returns-in-Err-clause-no_header_unsent g c = λ disk told none. c.begin.ensures.sent

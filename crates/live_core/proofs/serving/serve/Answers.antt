@@ -2,6 +2,7 @@ use Rattle.std.specs.Prelude.{take}
 use Rattle.std.proofs.Common.{inl, inr, refl}
 use Rattle.host_core.proofs.Moments.{widened, nothing, returned, unchanged}
 use Rattle.wire_in.specs.Cutting.{bodies_of}
+use Rattle.engine_core.proofs.Taken.{takes_none}
 use Rattle.live_core.proofs.Sessions.{pending, settles, part_of}
 use Rattle.live_core.proofs.serving.serve.Goals as goal
 
@@ -72,3 +73,21 @@ returns-in-Err-clause-damage_is_told g c = λ limit at before disk told damaged 
 
 pub returns-in-Err-clause-damage_is_left : goal.returns-in-Err-clause-damage_is_left
 returns-in-Err-clause-damage_is_left g c = λ limit at before disk told damaged. refl
+
+pub returns-in-Ok-clause-limit : goal.returns-in-Ok-clause-limit
+returns-in-Ok-clause-limit g c = c.serve_in.ensures.limit
+
+pub returns-in-Err-clause-limit : goal.returns-in-Err-clause-limit
+returns-in-Err-clause-limit g c = takes_none c.args.options.now.bytes _ _ refl
+
+pub returns-in-Ok-clause-left_alone : goal.returns-in-Ok-clause-left_alone
+returns-in-Ok-clause-left_alone g c = λ disk told none. c.serve_in.ensures.left_alone disk told none
+
+pub returns-in-Err-clause-left_alone : goal.returns-in-Err-clause-left_alone
+returns-in-Err-clause-left_alone g c = λ disk told none. record { input = refl; sent = refl; disk = refl }
+
+pub returns-in-Ok-clause-damage_is_unserved : goal.returns-in-Ok-clause-damage_is_unserved
+returns-in-Ok-clause-damage_is_unserved g c = λ limit at before disk told damaged. c.serve_in.ensures.damage_is_unserved limit at before disk told damaged
+
+pub returns-in-Err-clause-damage_is_unserved : goal.returns-in-Err-clause-damage_is_unserved
+returns-in-Err-clause-damage_is_unserved g c = λ limit at before disk told damaged. refl

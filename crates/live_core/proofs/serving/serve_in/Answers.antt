@@ -1,12 +1,12 @@
-use Rattle.std.proofs.Common.{◌≡◌, ◌≢◌, ◌⊎◌, inl, inr, ℕ, List, refl, sym, ap, subst, ◌∙◌, arith}
+use Rattle.std.proofs.Common.{◌≡◌, ◌⊎◌, inl, inr, refl, ap, subst, ◌∙◌, arith}
 use Rattle.std.specs.Prelude.{Result, Ok, Err, take}
 use Rattle.host_core.specs.declared.status.Status.{Status}
 use Rattle.host_core.specs.declared.status.Status.TheVariants as status
 use Rattle.host_core.proofs.Moments.{widened, returned, further, rose_within}
 use Rattle.wire_in.specs.Cutting.{bodies_of}
-use Rattle.journal_core.specs.Scan.{HasHeader, HasNoHeader}
+use Rattle.engine_core.proofs.Taken.{takes_none, takes_between}
 use Rattle.live_core.specs.declared.session.Live.{Live}
-use Rattle.live_core.specs.Ends.{IsUnread, IsLive, IsUnserved}
+use Rattle.live_core.specs.Ends.{IsUnread, IsLive}
 use Rattle.live_core.proofs.Sessions.{pending, serves_on, settles, part_of, reads_first, header_stands, unread_no_end, live_served, unread_answer, live_answer, completes, has_journal, has_no_damage, lawful_undamaged}
 use Rattle.live_core.proofs.OneDamage.{tells_damage}
 use Rattle.live_core.proofs.serving.serve_in.Goals as goal
@@ -94,6 +94,14 @@ returns-in-Ok-clause-unsent g c = λ is. absurd (subst IsLive is c.answer_input.
 pub returns-in-Err-clause-unsent : goal.returns-in-Err-clause-unsent
 returns-in-Err-clause-unsent g c = λ is. c.restore.ensures.unsent (c.in-Err.is ∙ ap (λ s. Err s) is)
 
+pub returns-in-Ok-clause-left_alone : goal.returns-in-Ok-clause-left_alone
+returns-in-Ok-clause-left_alone g c = λ disk told none.
+    let header = begun c.restore.result c.in-Ok.live _ c.in-Ok.is c.restore.ensures.header disk told in
+    absurd (header_stands disk header.0 header.1 none)
+
+pub returns-in-Err-clause-left_alone : goal.returns-in-Err-clause-left_alone
+returns-in-Err-clause-left_alone g c = λ disk told none. record { input = c.restore.ensures.input; sent = c.restore.ensures.no_header_unsent disk told none; disk = c.restore.ensures.disk }
+
 pub returns-in-Ok-clause-damaged : goal.returns-in-Ok-clause-damaged
 returns-in-Ok-clause-damaged g c = λ at is. absurd (subst IsLive is c.answer_input.ensures.kind)
 
@@ -126,8 +134,25 @@ returns-in-Ok-clause-damage_is_left g c = λ limit at before disk told damaged.
 pub returns-in-Err-clause-damage_is_left : goal.returns-in-Err-clause-damage_is_left
 returns-in-Err-clause-damage_is_left g c = λ limit at before disk told damaged. c.restore.ensures.disk
 
+pub returns-in-Ok-clause-damage_is_unserved : goal.returns-in-Ok-clause-damage_is_unserved
+returns-in-Ok-clause-damage_is_unserved g c = λ limit at before disk told damaged.
+    let all = (c.in-Ok.ensures).lawful disk told in
+    absurd (lawful_undamaged limit at before disk all.0 all.1 damaged all.2 all.3)
+
+pub returns-in-Err-clause-damage_is_unserved : goal.returns-in-Err-clause-damage_is_unserved
+returns-in-Err-clause-damage_is_unserved g c = λ limit at before disk told damaged. c.restore.ensures.input
+
 pub returns-in-Ok-clause-untouched : goal.returns-in-Ok-clause-untouched
 returns-in-Ok-clause-untouched g c = λ un. absurd (live_served c.answer_input.result c.answer_input.ensures.kind un)
+
+pub returns-in-Ok-clause-input_is_left : goal.returns-in-Ok-clause-input_is_left
+returns-in-Ok-clause-input_is_left g c = λ un. absurd (live_served c.answer_input.result c.answer_input.ensures.kind un)
+
+pub returns-in-Ok-clause-limit : goal.returns-in-Ok-clause-limit
+returns-in-Ok-clause-limit g c = takes_between c.args.options.now.bytes _ _ _ _ c.restore.ensures.input refl c.answer_input.ensures.limit
+
+pub returns-in-Err-clause-limit : goal.returns-in-Err-clause-limit
+returns-in-Err-clause-limit g c = takes_none c.args.options.now.bytes _ _ c.restore.ensures.input
 
 pub returns-in-Ok-clause-kind : goal.returns-in-Ok-clause-kind
 returns-in-Ok-clause-kind g c = live_answer c.answer_input.result c.answer_input.ensures.kind

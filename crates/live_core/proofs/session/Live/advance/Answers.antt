@@ -1,4 +1,4 @@
-use Rattle.std.proofs.Common.{refl, ◌∙◌}
+use Rattle.std.proofs.Common.{refl}
 use Rattle.wire_in.specs.Cutting.{bodies_of}
 use Rattle.live_core.specs.Safe.{held_after, due}
 use Rattle.live_core.proofs.Frames.{runs_none, runs_one, serves_none, serves_one, found_by}
