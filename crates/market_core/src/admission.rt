@@ -136,8 +136,9 @@ fn lacks_room(directory: &Directory, x: &Record) -> bool
 }
 
 impl Admission {
-    /// An admission of no records, under a limit of records.
+    /// An admission of no records, under a limit of records. It takes no memory yet.
     pub fn new(alloc: Global, limit: u64) -> Result<Admission, NoMemory>
+        ensures succeeds { IsOk result }
         ensures stands { IfOk result (λ a. StandsFor a []) }
         ensures limit { IfOk result (λ a. a.limit ≡ limit) }
     {

@@ -150,6 +150,7 @@ impl Market {
         ensures err { OnErr result ((self.new ≡ self.old) × (out.new.items ≡ out.old.items)) }
         ensures len { vec_len out.new ≤ vec_len out.old + 16 * length self.old.directory }
         ensures room { vec_len out.old + 16 * length self.old.directory ≤ vec_capacity out.old → IsOk result }
+        ensures capacity { vec_capacity out.old ≤ vec_capacity out.new }
     {
         let _day = matches!(x, Record::Day { .. });
         out.reserve(MOST_SAID * self.symbols.len())?;
@@ -166,6 +167,7 @@ impl Market {
         ensures err { OnErr result ((self.new ≡ self.old) × (out.new.items ≡ out.old.items)) }
         ensures len { vec_len out.new ≤ vec_len out.old + (2 + 16 * length self.old.directory) }
         ensures room { vec_len out.old + (2 + 16 * length self.old.directory) ≤ vec_capacity out.old → IsOk result }
+        ensures capacity { vec_capacity out.old ≤ vec_capacity out.new }
     {
         out.reserve(2 + MOST_SAID * self.symbols.len())?;
         if let Some(today) = &mut self.today {
@@ -183,6 +185,7 @@ impl Market {
         ensures len { vec_len out.new ≤ vec_len out.old + 16 }
         ensures room { is_trade x.now ≡ false → vec_len out.old + 16 ≤ vec_capacity out.old → IsOk result }
         ensures room_for_all { is_trade x.now ≡ false → vec_len out.old + 16 * length self.old.directory ≤ vec_capacity out.old → IsOk result }
+        ensures capacity { vec_capacity out.old ≤ vec_capacity out.new }
     {
         let Some(today) = &self.today else {
             return Ok(());
@@ -231,6 +234,7 @@ impl Market {
         ensures ok { is_full_for self.old.directory name ≡ false → OnOk result (OnToday self.old (λ today. Lists name today x.now self.old self.new out.old.items out.new.items)) }
         ensures err { OnErr result ((self.new ≡ self.old) × (out.new.items ≡ out.old.items)) }
         ensures len { vec_len out.new ≤ vec_len out.old + 16 }
+        ensures capacity { vec_capacity out.old ≤ vec_capacity out.new }
     {
         if is_full_for(&self.directory, name) {
             return Ok(());
@@ -247,6 +251,7 @@ impl Market {
         ensures err { OnErr result ((self.new ≡ self.old) × (out.new.items ≡ out.old.items)) }
         ensures len { vec_len out.new ≤ vec_len out.old + (2 + 16 * 16384) }
         ensures room { name_of x.now ≡ None → is_trade x.now ≡ false → vec_len out.old + (2 + 16 * length self.old.directory) ≤ vec_capacity out.old → IsOk result }
+        ensures capacity { vec_capacity out.old ≤ vec_capacity out.new }
     {
         let _names = self.directory.len();
         match *x {
@@ -272,7 +277,7 @@ impl Market {
     /// Applies a record that is admissible after the applied ones, and appends the messages of its step. What it appends
     /// of one symbol is what that symbol says alone, over its own records and the market-wide ones. An error
     /// leaves market and list as they were. It takes no memory where the record is neither a Listing nor a Trade and
-    /// the list has room for 2 messages and 16 for each name.
+    /// the list has room for 2 messages and 16 for each name. The list keeps its room.
     pub fn apply(&mut self, x: &Record, out: &mut Vec<Stamped>) -> Result<(), NoMemory>
         ensures given { (limit : ℕ) (applied : List Record) → StandsFor self.old applied → verdict limit applied x.now ≡ None
             → OnOk result (out.new.items ≡ out.old.items ++ newest_messages (x.now ∷ applied)) }
@@ -284,6 +289,7 @@ impl Market {
         ensures few { vec_len out.new ≤ vec_len out.old + (2 + 16 * 16384) }
         ensures room { name_of x.now ≡ None → is_trade x.now ≡ false
             → vec_len out.old + (2 + 16 * length self.old.directory) ≤ vec_capacity out.old → IsOk result }
+        ensures capacity { vec_capacity out.old ≤ vec_capacity out.new }
     {
         self.keep(x, out)
     }

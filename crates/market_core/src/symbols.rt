@@ -69,6 +69,7 @@ pub(crate) fn evaluate_each(
     requires room { vec_len out.old + 16 * length symbols.old ≤ vec_capacity out.old }
     ensures tells { TellsBelow (length symbols.old) market.now x.now symbols.old symbols.new out.old.items out.new.items }
     ensures said { 16 ≤ vec_capacity said.new }
+    ensures room { vec_capacity out.old ≤ vec_capacity out.new }
     ensures len { vec_len out.new ≤ vec_len out.old + 16 * length symbols.old }
 {
     for i in 0..symbols.len() {
