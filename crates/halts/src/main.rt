@@ -1,6 +1,8 @@
 //! Trading halts of US equities over a live input and a journal.
 #![tactic(auto)]
 
+ghost use Rattle.std.specs.Prelude.{◌≡◌, IsOk};
+
 mod run;
 #[cfg(test)]
 mod tests;
@@ -36,7 +38,9 @@ fn start<Rt: Env + Input + Print + Files + AllocGlobal + Threads + Sync>(
 }
 
 /// Tells on standard error how a run ended that didn't go well.
-fn tell<Rt: Eprint>(rt: &Rt, status: Status) -> io::Result<()> {
+fn tell<Rt: Eprint>(rt: &Rt, status: Status) -> io::Result<()>
+    ensures { status ≡ Status.Done → IsOk result }
+{
     match status {
         Status::Done => Ok(()),
         Status::Usage => eprintln!(rt; "halts: usage: halts <journal> format|serve|replay"),

@@ -1,5 +1,5 @@
 use Rattle.std.proofs.Common.{sym, subst}
-use Rattle.halts.specs.Runs.{Formatted, Served, Replayed, Ran}
+use Rattle.halts.specs.Runs.{Served, Replayed, Ran}
 use Rattle.halts.proofs.run.obey.Goals as goal
 
 pub returns-in-Format-clause-ran : goal.returns-in-Format-clause-ran
@@ -18,11 +18,15 @@ returns-in-Serve-clause-ran g c =
       no_journal = c.serve.ensures.no_journal;
       no_header = c.serve.ensures.no_header;
       unsent = c.serve.ensures.unsent;
+      left_alone = c.serve.ensures.left_alone;
       damaged = c.serve.ensures.damaged;
       undamaged = c.serve.ensures.undamaged;
       damage_is_told = c.serve.ensures.damage_is_told;
       damage_is_left = c.serve.ensures.damage_is_left;
+      damage_is_unserved = c.serve.ensures.damage_is_unserved;
       untouched = c.serve.ensures.untouched;
+      input_is_left = c.serve.ensures.input_is_left;
+      limit = c.serve.ensures.limit;
       complete = c.serve.ensures.complete;
       read_cause = c.serve.ensures.read_cause;
       send_cause = c.serve.ensures.send_cause;
@@ -34,9 +38,11 @@ returns-in-Serve-clause-ran g c =
 pub returns-in-Replay-clause-ran : goal.returns-in-Replay-clause-ran
 returns-in-Replay-clause-ran g c =
     let replayed : Replayed c.in-Replay.bytes c.replay.result (g.H.Host.outside c.args.host.now) (g.H.Host.outside c.replay.new.host) = record {
+      moments = c.replay.ensures.moments;
       exact = c.replay.ensures.exact;
       unread = c.replay.ensures.unread;
       part = c.replay.ensures.part;
+      limit = c.replay.ensures.limit;
       complete = c.replay.ensures.complete;
       read_cause = c.replay.ensures.read_cause;
       send_cause = c.replay.ensures.send_cause;
