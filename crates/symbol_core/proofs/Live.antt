@@ -26,6 +26,16 @@ same-added t deals more = record {
       ∙ sym (filter-append (is_live u) deals more);
 }
 
+-- those that are five minutes old count for nothing
+pub same-live : (t : ℕ) (deals : List Deal) → SameLive t (live t deals) deals
+same-live t deals = record { at = λ u le. live-live t u le deals }
+
+pub same_kept : (t : ℕ) (fresh : Bool) (a b own : List Deal) → SameLive t a b → SameLive t ((if fresh then [] else a) ++ own) ((if fresh then [] else b) ++ own)
+same_kept t true a b own same = record { at = λ u le. refl }
+same_kept t false a b own same = record {
+  at = λ u le. filter-append (is_live u) a own ∙ ap (λ (xs : List Deal). xs ++ live u own) (same.at u le) ∙ sym (filter-append (is_live u) b own);
+}
+
 -- which are live themselves, where the added ones are
 pub live-added : (t : ℕ) (deals more : List Deal) → live t more ≡ more → live t (live t deals ++ more) ≡ live t deals ++ more
 live-added t deals more e =

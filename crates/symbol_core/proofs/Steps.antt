@@ -6,12 +6,13 @@ use Rattle.wire_in.specs.declared.record.Record.TheVariants as in_
 use Rattle.wire_in.specs.Records.{is_day}
 use Rattle.wire_out.specs.declared.message.Message.{Message}
 use Rattle.window_core.specs.declared.window.Deal.{Deal}
+use Rattle.window_core.specs.Deals.{live}
 use Rattle.rulebook.specs.declared.event.Event.{Event}
 use Rattle.rulebook.specs.declared.event.Event.TheVariants.{Accepted}
 use Rattle.rulebook.specs.Book.{all_obeyed, announced, symbol_rules}
-use Rattle.rulebook.specs.History.{publish, records}
+use Rattle.rulebook.specs.History.{now, publish, records}
 use Rattle.rulebook.specs.Market.{day_record, is_stopped}
-use Rattle.rulebook.specs.Symbol.{deals_in}
+use Rattle.rulebook.specs.Symbol.{deals_in, deals_of}
 use Rattle.rulebook.proofs.Histories.{records-publish}
 use Rattle.symbol_core.specs.declared.kept.Kept.{Kept}
 use Rattle.symbol_core.specs.declared.kept.Step.{Step}
@@ -20,11 +21,12 @@ use Rattle.symbol_core.specs.Kept.{announcing}
 use Rattle.symbol_core.specs.Stands.{named, Says, Stands, ObeysAll}
 use Rattle.symbol_core.specs.Steps.{Starts, Steps}
 use Rattle.symbol_core.specs.Taken.{finished, leaves, taken}
-use Rattle.symbol_core.specs.Window.{SameLive}
+use Rattle.symbol_core.specs.Window.{SameLive, counted_deal, window}
 use Rattle.symbol_core.proofs.Apart.{stands-others}
 use Rattle.symbol_core.proofs.Chains.{publish-append}
 use Rattle.symbol_core.proofs.Finished.{rests-finished}
 use Rattle.symbol_core.proofs.Gives.{announced-gives}
+use Rattle.symbol_core.proofs.Live.{same-live, same_kept, same_then}
 use Rattle.symbol_core.proofs.Taken.{own-taken, stands-taken}
 
 pub day_record-after : (x : Record) (r : List Record) → is_day x ≡ false → day_record (x ∷ r) ≡ day_record r
@@ -55,15 +57,45 @@ day_opened mine step k kept others h p ms =
     ap (λ (r : List Record). day_record r) (records-publish ms (open_history step.input others h) ∙ records-publish others (Accepted step.input ∷ h))
     ∙ day_record-after step.input (records h) p.no_day ∙ p.day
 
--- what the code does at a record, call by call
-pub record Parts (step : Step) (k said mid : Kept) (kept left : List Deal) (before between after : List Message) : Type 0 where
-  pub announces : Says (announcing (taken k step) step.input) step (taken k step) said before between
-  pub obeys : ObeysAll (filter (leaves k.id step.input) kept) symbol_rules step said mid between after
-  pub keeps : SameLive step.moment left ((if mid.is_fresh then [] else filter (leaves k.id step.input) kept) ++ (if is_some mid.begun then option_to_list (taken k step).deal else []))
+-- other kept deals of which the same are live serve as well
+stands-same : (mine : List ℕ → Bool) (k : Kept) (deals other : List Deal) (step : Step) (h : List Event) → SameLive step.moment other deals → Stands mine k deals step h → Stands mine k other step h
+stands-same mine k deals other step h same s =
+    record {
+      moment = s.moment;
+      stopped = s.stopped;
+      input = s.input;
+      terms = s.terms;
+      phase = s.phase;
+      since = s.since;
+      begun = s.begun;
+      quote = s.quote;
+      band = s.band;
+      adopted = s.adopted;
+      straddling = s.straddling;
+      halted = s.halted;
+      round = s.round;
+      origin = s.origin;
+      indication = s.indication;
+      triggered = s.triggered;
+      carried = s.carried;
+      left_limit = s.left_limit;
+      released = s.released;
+      deal = s.deal;
+      window =
+          same_then (now h) (window k other) (window k deals) (deals_of step.day h k.id)
+          (same_kept (now h) k.is_fresh other deals (counted_deal k) (subst (λ (t : ℕ). SameLive t other deals) s.moment same)) s.window;
+    }
 
-evaluated : (step : Step) (k said mid : Kept) (kept left : List Deal) (before between after : List Message) → Parts step k said mid kept left before between after
+-- what the code does at a record, call by call
+pub record Parts (step : Step) (k said mid : Kept) (kept dropped left : List Deal) (before between after : List Message) : Type 0 where
+  pub announces : Says (announcing (taken k step) step.input) step (taken k step) said before between
+  pub drops : SameLive step.moment dropped (filter (leaves k.id step.input) kept)
+  pub obeys : ObeysAll dropped symbol_rules step said mid between after
+  pub keeps : SameLive step.moment left ((if mid.is_fresh then [] else dropped) ++ (if is_some mid.begun then option_to_list (taken k step).deal else []))
+
+evaluated : (step : Step) (k said mid : Kept) (kept dropped left : List Deal) (before between after : List Message) → Parts step k said mid kept dropped left before between after
     → Steps step k (finished mid step) kept left before after
-evaluated step k said mid kept left before between after parts =
+evaluated step k said mid kept dropped left before between after parts =
     record {
       says = λ mine others h p.
           let H = open_history step.input others h in
@@ -85,37 +117,36 @@ evaluated step k said mid kept left before between after parts =
       id = o.id ∙ a.id;
     }
   where
-    dropped : List Deal
-    dropped = filter (leaves k.id step.input) kept
-
     a : Says (announcing (taken k step) step.input) step (taken k step) said before between
     a = parts.announces
 
-    o : ObeysAll (filter (leaves k.id step.input) kept) symbol_rules step said mid between after
+    o : ObeysAll dropped symbol_rules step said mid between after
     o = parts.obeys
+
+    stands : (mine : List ℕ → Bool) (others : List Message) (h : List Event) → Starts mine k kept step others h → Stands mine (taken k step) dropped step (open_history step.input others h)
+    stands mine others h p = stands-same mine (taken k step) (filter (leaves k.id step.input) kept) dropped step (open_history step.input others h) parts.drops (stands-opened mine step k kept others h p)
 
     gives : (mine : List ℕ → Bool) (others : List Message) (h : List Event) → Starts mine k kept step others h
         → announced (named mine k.id) step.input (open_history step.input others h) ≡ announcing (taken k step) step.input
-    gives mine others h p = announced-gives (taken k step) step mine dropped (open_history step.input others h) step.input (stands-opened mine step k kept others h p)
+    gives mine others h p = announced-gives (taken k step) step mine dropped (open_history step.input others h) step.input (stands mine others h p)
 
     opened : (mine : List ℕ → Bool) (others : List Message) (h : List Event) → Starts mine k kept step others h
         → Stands mine said dropped step (publish (announced (named mine k.id) step.input (open_history step.input others h)) (open_history step.input others h))
-    opened mine others h p = rw (gives mine others h p) (a.stands mine dropped (open_history step.input others h) (stands-opened mine step k kept others h p))
+    opened mine others h p = rw (gives mine others h p) (a.stands mine dropped (open_history step.input others h) (stands mine others h p))
 
-pub step-evaluates : (step : Step) (k said mid took new : Kept) (kept dropped lent left : List Deal) (before between after : List Message)
-    → dropped ≡ filter (leaves k.id step.input) kept → lent ≡ dropped → took ≡ taken k step
+pub step-evaluates : (step : Step) (k said mid took new : Kept) (kept stayed dropped lent left : List Deal) (before between after : List Message)
+    → stayed ≡ filter (leaves k.id step.input) kept → dropped ≡ live step.moment stayed → lent ≡ dropped → took ≡ taken k step
     → Says (announcing took step.input) step took said before between
     → ObeysAll lent symbol_rules step said mid between after
     → SameLive step.moment left ((if mid.is_fresh then [] else dropped) ++ (if is_some mid.begun then option_to_list took.deal else []))
     → new ≡ finished mid step
     → Steps step k new kept left before after
-step-evaluates step k said mid took new kept dropped lent left before between after d l t a o f n =
+step-evaluates step k said mid took new kept stayed dropped lent left before between after s d l t a o f n =
     subst (λ (m : Kept). Steps step k m kept left before after) (sym n)
-    (evaluated step k said mid kept left before between after
+    (evaluated step k said mid kept dropped left before between after
     (record {
       announces = subst (λ (m : Kept). Says (announcing m step.input) step m said before between) t a;
-      obeys = subst (λ (ds : List Deal). ObeysAll ds symbol_rules step said mid between after) (l ∙ d) o;
-      keeps =
-          subst (λ (m : Kept). SameLive step.moment left ((if mid.is_fresh then [] else filter (leaves k.id step.input) kept) ++ (if is_some mid.begun then option_to_list m.deal else []))) t
-          (subst (λ (ds : List Deal). SameLive step.moment left ((if mid.is_fresh then [] else ds) ++ (if is_some mid.begun then option_to_list took.deal else []))) d f);
+      drops = subst (λ (ds : List Deal). SameLive step.moment ds (filter (leaves k.id step.input) kept)) (sym (d ∙ ap (live step.moment) s)) (same-live step.moment (filter (leaves k.id step.input) kept));
+      obeys = subst (λ (ds : List Deal). ObeysAll ds symbol_rules step said mid between after) l o;
+      keeps = subst (λ (m : Kept). SameLive step.moment left ((if mid.is_fresh then [] else dropped) ++ (if is_some mid.begun then option_to_list m.deal else []))) t f;
     }))

@@ -210,6 +210,7 @@ fn take_step(k: &mut Kept, deals: &mut SummedDeals, step: &Step, out: &mut Vec<M
     ensures recent { step.now.moment ≡ moment_of step.now.input → live step.now.moment deals.new.deals ≡ deals.new.deals }
 {
     drop_cancelled(k.id, &step.input, deals);
+    deals.keep_live(step.moment);
     k.take(step);
     let deal = k.deal;
     k.announce(step, out);

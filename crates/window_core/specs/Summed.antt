@@ -1,5 +1,6 @@
 -- Deals with the sum of their prices.
-use Rattle.std.specs.Prelude.{ℕ, ◌≤◌, List, All, length}
+use Rattle.std.specs.Prelude.{◌≡◌, ℕ, ◌≤◌, Bool, true, List, [], ◌∷◌, length}
+use Rattle.price_core.specs.Ranges.{IsPrice}
 use Rattle.window_core.specs.declared.window.Deal.{Deal}
 use Rattle.window_core.specs.Tallies.{Tallies}
 
@@ -8,7 +9,29 @@ pub record Holding : Type 0 where
   pub deals : List Deal
   pub spare : ℕ
 
--- a sum is that of the deals' prices, and none of the deals is before a moment
-pub record IsSummed (sum earliest : ℕ) (deals : List Deal) : Type 0 where
+-- none of the deals is before a moment
+abbrev pub AllFrom : ℕ → List Deal → Type 0
+AllFrom t [] = Unit {0}
+AllFrom t (d ∷ deals) = (t ≤ d.moment) × AllFrom t deals
+
+-- none is after it
+abbrev pub AllUpTo : ℕ → List Deal → Type 0
+AllUpTo t [] = Unit {0}
+AllUpTo t (d ∷ deals) = (d.moment ≤ t) × AllUpTo t deals
+
+-- moments don't fall
+abbrev pub InOrder : List Deal → Type 0
+InOrder [] = Unit {0}
+InOrder (d ∷ deals) = AllFrom d.moment deals × InOrder deals
+
+-- each has a price
+abbrev pub AllPriced : List Deal → Type 0
+AllPriced [] = Unit {0}
+AllPriced (d ∷ deals) = IsPrice d.price × AllPriced deals
+
+-- a sum is that of the deals' prices, none of the deals is after a moment, and where it is said that they are in order they are
+pub record IsSummed (sum newest : ℕ) (is_ordered : Bool) (deals : List Deal) : Type 0 where
   pub tallies : Tallies sum (length deals) deals
-  pub early : All (λ d. earliest ≤ d.moment) deals
+  pub priced : AllPriced deals
+  pub late : AllUpTo newest deals
+  pub order : is_ordered ≡ true → InOrder deals

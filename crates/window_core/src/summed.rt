@@ -1,5 +1,6 @@
 // Deals with the sum of their prices, so that their mean is known without adding them up.
-ghost use Rattle.std.specs.Prelude.{◌≡◌, true, ◌+◌, ◌*◌, ◌≤◌, ◌<◌, ◌++◌, ◌∷◌, [], All, IsOk, IfOk, OnOk, filter, length, option_map, option_to_list, slice_get, sum_by, vec_len, vec_capacity};
+ghost use Rattle.std.specs.Prelude.{◌≡◌, true, ◌+◌, ◌*◌, ◌≤◌, ◌<◌, ◌++◌, ◌∷◌, ◌&&◌, [], IsOk, IfOk, OnOk, nat_le, filter, length, option_map, option_to_list, slice_get, sum_by};
+ghost use Rattle.std.specs.VecDeque.{deque_len, deque_capacity};
 ghost use Rattle.window_core.specs.Deals.{live, mean_of, stays};
 ghost use Rattle.window_core.specs.Tallies.{Tallies};
 
@@ -7,40 +8,44 @@ use crate::window::{Deal, Tally};
 use price_core::{NoMemory, Price};
 use session_core::Moment;
 use std::alloc::Global;
+use std::collections::VecDeque;
 use std::marker::Model;
 
 /// Takes away the deals that are five minutes old.
-fn keep_live(t: Moment, deals: &mut Vec<Deal>)
+fn keep_live(t: Moment, deals: &mut VecDeque<Deal>)
     ensures items { deals.new.items ≡ live t deals.old.items }
-    ensures len { vec_len deals.new ≤ vec_len deals.old }
-    ensures capacity { vec_capacity deals.new ≡ vec_capacity deals.old }
+    ensures len { deque_len deals.new ≤ deque_len deals.old }
+    ensures capacity { deque_capacity deals.new ≡ deque_capacity deals.old }
 {
     deals.retain(|deal| deal.is_live(t));
 }
 
 /// Takes away the deals of a number.
-fn take_away(number: u32, deals: &mut Vec<Deal>)
+fn take_away(number: u32, deals: &mut VecDeque<Deal>)
     ensures items { deals.new.items ≡ filter (stays number) deals.old.items }
-    ensures len { vec_len deals.new ≤ vec_len deals.old }
-    ensures capacity { vec_capacity deals.new ≡ vec_capacity deals.old }
+    ensures len { deque_len deals.new ≤ deque_len deals.old }
+    ensures capacity { deque_capacity deals.new ≡ deque_capacity deals.old }
 {
     deals.retain(|deal| deal.number != number);
 }
 
-fn push_deal(deal: Deal, deals: &mut Vec<Deal>)
-    requires { vec_len deals.old + 1 ≤ vec_capacity deals.old }
+fn push_deal(deal: Deal, deals: &mut VecDeque<Deal>)
+    requires { deque_len deals.old + 1 ≤ deque_capacity deals.old }
     ensures items { deals.new.items ≡ deals.old.items ++ deal ∷ [] }
-    ensures len { vec_len deals.new ≡ vec_len deals.old + 1 }
-    ensures capacity { vec_capacity deals.old ≤ vec_capacity deals.new }
+    ensures len { deque_len deals.new ≡ deque_len deals.old + 1 }
+    ensures capacity { deque_capacity deals.old ≤ deque_capacity deals.new }
 {
-    deals.push(deal).unwrap();
+    deals.push_back(deal).unwrap();
 }
 
-/// The moment of the first deal.
-fn first_moment(deals: &[Deal]) -> Option<Moment>
-    ensures { result ≡ option_map (λ d. d.moment) (slice_get deals.now 0) }
+/// The first deal.
+fn first(deals: &VecDeque<Deal>) -> Option<Deal>
+    ensures { result ≡ slice_get deals.now.items 0 }
 {
-    deals.first().map(|deal| deal.moment)
+    match deals.front() {
+        Some(deal) => Some(*deal),
+        None => None,
+    }
 }
 
 /// The sum of the prices.
@@ -56,46 +61,55 @@ fn total(deals: &[Deal]) -> u128
     total
 }
 
-/// The last moment of a day.
-fn last_moment() -> Moment {
-    Moment::new(86_399_999_999_999).unwrap()
-}
-
-fn earlier(a: Moment, b: Moment) -> Moment
-    ensures first { result ≤ a }
-    ensures second { result ≤ b }
+/// The sum of the prices of all.
+fn total_of(deals: &VecDeque<Deal>) -> u128
+    ensures { Tallies result (length deals.now.items) deals.now.items }
 {
-    if a.nanos() < b.nanos() { a } else { b }
+    let (front, back) = deals.as_slices();
+    total(front) + total(back)
 }
 
-/// A moment that none of the deals is before: the earliest of theirs.
-fn earliest(deals: &[Deal]) -> Moment
-    ensures { All (λ d. result ≤ d.moment) deals.now }
+/// The moment at which a day begins.
+fn midnight() -> Moment
+    ensures { result ≡ 0 }
 {
-    let mut least = last_moment();
-    for deal in deals {
-        least = earlier(least, deal.moment);
-    }
-    least
+    Moment::new(0).unwrap()
 }
 
-/// Deals, and beside them the sum of their prices and a moment that none of them is before.
+fn later(a: Moment, b: Moment) -> Moment
+    ensures first { a ≤ result }
+    ensures second { b ≤ result }
+{
+    if a.nanos() < b.nanos() { b } else { a }
+}
+
+/// Whether deals of which none is after a moment stay in order with this one behind them.
+fn stays_ordered(is_ordered: bool, newest: Moment, d: &Deal) -> bool
+    ensures { result ≡ (is_ordered && nat_le newest d.now.moment) }
+{
+    is_ordered && newest.nanos() <= d.moment.nanos()
+}
+
+/// Deals, and beside them the sum of their prices, a moment that none of them is after, and whether they are known to be
+/// in order.
 #[derive(Debug, Drop)]
 pub struct SummedDeals {
-    items: Vec<Deal>,
+    items: VecDeque<Deal>,
     sum: u128,
-    earliest: Moment,
+    newest: Moment,
+    is_ordered: bool,
 }
 
 impl Model for SummedDeals {
-    ghost use Rattle.std.specs.Prelude.{◌-◌, vec_len, vec_capacity};
+    ghost use Rattle.std.specs.Prelude.{◌-◌};
+    ghost use Rattle.std.specs.VecDeque.{deque_len, deque_capacity};
     ghost use Rattle.window_core.specs.Summed.{Holding, IsSummed};
 
     ghost Value = { Holding };
 
-    ghost view = { λ s. record { deals = s.items.items; spare = vec_capacity s.items - vec_len s.items } };
+    ghost view = { λ s. record { deals = s.items.items; spare = deque_capacity s.items - deque_len s.items } };
 
-    ghost invariant = { λ s. IsSummed s.sum s.earliest s.items.items };
+    ghost invariant = { λ s. IsSummed s.sum s.newest s.is_ordered s.items.items };
 }
 
 impl SummedDeals {
@@ -105,9 +119,10 @@ impl SummedDeals {
         ensures empty { IfOk result (λ s. s.deals ≡ []) }
     {
         Ok(SummedDeals {
-            items: Vec::new(alloc),
+            items: VecDeque::new(alloc),
             sum: 0,
-            earliest: last_moment(),
+            newest: midnight(),
+            is_ordered: true,
         })
     }
 
@@ -131,29 +146,63 @@ impl SummedDeals {
         ensures spare { self.old.spare ≤ self.new.spare + 1 }
     {
         self.sum += u128::from(d.price.units());
-        self.earliest = earlier(self.earliest, d.moment);
+        self.is_ordered = stays_ordered(self.is_ordered, self.newest, &d);
+        self.newest = later(self.newest, d.moment);
         push_deal(d, &mut self.items);
     }
 
-    /// Whether each deal is known to be less than five minutes old: none is before a moment that is. It takes one
-    /// comparison, however many deals there are.
+    /// Whether each deal is known to be less than five minutes old: the first of them is, and they are in order. It takes
+    /// two comparisons, however many deals there are.
     pub fn are_live(&self, t: Moment) -> bool
         ensures { result ≡ true → live t self.now.deals ≡ self.now.deals }
     {
-        t.nanos() < self.earliest.nanos() + 300_000_000_000
+        if !self.is_ordered {
+            return false;
+        }
+        match first(&self.items) {
+            Some(deal) => deal.is_live(t),
+            None => true,
+        }
     }
 
-    /// Takes away the deals that are five minutes old.
+    /// Takes the first deal away where it is five minutes old, and tells whether it did.
+    fn drop_first(&mut self, t: Moment) -> bool
+        ensures live { live t self.new.deals ≡ live t self.old.deals }
+        ensures spare { self.old.spare ≤ self.new.spare }
+    {
+        match first(&self.items) {
+            Some(deal) if !deal.is_live(t) => {
+                self.sum -= u128::from(deal.price.units());
+                let _ = self.items.pop_front();
+                true
+            }
+            _ => false,
+        }
+    }
+
+    /// Looks at each deal, and takes away those that are five minutes old.
+    fn keep_live_of_all(&mut self, t: Moment)
+        ensures deals { self.new.deals ≡ live t self.old.deals }
+        ensures spare { self.old.spare ≤ self.new.spare }
+    {
+        keep_live(t, &mut self.items);
+        self.sum = total_of(&self.items);
+    }
+
+    /// Takes away the deals that are five minutes old. While deals are in order it looks at those and one more, however
+    /// many there are.
     pub fn keep_live(&mut self, t: Moment)
         ensures deals { self.new.deals ≡ live t self.old.deals }
         ensures spare { self.old.spare ≤ self.new.spare }
     {
-        if self.are_live(t) {
-            return;
+        for _ in 0..self.items.len() {
+            if self.are_live(t) || !self.drop_first(t) {
+                break;
+            }
         }
-        keep_live(t, &mut self.items);
-        self.sum = total(&self.items);
-        self.earliest = earliest(&self.items);
+        if !self.are_live(t) {
+            self.keep_live_of_all(t);
+        }
     }
 
     /// Takes away the deals of a number.
@@ -162,7 +211,7 @@ impl SummedDeals {
         ensures spare { self.old.spare ≤ self.new.spare }
     {
         take_away(number, &mut self.items);
-        let left = total(&self.items);
+        let left = total_of(&self.items);
         self.sum = left;
     }
 
@@ -173,14 +222,15 @@ impl SummedDeals {
     {
         self.items.clear();
         self.sum = 0;
-        self.earliest = last_moment();
+        self.newest = midnight();
+        self.is_ordered = true;
     }
 
     /// The moment of the first deal.
     pub fn first_moment(&self) -> Option<Moment>
         ensures { result ≡ option_map (λ d. d.moment) (slice_get self.now.deals 0) }
     {
-        first_moment(&self.items)
+        first(&self.items).map(|deal| deal.moment)
     }
 
     fn tally(&self) -> Tally
@@ -193,6 +243,15 @@ impl SummedDeals {
         }
     }
 
+    /// Looks at each deal.
+    fn tally_each(&self, t: Moment) -> Tally
+        ensures tallies { Tallies result.sum result.count (live t self.now.deals) }
+        ensures few { result.count < 18446744073709551615 }
+    {
+        let (front, back) = self.items.as_slices();
+        Tally::of(t, front).and(&Tally::of(t, back))
+    }
+
     fn tally_live(&self, t: Moment) -> Tally
         ensures tallies { Tallies result.sum result.count (live t self.now.deals) }
         ensures few { result.count < 18446744073709551615 }
@@ -200,7 +259,7 @@ impl SummedDeals {
         if self.are_live(t) {
             self.tally()
         } else {
-            Tally::of(t, &self.items)
+            self.tally_each(t)
         }
     }
 
