@@ -11,7 +11,7 @@ ghost use Rattle.afresh_core.specs.Rounds.{AreTimely};
 
 use crate::context::{Context, at_most_one, becomes, followed, phase_now, state};
 use history_core::{
-    indication, is_halted, is_paused, is_stopped, last_band, last_round, origin, origin_of, since,
+    indication, is_under_regulatory_halt, is_paused, is_market_halted, last_band, last_round, origin, origin_of, since,
     was_straddling,
 };
 use limit_core::has_lasted;
@@ -38,8 +38,8 @@ fn brakes(c: &Context) -> Brakes
     Brakes {
         closed: is_closed(c.moment, &c.day),
         in_session: in_session(c.moment, &c.day),
-        stopped: is_stopped(c.history),
-        halted: is_halted(c.history, c.symbol),
+        stopped: is_market_halted(c.history),
+        halted: is_under_regulatory_halt(c.history, c.symbol),
     }
 }
 

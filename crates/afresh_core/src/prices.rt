@@ -15,7 +15,7 @@ use history_core::{
 use pause_core::{is_limit, is_trading};
 use percent_core::{bands, category, percent, span};
 use price_core::{Bands, Cause, NoMemory, Price};
-use refprice_core::{Adoption, Priced, because, forced, is_opening};
+use refprice_core::{Adoption, Priced, because, forced, is_in_opening_period};
 use rulebook::{Banded, Event, Terms};
 use session_core::{Day, Moment};
 use std::alloc::Global;
@@ -119,7 +119,7 @@ fn mean_now(alloc: Global, c: &Context) -> Result<Option<Price>, NoMemory>
 fn opening(c: &Context, mean: Option<Price>) -> Option<Price>
     ensures { result ≡ prices.first_price (begun c.now.history.now c.now.symbol) c.now.moment (offered (context_of c.now)) mean }
 {
-    if is_opening(begun(c.history, c.symbol), c.moment) {
+    if is_in_opening_period(begun(c.history, c.symbol), c.moment) {
         offered(c)
     } else {
         mean

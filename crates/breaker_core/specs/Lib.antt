@@ -1,3 +1,3 @@
 pub mod Levels
 pub mod Days
-pub mod Kept
+pub mod BreakerState

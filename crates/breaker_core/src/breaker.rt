@@ -72,20 +72,20 @@ pub struct Breaker {
 impl Model for Breaker {
     ghost use Rattle.std.specs.Option.{option_map_or};
     ghost use Rattle.breaker_core.specs.Levels.{percent_of};
-    ghost use Rattle.breaker_core.specs.Kept.{Kept};
+    ghost use Rattle.breaker_core.specs.BreakerState.{BreakerState};
 
-    ghost Value = { Kept };
+    ghost Value = { BreakerState };
 
     ghost view = { λ b. record { close = b.close; greatest = option_map_or percent_of b.greatest 0; halt = b.halt } };
 }
 
 impl Breaker {
-    ghost use Rattle.breaker_core.specs.Kept.{started, resumed, with_declared, Stands};
+    ghost use Rattle.breaker_core.specs.BreakerState.{started, resumed, with_declared, Represents};
 
     /// No level declared, with the index close of the day before in hundredths of an index point.
     pub fn start(close: Index) -> Breaker
         ensures value { result ≡ started close }
-        ensures stands { Stands result [] }
+        ensures stands { Represents result [] }
     {
         Breaker {
             close,
@@ -99,8 +99,8 @@ impl Breaker {
     pub fn time(&mut self, t: Moment) -> bool
         ensures ends { result ≡ ends t self.old.halt }
         ensures value { self.new ≡ resumed t self.old }
-        ensures answer { (calls : List Call) → Stands self.old calls → result ≡ ends t (halt_in (answers self.old.close calls)) }
-        ensures stands { (calls : List Call) → Stands self.old calls → Stands self.new (Time t ∷ calls) }
+        ensures answer { (calls : List Call) → Represents self.old calls → result ≡ ends t (halt_in (answers self.old.close calls)) }
+        ensures stands { (calls : List Call) → Represents self.old calls → Represents self.new (Time t ∷ calls) }
     {
         let ends = match &self.halt {
             Some(halt) => halt.is_over(t),
@@ -117,9 +117,9 @@ impl Breaker {
     pub fn index(&mut self, t: Moment, now: Index, day: &Day) -> Option<Level>
         ensures level { result ≡ declares self.old.halt self.old.greatest self.old.close day.now t now }
         ensures value { self.new ≡ with_declared t result self.old }
-        ensures answer { (calls : List Call) → Stands self.old calls
+        ensures answer { (calls : List Call) → Represents self.old calls
             → result ≡ declared_after (answers self.old.close calls) self.old.close day.now t now }
-        ensures stands { (calls : List Call) → Stands self.old calls → Stands self.new (Tick t now day.now ∷ calls) }
+        ensures stands { (calls : List Call) → Represents self.old calls → Represents self.new (Tick t now day.now ∷ calls) }
     {
         let level = level_reached(now, self.close)?;
         if !self.may_declare(level, t, day) {
@@ -133,7 +133,7 @@ impl Breaker {
     /// Whether a halt is in effect.
     pub fn stopped(&self) -> bool
         ensures value { result ≡ is_some self.now.halt }
-        ensures answer { (calls : List Call) → Stands self.now calls → result ≡ is_some (halt_in (answers self.now.close calls)) }
+        ensures answer { (calls : List Call) → Represents self.now calls → result ≡ is_some (halt_in (answers self.now.close calls)) }
     {
         self.halt.is_some()
     }

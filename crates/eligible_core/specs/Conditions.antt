@@ -16,8 +16,8 @@ abbrev pub is_eligible : ℕ → ℕ → Day → Bool
 is_eligible flags t day = in_session t day && (bit_and flags barring_bits == 0)
 
 -- an opening or reopening trade of the primary listing exchange
-abbrev pub is_opening : ℕ → Bool
-is_opening flags = not (bit_and flags 1 == 0)
+abbrev pub is_opening_trade : ℕ → Bool
+is_opening_trade flags = not (bit_and flags 1 == 0)
 
 -- The same, bit by bit.
 

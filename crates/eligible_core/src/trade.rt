@@ -1,5 +1,5 @@
 ghost use Rattle.std.specs.Prelude.{◌≡◌, ◌<◌};
-ghost use Rattle.eligible_core.specs.Conditions.{is_eligible, is_opening, has_barring_bit, is_set};
+ghost use Rattle.eligible_core.specs.Conditions.{is_eligible, is_opening_trade, has_barring_bit, is_set};
 
 use crate::condition::Condition;
 use session_core::{Day, Moment, in_session};
@@ -14,7 +14,7 @@ pub fn eligible(flags: u16, t: Moment, day: &Day) -> bool
 
 /// Whether a trade with these condition bits is an opening or reopening trade of the primary listing exchange.
 pub fn opening(flags: u16) -> bool
-    ensures { result ≡ is_opening flags }
+    ensures { result ≡ is_opening_trade flags }
 {
     is_set(flags, 0)
 }

@@ -8,7 +8,7 @@ use Rattle.std.specs.Io.KnownBytes.{append_known}
 use Rattle.std.proofs.lemmas.List.{take-append-drop, append-nil}
 use Rattle.host_core.specs.Outside.{Outside, Grows}
 use Rattle.host_core.proofs.Moments.{unchanged, further}
-use Rattle.host_core.proofs.Told.{append_known-nil, append_known-append}
+use Rattle.host_core.proofs.Known.{append_known-nil, append_known-append}
 use Rattle.engine_core.specs.Owed.{Owes, SentPart, OnlySends}
 
 -- a front of what is held back was sent
@@ -16,7 +16,7 @@ pub front_sent : (begin now new : Option (List ℕ)) (held text : List ℕ) → 
 front_sent begin now new held text owes (n, grows) = record {
   sent = owes.sent ++ take n held;
   rest = drop n held;
-  told = grows.bytes ∙ ap (λ told. append_known told (take n held)) owes.told ∙ append_known-append begin owes.sent (take n held);
+  known = grows.bytes ∙ ap (λ known. append_known known (take n held)) owes.known ∙ append_known-append begin owes.sent (take n held);
   front = append_assoc owes.sent (take n held) (drop n held) ∙ ap (λ bytes. owes.sent ++ bytes) (take-append-drop n held) ∙ owes.whole;
 }
 
@@ -25,7 +25,7 @@ pub part_before : (begin now : Option (List ℕ)) (text more : List ℕ) → Sen
 part_before begin now text more part = record {
   sent = part.sent;
   rest = part.rest ++ more;
-  told = part.told;
+  known = part.known;
   front = sym (append_assoc part.sent part.rest more) ∙ ap (λ bytes. bytes ++ more) part.front;
 }
 
@@ -34,7 +34,7 @@ front_sent_of begin now new piece held text owes same grows = front_sent begin n
 
 -- what is owed is not yet sent, and what was sent is a front of the text
 pub part_owed : (begin now : Option (List ℕ)) (held text : List ℕ) → Owes begin now held text → SentPart begin now text
-part_owed begin now held text owes = record { sent = owes.sent; rest = held; told = owes.told; front = owes.whole }
+part_owed begin now held text owes = record { sent = owes.sent; rest = held; known = owes.known; front = owes.whole }
 
 pub idle : (now : Outside) → OnlySends now now
 idle now = record { input = refl; disk = refl; continues = unchanged now }
@@ -65,7 +65,7 @@ at_failure (Err e) p = p
 
 -- all was sent, and nothing waits
 pub owes_nothing : (begin now : Option (List ℕ)) (waiting text : List ℕ) → waiting ≡ [] → now ≡ append_known begin text → Owes begin now waiting text
-owes_nothing begin now waiting text none sent = record { sent = text; told = sent; whole = ap (λ bytes. text ++ bytes) none ∙ append-nil text }
+owes_nothing begin now waiting text none sent = record { sent = text; known = sent; whole = ap (λ bytes. text ++ bytes) none ∙ append-nil text }
 
 pub paid : {T E : Type 0} (r : Result T E) (begin now : Option (List ℕ)) (waiting text : List ℕ) → OnOk r (waiting ≡ []) → OnOk r (now ≡ append_known begin text) → OnOk r (Owes begin now waiting text)
 paid (Ok x) begin now waiting text none sent = owes_nothing begin now waiting text none sent
@@ -73,12 +73,12 @@ paid (Err e) begin now waiting text none sent = tt
 
 -- nothing was sent, and nothing waits
 pub owes_none : (begin : Option (List ℕ)) (outbox : List ℕ) → outbox ≡ [] → Owes begin begin outbox []
-owes_none begin outbox none = record { sent = []; told = sym (append_known-nil begin); whole = none }
+owes_none begin outbox none = record { sent = []; known = sym (append_known-nil begin); whole = none }
 
 -- all of a text was sent
 pub all_sent : (begin now : Option (List ℕ)) (text : List ℕ) → now ≡ append_known begin text → SentPart begin now text
-all_sent begin now text is = record { sent = text; rest = []; told = is; front = append-nil text }
+all_sent begin now text is = record { sent = text; rest = []; known = is; front = append-nil text }
 
 -- nothing was sent
 pub none_sent : (begin : Option (List ℕ)) (text : List ℕ) → SentPart begin begin text
-none_sent begin text = record { sent = []; rest = text; told = sym (append_known-nil begin); front = refl }
+none_sent begin text = record { sent = []; rest = text; known = sym (append_known-nil begin); front = refl }

@@ -5,7 +5,7 @@ use Rattle.std.specs.Io.KnownBytes.{append_known}
 use Rattle.std.proofs.lemmas.List.{take-append-drop}
 use Rattle.host_core.specs.Outside.{Outside, Agrees, Elapses, Sends, Stays}
 use Rattle.host_core.proofs.Moments.{ended, goes_on, nothing, widened}
-use Rattle.host_core.proofs.Told.{append_known-append}
+use Rattle.host_core.proofs.Known.{append_known-append}
 use Rattle.engine_core.specs.Owed.{Owes, SendsFront}
 
 -- nothing more was sent, and the rest waits
@@ -14,7 +14,7 @@ waits begin now held text owes image bytes stays = record {
   was = stays.was;
   sent = owes.sent;
   rest = held;
-  told = subst (λ told. Agrees told bytes) owes.told stays.sent;
+  known = subst (λ known. Agrees known bytes) owes.known stays.sent;
   front = owes.whole;
 }
 
@@ -24,8 +24,8 @@ sends_front begin old piece held text owes same image bytes stop = record {
   was = stop.was;
   sent = owes.sent ++ take stop.count held;
   rest = drop stop.count held;
-  told = subst (λ told. Agrees told bytes)
-      (ap (λ p. append_known old.sent (take stop.count p)) same ∙ ap (λ told. append_known told (take stop.count held)) owes.told ∙ append_known-append begin owes.sent (take stop.count held))
+  known = subst (λ known. Agrees known bytes)
+      (ap (λ p. append_known old.sent (take stop.count p)) same ∙ ap (λ known. append_known known (take stop.count held)) owes.known ∙ append_known-append begin owes.sent (take stop.count held))
       stop.sent;
   front = append_assoc owes.sent (take stop.count held) (drop stop.count held) ∙ ap (λ b. owes.sent ++ b) (take-append-drop stop.count held) ∙ owes.whole;
 }
@@ -36,7 +36,7 @@ front_of_longer text more long is image bytes stop = record {
   was = stop.was;
   sent = stop.sent;
   rest = stop.rest ++ more;
-  told = stop.told;
+  known = stop.known;
   front = sym (append_assoc stop.sent stop.rest more) ∙ ap (λ b. b ++ more) stop.front ∙ is;
 }
 
@@ -45,7 +45,7 @@ pub since_begin : {begin : Option (List ℕ)} {old mid : Outside} {long : List �
     → (image bytes : List ℕ) → SendsFront begin text mid image bytes → SendsFront begin long old image bytes
 since_begin {old = old} {mid = mid} {long = long} run text more is image bytes stop =
     let here : SendsFront _ long mid image bytes = front_of_longer text more long is image bytes stop in
-    record { was = (ended run stop.was).was; sent = here.sent; rest = here.rest; told = here.told; front = here.front }
+    record { was = (ended run stop.was).was; sent = here.sent; rest = here.rest; known = here.known; front = here.front }
 
 -- a run that sends a front of a text, and then one that sends a front of a part of it
 pub sends_on : {begin : Option (List ℕ)} {old mid new : Outside} {long : List ℕ} → Elapses old mid (SendsFront begin long old) → (text more : List ℕ) → text ++ more ≡ long

@@ -5,11 +5,11 @@ use Rattle.std.proofs.lemmas.List.{drop-drop}
 use Rattle.host_core.specs.Outside.{Takes}
 use Rattle.engine_core.specs.Ends.{ReadsAtMost}
 
-drop-none : (told : Option (List ℕ)) → option_map (λ (input : List ℕ). drop 0 input) told ≡ told
+drop-none : (known : Option (List ℕ)) → option_map (λ (input : List ℕ). drop 0 input) known ≡ known
 drop-none None = refl
 drop-none (Some input) = refl
 
-drop-twice : (a b : ℕ) (told : Option (List ℕ)) → option_map (λ (input : List ℕ). drop b input) (option_map (λ (input : List ℕ). drop a input) told) ≡ option_map (λ (input : List ℕ). drop (a + b) input) told
+drop-twice : (a b : ℕ) (known : Option (List ℕ)) → option_map (λ (input : List ℕ). drop b input) (option_map (λ (input : List ℕ). drop a input) known) ≡ option_map (λ (input : List ℕ). drop (a + b) input) known
 drop-twice a b None = refl
 drop-twice a b (Some input) = ap (λ (left : List ℕ). Some left) (drop-drop b a input)
 
@@ -26,7 +26,7 @@ pub takes_on : (a b most : ℕ) (old mid new : Option (List ℕ)) → a + b ≤ 
 takes_on a b most old mid new le first second = record {
   count = first.count + second.count;
   within = omega (arith, le, first.within, second.within);
-  left = second.left ∙ ap (λ told. option_map (λ (input : List ℕ). drop second.count input) told) first.left ∙ drop-twice first.count second.count old;
+  left = second.left ∙ ap (λ known. option_map (λ (input : List ℕ). drop second.count input) known) first.left ∙ drop-twice first.count second.count old;
 }
 
 -- a bound that is no lower
@@ -38,5 +38,5 @@ pub takes_between : (n : ℕ) (old mid last new : Option (List ℕ)) → mid ≡
 takes_between n old mid last new first second reads = record {
   count = reads.count;
   within = reads.within;
-  left = second ∙ reads.left ∙ ap (λ told. option_map (λ (input : List ℕ). drop reads.count input) told) first;
+  left = second ∙ reads.left ∙ ap (λ known. option_map (λ (input : List ℕ). drop reads.count input) known) first;
 }

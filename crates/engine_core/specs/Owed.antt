@@ -6,14 +6,14 @@ use Rattle.host_core.specs.Outside.{Outside, Agrees, MayLeave, Continues}
 -- since begin this text was sent, but for what is held back at its end
 pub record Owes (begin now : Option (List ℕ)) (held text : List ℕ) : Type 0 where
   pub sent : List ℕ
-  pub told : now ≡ append_known begin sent
+  pub known : now ≡ append_known begin sent
   pub whole : sent ++ held ≡ text
 
 -- since begin a front of this text was sent
 pub record SentPart (begin now : Option (List ℕ)) (text : List ℕ) : Type 0 where
   pub sent : List ℕ
   pub rest : List ℕ
-  pub told : now ≡ append_known begin sent
+  pub known : now ≡ append_known begin sent
   pub front : sent ++ rest ≡ text
 
 -- a stop leaves an image as before, and since begin a front of this text was sent
@@ -21,7 +21,7 @@ pub record SendsFront (begin : Option (List ℕ)) (text : List ℕ) (old : Outsi
   pub was : MayLeave old image
   pub sent : List ℕ
   pub rest : List ℕ
-  pub told : Agrees (append_known begin sent) bytes
+  pub known : Agrees (append_known begin sent) bytes
   pub front : sent ++ rest ≡ text
 
 -- what sending leaves as it was

@@ -6,7 +6,7 @@ ghost use Rattle.wire_in.specs.Spelling.{InRange};
 ghost use Rattle.rulebook.specs.Admission.{verdict};
 ghost use Rattle.rulebook.specs.Sent.{judged};
 ghost use Rattle.rulebook.specs.Book.{newest_messages, messages_of};
-ghost use Rattle.market_core.specs.Admitted.{refusal_of, StandsFor};
+ghost use Rattle.market_core.specs.AdmissionState.{refusal_of, Represents};
 
 use market_core::{Admission, Market};
 use price_core::NoMemory;
@@ -27,7 +27,7 @@ pub struct Engine {
 /// The record of a body that is accepted next, or the first refusal that applies.
 pub fn judge(admission: &Admission, body: &[u8]) -> Result<Record, Refusal>
     requires { length body.now ≤ 255 }
-    ensures exact { (held : List Record) → StandsFor admission.now held → result ≡ judged admission.now.limit held body.now }
+    ensures exact { (held : List Record) → Represents admission.now held → result ≡ judged admission.now.capacity held body.now }
     ensures admissible { IfOk result (λ x. refusal_of admission.now x ≡ None) }
     ensures range { IfOk result InRange }
 {
@@ -44,13 +44,13 @@ pub fn judge(admission: &Admission, body: &[u8]) -> Result<Record, Refusal>
 impl Engine {
     ghost use Rattle.engine_core.specs.Kept.{IsOf};
 
-    /// An engine of no records, under a limit of records.
-    pub fn new(alloc: Global, limit: u64) -> Result<Engine, NoMemory>
-        ensures stands { IfOk result (λ engine. IsOf engine limit []) }
+    /// An engine of no records, under a capacity of records.
+    pub fn new(alloc: Global, capacity: u64) -> Result<Engine, NoMemory>
+        ensures stands { IfOk result (λ engine. IsOf engine capacity []) }
         ensures none { IfOk result (λ engine. engine.admission.count ≡ 0) }
         ensures published { IfOk result (λ engine. engine.published ≡ 0) }
     {
-        let admission = Admission::new(alloc, limit)?;
+        let admission = Admission::new(alloc, capacity)?;
         let market = Market::new(alloc)?;
         Ok(Engine {
             admission,
@@ -65,10 +65,10 @@ impl Engine {
     pub fn accept(&mut self, x: &Record) -> Result<(), NoMemory>
         requires admissible { refusal_of self.old.admission x.now ≡ None }
         requires room { self.old.published + 262146 < 2 ^ 64 }
-        ensures stands { (limit : ℕ) (held : List Record) → IsOf self.old limit held → OnOk result (IsOf self.new limit (x.now ∷ held)) }
-        ensures messages { (limit : ℕ) (held : List Record) → IsOf self.old limit held → OnOk result (self.new.messages.items ≡ newest_messages (x.now ∷ held)) }
+        ensures stands { (capacity : ℕ) (held : List Record) → IsOf self.old capacity held → OnOk result (IsOf self.new capacity (x.now ∷ held)) }
+        ensures messages { (capacity : ℕ) (held : List Record) → IsOf self.old capacity held → OnOk result (self.new.messages.items ≡ newest_messages (x.now ∷ held)) }
         ensures count { OnOk result (self.new.admission.count ≡ self.old.admission.count + 1) }
-        ensures limit { self.new.admission.limit ≡ self.old.admission.limit }
+        ensures capacity { self.new.admission.capacity ≡ self.old.admission.capacity }
         ensures first { OnOk result (self.new.published ≡ self.old.published + vec_len self.new.messages) }
         ensures few { OnOk result (vec_len self.new.messages ≤ 262146) }
     {

@@ -2,7 +2,7 @@
 ghost use Rattle.std.specs.Prelude.{◌≡◌, option_to_list};
 ghost use Rattle.wire_in.specs.Records.{is_tick};
 ghost use Rattle.rulebook.specs.History.{records};
-ghost use Rattle.rulebook.specs.Market.{day_record, halt_in, market_halt, is_stopped, greatest_in, greatest_declared, resume_at, declare_on, declare_at};
+ghost use Rattle.rulebook.specs.Market.{day_record, halt_in, market_halt, is_market_halted, greatest_in, greatest_declared, resume_at, declare_on, declare_at};
 
 use crate::history::{now, today};
 use crate::level::{declares, ends, percent_of};
@@ -123,8 +123,8 @@ pub fn declare_at(x: &Record, h: &[Event]) -> Option<Message>
 }
 
 /// Whether a market-wide halt is in effect.
-pub fn is_stopped(h: &[Event]) -> bool
-    ensures { result ≡ is_stopped h.now }
+pub fn is_market_halted(h: &[Event]) -> bool
+    ensures { result ≡ is_market_halted h.now }
 {
     market_halt(h).is_some()
 }

@@ -3,7 +3,7 @@ ghost use Rattle.std.specs.Prelude.{◌≡◌, false};
 ghost use Rattle.std.specs.Option.{option_map_or};
 ghost use Rattle.history_core.specs.Names.{own_in};
 ghost use Rattle.rulebook.specs.History.{records, last};
-ghost use Rattle.rulebook.specs.Symbol.{terms_in, terms, close_of, prior_close, state_of, phase_in, phase, since, straddle_of, was_straddling, is_halted_in, is_halted};
+ghost use Rattle.rulebook.specs.Symbol.{terms_in, terms, close_of, prior_close, state_of, phase_in, phase, since, straddle_of, was_straddling, is_under_halt_in, is_under_regulatory_halt};
 
 use crate::admission::place_of;
 use crate::history::{midnight, now, today};
@@ -158,8 +158,8 @@ pub fn was_straddling(h: &[Event], symbol: u16) -> bool
 }
 
 /// Whether the last halt notice among these has no resume notice after it.
-fn is_halted_in(symbol: u16, h: &[Event]) -> bool
-    ensures { result ≡ is_halted_in symbol (records h.now) }
+fn is_under_halt_in(symbol: u16, h: &[Event]) -> bool
+    ensures { result ≡ is_under_halt_in symbol (records h.now) }
 {
     let Some((last, earlier)) = h.split_first() else {
         return false;
@@ -171,21 +171,21 @@ fn is_halted_in(symbol: u16, h: &[Event]) -> bool
                 kind: NoticeKind::Halt,
                 ..
             },
-        ) => of == symbol || is_halted_in(symbol, earlier),
+        ) => of == symbol || is_under_halt_in(symbol, earlier),
         Event::Accepted(
             Record::Notice {
                 symbol: of,
                 kind: NoticeKind::Resume,
                 ..
             },
-        ) => of != symbol && is_halted_in(symbol, earlier),
-        _ => is_halted_in(symbol, earlier),
+        ) => of != symbol && is_under_halt_in(symbol, earlier),
+        _ => is_under_halt_in(symbol, earlier),
     }
 }
 
 /// Whether a regulatory halt of a symbol is in effect.
-pub fn is_halted(h: &[Event], symbol: u16) -> bool
-    ensures { result ≡ is_halted h.now symbol }
+pub fn is_under_regulatory_halt(h: &[Event], symbol: u16) -> bool
+    ensures { result ≡ is_under_regulatory_halt h.now symbol }
 {
-    is_halted_in(symbol, today(h))
+    is_under_halt_in(symbol, today(h))
 }

@@ -1,4 +1,4 @@
-pub mod Told
+pub mod Known
 pub mod Moments
 pub mod Asked
 mod Sending

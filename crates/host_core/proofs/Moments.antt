@@ -1,7 +1,7 @@
 -- How runs add up.
 use Rattle.std.proofs.Common.{◌≡◌, ◌⊎◌, inl, inr, ⊎_elim, ℕ, ◌≤◌, ◌<◌, List, refl, sym, ◌∙◌, subst, arith}
 use Rattle.std.specs.Prelude.{Some}
-use Rattle.host_core.proofs.Told.{still_told}
+use Rattle.host_core.proofs.Known.{still_known}
 use Rattle.std.proofs.lemmas.Bool.{cases_lt}
 use Rattle.host_core.specs.Outside.{Outside, Agrees, MayLeave, Stop, Elapses, Ends, Stays, Changes, Rose, Continues}
 
@@ -39,15 +39,15 @@ ended {new = new} run {image} last = run.during image last.bytes (record { momen
 pub returned : {old new : Outside} {stops : List ℕ → List ℕ → Type 0} → Elapses old new stops → Continues old new
     → ((image bytes : List ℕ) → new.leaves new.moment image bytes → Agrees new.sent bytes) → ((disk : List ℕ) → new.disk ≡ Some disk → MayLeave new disk)
     → (disk sent : List ℕ) → old.disk ≡ Some disk → old.sent ≡ Some sent → Ends stops new
-returned {old} {new} {stops} run continues sent_now read_passes disk sent disk_told sent_told =
-    let now_disk = still_told old.disk new.disk continues.disk disk disk_told in
-    let now_sent = still_told old.sent new.sent continues.sent sent sent_told in
+returned {old} {new} {stops} run continues sent_now read_passes disk sent disk_known sent_known =
+    let now_disk = still_known old.disk new.disk continues.disk disk disk_known in
+    let now_sent = still_known old.sent new.sent continues.sent sent sent_known in
     let last = read_passes now_disk.0 now_disk.1 in
     record {
       image = now_disk.0;
       bytes = now_sent.0;
-      disk_told = now_disk.1;
-      sent_told = now_sent.1;
+      disk_known = now_disk.1;
+      sent_known = now_sent.1;
       left = subst (stops now_disk.0) (sent_now now_disk.0 last.bytes last.left now_sent.0 now_sent.1) (ended run last);
     }
 

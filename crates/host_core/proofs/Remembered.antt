@@ -11,7 +11,7 @@ use Rattle.host_core.proofs.Moments.{nothing, widened}
 use Rattle.host_core.proofs.Pushed.{pushed, torn_whole, torn_none}
 
 agrees : (x bytes : List ℕ) → bytes ≡ x → Agrees (Some x) bytes
-agrees x bytes is known same = is ∙ some_same x known same
+agrees x bytes is content same = is ∙ some_same x content same
 
 -- a send that sent nothing
 pub nothing_sent : (sent sent' piece : List ℕ) → sent' ≡ sent → Grows (Some sent) (Some sent') piece 0
@@ -49,7 +49,7 @@ module _ (input sent disk start : List ℕ) (effects : List Effect) (a b c : ℕ
 
     pub not_sent : (piece : List ℕ) (later : List Effect) → later ≡ effects → (input' sent' disk' : List ℕ) (a' b' c' : ℕ) → Elapses old (remembered input' sent' disk' start later a' b' c') (Sends piece old)
     not_sent piece later is input' sent' disk' a' b' c' = widened (idle later is input' sent' disk' a' b' c') (Sends piece old)
-        (λ image bytes stay. record { was = stay.was; count = 0; within = omega arith; sent = λ known same. stay.sent known (ap Some (sym (append-nil sent)) ∙ same) })
+        (λ image bytes stay. record { was = stay.was; count = 0; within = omega arith; sent = λ content same. stay.sent content (ap Some (sym (append-nil sent)) ∙ same) })
 
     pub wrote : (at : ℕ) (v : Vec ℕ Global) (piece : List ℕ) → v.items ≡ piece → (later : List Effect) → later ≡ effects ++ Wrote at v ∷ []
         → (disk' : List ℕ) (a' b' c' : ℕ) → Elapses old (remembered input sent disk' start later a' b' c') (Changes (Torn at (length piece)) old)

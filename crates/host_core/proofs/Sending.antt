@@ -5,7 +5,7 @@ use Rattle.std.specs.Prelude.{Option}
 use Rattle.std.specs.Io.KnownBytes.{append_known}
 use Rattle.host_core.specs.Outside.{Outside, Agrees, Elapses, Sends, Grows, Continues}
 use Rattle.host_core.proofs.Moments.{nothing, widened, goes_on, ended, unchanged, further}
-use Rattle.host_core.proofs.Told.{append_known-nil, append_known-append}
+use Rattle.host_core.proofs.Known.{append_known-nil, append_known-append}
 
 pub record Sending (piece : List ℕ) (done : ℕ) (start now : Outside) : Type 0 where
   pub bound : done ≤ length piece
@@ -21,13 +21,13 @@ begun piece start sent_now = record {
   sent = sym (append_known-nil start.sent);
   input = refl;
   disk = refl;
-  moments = widened (nothing start sent_now) _ (λ image bytes stays. record { was = stays.was; count = 0; within = omega arith; sent = subst (λ told. Agrees told bytes) (sym (append_known-nil start.sent)) stays.sent });
+  moments = widened (nothing start sent_now) _ (λ image bytes stays. record { was = stays.was; count = 0; within = omega arith; sent = subst (λ known. Agrees known bytes) (sym (append_known-nil start.sent)) stays.sent });
   continues = unchanged start;
 }
 
 -- two fronts, one after the other
-two_fronts : (told : Option (List ℕ)) (piece : List ℕ) (done n : ℕ) → append_known (append_known told (take done piece)) (take n (drop done piece)) ≡ append_known told (take (done + n) piece)
-two_fronts told piece done n = append_known-append told (take done piece) (take n (drop done piece)) ∙ ap (append_known told) (sym (take-add done n piece))
+two_prefixes : (known : Option (List ℕ)) (piece : List ℕ) (done n : ℕ) → append_known (append_known known (take done piece)) (take n (drop done piece)) ≡ append_known known (take (done + n) piece)
+two_prefixes known piece done n = append_known-append known (take done piece) (take n (drop done piece)) ∙ ap (append_known known) (sym (take-add done n piece))
 
 pub sent_more : {piece : List ℕ} {done : ℕ} {start mid : Outside} (so_far : Sending piece done start mid) (new : Outside) (n : ℕ) → Grows mid.sent new.sent (drop done piece) n
     → new.input ≡ mid.input → new.disk ≡ mid.disk → Elapses mid new (Sends (drop done piece) mid) → Continues mid new → Sending piece (done + n) start new
@@ -37,7 +37,7 @@ sent_more {piece} {done} {start} {mid} so_far new n grows input disk moments con
   input = input ∙ so_far.input;
   disk = disk ∙ so_far.disk;
   moments = goes_on so_far.moments moments (λ image bytes step.
-      record { was = (ended so_far.moments step.was).was; count = done + step.count; within = within step.count step.within; sent = subst (λ told. Agrees told bytes) (both step.count) step.sent });
+      record { was = (ended so_far.moments step.was).was; count = done + step.count; within = within step.count step.within; sent = subst (λ known. Agrees known bytes) (both step.count) step.sent });
   continues = further so_far.continues continues;
 }
   where
@@ -45,4 +45,4 @@ sent_more {piece} {done} {start} {mid} so_far new n grows input disk moments con
     within n le = omega (arith, le, so_far.bound, length-drop done piece)
 
     both : (n : ℕ) → append_known mid.sent (take n (drop done piece)) ≡ append_known start.sent (take (done + n) piece)
-    both n = ap (λ told. append_known told (take n (drop done piece))) so_far.sent ∙ two_fronts start.sent piece done n
+    both n = ap (λ known. append_known known (take n (drop done piece))) so_far.sent ∙ two_prefixes start.sent piece done n

@@ -101,7 +101,7 @@ image_of pick disk image (effect ∷ effects) = image_of pick (disk_after disk e
 -- Lemmas for the laws of a host in memory, by cases.
 
 pub some_same : (x y : List ℕ) → Some x ≡ Some y → x ≡ y
-some_same x y is = ap (λ told. unwrap_or told []) is
+some_same x y is = ap (λ known. unwrap_or known []) is
 
 -- at the last moment
 pub leaves_now : (may : List ℕ → Type 0) (disk sent : List ℕ) (effects : List Effect) (image bytes : List ℕ)
@@ -127,13 +127,13 @@ read_of may disk (effect ∷ effects) here = read_of (may_after may disk effect)
 
 pub remembered_sent : (input sent disk start : List ℕ) (effects : List Effect) (a b c : ℕ) → sent ≡ sent_of [] effects
     → (image bytes : List ℕ) → Leaves (λ image. image ≡ start) start [] effects (moment_of effects) image bytes → Agrees (Some sent) bytes
-remembered_sent input sent disk start effects a b c same image bytes left known is =
-    (leaves_now (λ image. image ≡ start) start [] effects image bytes left).1 ∙ sym same ∙ some_same sent known is
+remembered_sent input sent disk start effects a b c same image bytes left content is =
+    (leaves_now (λ image. image ≡ start) start [] effects image bytes left).1 ∙ sym same ∙ some_same sent content is
 
 pub remembered_read : (input sent disk start : List ℕ) (effects : List Effect) (a b c : ℕ) → disk ≡ disk_of start effects
-    → (known : List ℕ) → Some disk ≡ Some known → MayLeave (remembered input sent disk start effects a b c) known
-remembered_read input sent disk start effects a b c same known is = record {
+    → (content : List ℕ) → Some disk ≡ Some content → MayLeave (remembered input sent disk start effects a b c) content
+remembered_read input sent disk start effects a b c same content is = record {
   bytes = sent_of [] effects;
-  left = now_leaves (λ image. image ≡ start) start [] effects known
-      (subst (may_of (λ image. image ≡ start) start effects) (sym same ∙ some_same disk known is) (read_of (λ image. image ≡ start) start effects refl));
+  left = now_leaves (λ image. image ≡ start) start [] effects content
+      (subst (may_of (λ image. image ≡ start) start effects) (sym same ∙ some_same disk content is) (read_of (λ image. image ≡ start) start effects refl));
 }

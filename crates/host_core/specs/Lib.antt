@@ -1,6 +1,6 @@
 pub mod Outside
 pub mod Statuses
-pub mod Silent
+pub mod Opaque
 pub mod Effects
 pub mod Calls
 pub mod Ledgers

@@ -10,9 +10,9 @@ use Rattle.host_core.specs.Effects.{remembered, image_of}
 abbrev pub input_left : MemoryHost → List ℕ
 input_left host = drop host.taken host.input.items
 
--- what it tells of the outside
-abbrev pub told : MemoryHost → Outside
-told host = remembered (input_left host) host.sent.items host.disk.items host.start.items host.effects.items
+-- what it exposes of the outside
+abbrev pub known : MemoryHost → Outside
+known host = remembered (input_left host) host.sent.items host.disk.items host.start.items host.effects.items
     host.ledger.faults.reading host.ledger.faults.sending host.ledger.faults.storing
 
 -- what it was asked, and what it counts

@@ -2,9 +2,9 @@
 use Rattle.std.specs.Prelude.{◌≡◌, ℕ, ◌+◌, ◌-◌, ◌^◌, ◌≤◌, min, List, [], ◌++◌, length, take, drop, Option, Some, is_some, option_map}
 use Rattle.std.specs.Io.KnownBytes.{append_known}
 
--- What a host tells at a moment: the bytes that are left to read, those that were sent, and what a read
+-- What a host exposes at a moment: the bytes that are left to read, those that were sent, and what a read
 -- of the disk gives. `leaves k image bytes` says that a stop at moment k, now or earlier, may leave
--- that image of the disk, and that these bytes had been sent by then. The counts of faults are always told.
+-- that image of the disk, and that these bytes had been sent by then. The counts of faults are always known.
 pub record Outside : Type 1 where
   pub input : Option (List ℕ)
   pub sent : Option (List ℕ)
@@ -15,9 +15,9 @@ pub record Outside : Type 1 where
   pub send_faults : ℕ
   pub disk_faults : ℕ
 
--- where something is told, it is these bytes
+-- where something is known, it is these bytes
 abbrev pub Agrees : Option (List ℕ) → List ℕ → Type 0
-Agrees told bytes = (known : List ℕ) → told ≡ Some known → bytes ≡ known
+Agrees known bytes = (content : List ℕ) → known ≡ Some content → bytes ≡ content
 
 -- a stop now may leave that image
 pub record MayLeave (now : Outside) (image : List ℕ) : Type 0 where
@@ -43,8 +43,8 @@ pub record Elapses (old new : Outside) (stops : List ℕ → List ℕ → Type 0
 pub record Ends (stops : List ℕ → List ℕ → Type 0) (now : Outside) : Type 0 where
   pub image : List ℕ
   pub bytes : List ℕ
-  pub disk_told : now.disk ≡ Some image
-  pub sent_told : now.sent ≡ Some bytes
+  pub disk_known : now.disk ≡ Some image
+  pub sent_known : now.sent ≡ Some bytes
   pub left : stops image bytes
 
 -- a stop leaves an image as before, and nothing more was sent
@@ -59,7 +59,7 @@ pub record Changes (change : List ℕ → List ℕ → Type 0) (old : Outside) (
   pub changed : change before image
   pub sent : Agrees old.sent bytes
 
--- a stop leaves an image as before, and a front of the piece was sent behind the earlier bytes
+-- a stop leaves an image as before, and a prefix of the piece was sent behind the earlier bytes
 pub record Sends (piece : List ℕ) (old : Outside) (image bytes : List ℕ) : Type 0 where
   pub was : MayLeave old image
   pub count : ℕ
@@ -104,7 +104,7 @@ raised count = min (count + 1) (2 ^ 64 - 1)
 abbrev pub Rose : ℕ → ℕ → Type 0
 Rose before now = raised before ≤ now
 
--- what each call keeps: no count of faults falls, and what is told stays told
+-- what each call keeps: no count of faults falls, and what is known stays known
 pub record Continues (old new : Outside) : Type 0 where
   pub reading : old.read_faults ≤ new.read_faults
   pub sending : old.send_faults ≤ new.send_faults
@@ -113,18 +113,18 @@ pub record Continues (old new : Outside) : Type 0 where
   pub sent : is_some new.sent ≡ is_some old.sent
   pub disk : is_some new.disk ≡ is_some old.disk
 
--- a host tells this input and this disk, nothing was sent, nothing is pending, and nothing has failed
+-- a host exposes this input and this disk, nothing was sent, nothing is pending, and nothing has failed
 pub record Starts (input disk : List ℕ) (now : Outside) : Type 0 where
-  pub input_told : now.input ≡ Some input
-  pub sent_told : now.sent ≡ Some []
-  pub disk_told : now.disk ≡ Some disk
+  pub input_known : now.input ≡ Some input
+  pub sent_known : now.sent ≡ Some []
+  pub disk_known : now.disk ≡ Some disk
   pub settled : IsSettled now
   pub no_read_fault : now.read_faults ≡ 0
   pub no_send_fault : now.send_faults ≡ 0
   pub no_disk_fault : now.disk_faults ≡ 0
 
--- a host tells the same as before
-pub record TellsTheSame (old new : Outside) : Type 0 where
+-- a host exposes the same as before
+pub record ExposesTheSame (old new : Outside) : Type 0 where
   pub input : new.input ≡ old.input
   pub sent : new.sent ≡ old.sent
   pub disk : new.disk ≡ old.disk

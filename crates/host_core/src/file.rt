@@ -8,24 +8,24 @@ use std::rt::Files;
 
 /// The disk of a host over the streams: bytes that stay when the program ends.
 pub trait Disk {
-    /// What a read gives, where it is known.
+    /// What a read gives, where it is content.
     ghost bytes: { Self → Option (List ℕ) } = { λ _. None };
 
     /// The length in bytes. A length of 2^63 or more is an error.
     fn len(&mut self) -> io::Result<u64>
         ensures bound { IfOk result (λ n. n < 2 ^ 63) }
-        ensures len { IfOk result (λ n. (known : List ℕ) → bytes self.old ≡ Some known → n ≡ length known) }
+        ensures len { IfOk result (λ n. (content : List ℕ) → bytes self.old ≡ Some content → n ≡ length content) }
         ensures same { bytes self.new ≡ bytes self.old };
 
     /// Reads the bytes from a place on. It is an error where there are fewer.
     fn read(&mut self, at: u64, into: &mut [u8]) -> io::Result<()>
-        ensures given { OnOk result ((known : List ℕ) → bytes self.old ≡ Some known → into.new ≡ take (length into.old) (drop at known)) }
+        ensures given { OnOk result ((content : List ℕ) → bytes self.old ≡ Some content → into.new ≡ take (length into.old) (drop at content)) }
         ensures same { bytes self.new ≡ bytes self.old };
 
     /// Writes a piece from a place on.
     fn write(&mut self, at: u64, piece: &[u8]) -> io::Result<()>
-        ensures written { OnOk result ((known : List ℕ) → bytes self.old ≡ Some known → at ≤ length known
-            → bytes self.new ≡ Some (written at piece.now known)) };
+        ensures written { OnOk result ((content : List ℕ) → bytes self.old ≡ Some content → at ≤ length content
+            → bytes self.new ≡ Some (written at piece.now content)) };
 
     /// Puts on the disk what was written.
     fn sync(&mut self) -> io::Result<()>

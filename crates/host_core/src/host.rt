@@ -1,4 +1,4 @@
-// The calls that reach outside, and what each does to what a host tells.
+// The calls that reach outside, and what each does to what a host exposes.
 ghost use Rattle.std.specs.Prelude.{◌≡◌, ◌<◌, ◌≤◌, ◌+◌, ◌^◌, ℕ, List, length, take, drop, option_map, Some, MatchResult, IfOk, OnOk, OnErr};
 ghost use Rattle.host_core.specs.Outside.{Outside, Agrees, MayLeave, Elapses, Stays, Changes, Sends, IsSettled, written, Torn, Takes, Grows, Rose, Continues};
 
@@ -12,7 +12,7 @@ pub struct Failed;
 /// An input, a sink and a disk. A call answers `Failed` only where its own count of faults rose: that of reading,
 /// of sending or of the disk.
 pub trait Host {
-    /// What it tells of the outside now.
+    /// What it exposes of the outside now.
     ghost outside: { Self → Outside };
 
     /// Takes bytes from the front of the input, and answers how many: 0 only where none is left.
@@ -83,7 +83,7 @@ pub trait Host {
         ensures continues { Continues (outside self.old) (outside self.new) }
         ensures cause { OnErr result (Rose (outside self.old).disk_faults (outside self.new).disk_faults) };
 
-    /// The bytes that were sent by now are those that it tells.
+    /// The bytes that were sent by now are those that it exposes.
     ghost sent_now: { (host : Self) (image bytes : List ℕ)
         → (outside host).leaves (outside host).moment image bytes → Agrees (outside host).sent bytes };
 

@@ -11,7 +11,7 @@ use crate::replay::replayed;
 use price_core::NoMemory;
 use std::alloc::Global;
 
-/// An input, a sink and a disk in memory, for tests. It tells everything. Its calls fail where they were asked to,
+/// An input, a sink and a disk in memory, for tests. It exposes everything. Its calls fail where they were asked to,
 /// and where memory runs out.
 #[derive(Debug, Drop)]
 pub struct MemoryHost {
@@ -30,13 +30,13 @@ pub struct MemoryHost {
 
 impl MemoryHost {
     ghost use Rattle.std.specs.Prelude.{◌≡◌, ◌<◌, ◌∷◌, ◌++◌, ℕ, List, Some, IfOk, OnOk, OnErr};
-    ghost use Rattle.host_core.specs.Outside.{MayLeave, Starts, TellsTheSame};
+    ghost use Rattle.host_core.specs.Outside.{MayLeave, Starts, ExposesTheSame};
     ghost use Rattle.host_core.specs.Ledgers.{IsFresh, earliest};
-    ghost use Rattle.host_core.specs.Memory.{told, ledger_of, left_by};
+    ghost use Rattle.host_core.specs.Memory.{known, ledger_of, left_by};
 
     /// A host with this input and this disk, of which all is kept. Nothing was sent, and no call fails yet.
     pub fn new(alloc: Global, input: &[u8], disk: &[u8]) -> Result<MemoryHost, NoMemory>
-        ensures starts { IfOk result (λ host. Starts input.now disk.now (told host)) }
+        ensures starts { IfOk result (λ host. Starts input.now disk.now (known host)) }
         ensures fresh { IfOk result (λ host. IsFresh (ledger_of host)) }
     {
         Ok(MemoryHost {
@@ -57,8 +57,8 @@ impl MemoryHost {
         ensures asked { OnOk result ((ledger_of self.new).failures.items ≡ (ledger_of self.old).failures.items ++ record { call = call; number = nth } ∷ []) }
         ensures refused { OnErr result ((ledger_of self.new).failures.items ≡ (ledger_of self.old).failures.items) }
         ensures rest { ledger_of self.new ≡ record (ledger_of self.old) { failures = (ledger_of self.new).failures } }
-        ensures tells { TellsTheSame (told self.old) (told self.new) }
-        ensures starts { (input disk : List ℕ) → Starts input disk (told self.old) → Starts input disk (told self.new) }
+        ensures exposes { ExposesTheSame (known self.old) (known self.new) }
+        ensures starts { (input disk : List ℕ) → Starts input disk (known self.old) → Starts input disk (known self.new) }
     {
         self.ledger.failures.push(Numbered { call, number: nth })?;
         Ok(())
@@ -71,8 +71,8 @@ impl MemoryHost {
         ensures read { (ledger_of self.new).pieces.read ≡ read }
         ensures send { (ledger_of self.new).pieces.send ≡ send }
         ensures rest { ledger_of self.new ≡ record (ledger_of self.old) { pieces = (ledger_of self.new).pieces } }
-        ensures tells { TellsTheSame (told self.old) (told self.new) }
-        ensures starts { (input disk : List ℕ) → Starts input disk (told self.old) → Starts input disk (told self.new) }
+        ensures exposes { ExposesTheSame (known self.old) (known self.new) }
+        ensures starts { (input disk : List ℕ) → Starts input disk (known self.old) → Starts input disk (known self.new) }
     {
         self.ledger.pieces = Pieces {
             read: read as usize,
@@ -84,8 +84,8 @@ impl MemoryHost {
     pub fn stop_at(&mut self, nth: u64)
         requires { 0 < nth }
         ensures asked { ledger_of self.new ≡ record (ledger_of self.old) { stop = Some (earliest (ledger_of self.old).stop nth) } }
-        ensures tells { TellsTheSame (told self.old) (told self.new) }
-        ensures starts { (input disk : List ℕ) → Starts input disk (told self.old) → Starts input disk (told self.new) }
+        ensures exposes { ExposesTheSame (known self.old) (known self.new) }
+        ensures starts { (input disk : List ℕ) → Starts input disk (known self.old) → Starts input disk (known self.new) }
     {
         let stop = match self.ledger.stop {
             Some(earlier) => earlier.min(nth),
@@ -96,14 +96,14 @@ impl MemoryHost {
 
     /// The bytes that were sent.
     pub fn sent(&self) -> &[u8]
-        ensures { (told self.now).sent ≡ Some result.now }
+        ensures { (known self.now).sent ≡ Some result.now }
     {
         &self.sent
     }
 
     /// What a read of the disk gives.
     pub fn disk(&self) -> &[u8]
-        ensures { (told self.now).disk ≡ Some result.now }
+        ensures { (known self.now).disk ≡ Some result.now }
     {
         &self.disk
     }
@@ -124,8 +124,8 @@ impl MemoryHost {
 
     /// A host with a disk that a stop now may leave, and a new input. No call of it fails yet.
     pub fn crash(&self, pick: Pick, input: &[u8]) -> Result<MemoryHost, NoMemory>
-        ensures left { MayLeave (told self.now) (left_by pick self.now) }
-        ensures starts { IfOk result (λ host. Starts input.now (left_by pick self.now) (told host)) }
+        ensures left { MayLeave (known self.now) (left_by pick self.now) }
+        ensures starts { IfOk result (λ host. Starts input.now (left_by pick self.now) (known host)) }
         ensures fresh { IfOk result (λ host. IsFresh (ledger_of host)) }
     {
         let image = replayed(self.alloc, &self.start, &self.effects, pick)?;
@@ -138,9 +138,9 @@ impl Host for MemoryHost {
     ghost use Rattle.host_core.specs.Outside.{Agrees, Elapses, Stays, Changes, Sends, IsSettled, written, Torn, Takes, Grows, Rose, Continues};
     ghost use Rattle.host_core.specs.Effects.{remembered_sent, remembered_read};
     ghost use Rattle.host_core.specs.Ledgers.{IsSpared, IsRefused};
-    ghost use Rattle.host_core.specs.Memory.{told, ledger_of, input_left};
+    ghost use Rattle.host_core.specs.Memory.{known, ledger_of, input_left};
 
-    ghost outside = { told };
+    ghost outside = { known };
 
     ghost sent_now = { λ host. remembered_sent (drop host.taken host.input.items) host.sent.items host.disk.items
         host.start.items host.effects.items host.ledger.faults.reading host.ledger.faults.sending host.ledger.faults.storing host.sent_is };
@@ -151,13 +151,13 @@ impl Host for MemoryHost {
     fn read_input(&mut self, into: &mut [u8]) -> Result<usize, Failed>
         requires { 0 < length into.old }
         ensures read { MatchResult result
-            (λ n. Takes (told self.old).input (told self.new).input into.new n)
-            (λ _. (told self.new).input ≡ (told self.old).input) }
-        ensures sent { (told self.new).sent ≡ (told self.old).sent }
-        ensures disk { (told self.new).disk ≡ (told self.old).disk }
-        ensures moments { Elapses (told self.old) (told self.new) (Stays (told self.old)) }
-        ensures continues { Continues (told self.old) (told self.new) }
-        ensures cause { OnErr result (Rose (told self.old).read_faults (told self.new).read_faults) }
+            (λ n. Takes (known self.old).input (known self.new).input into.new n)
+            (λ _. (known self.new).input ≡ (known self.old).input) }
+        ensures sent { (known self.new).sent ≡ (known self.old).sent }
+        ensures disk { (known self.new).disk ≡ (known self.old).disk }
+        ensures moments { Elapses (known self.old) (known self.new) (Stays (known self.old)) }
+        ensures continues { Continues (known self.old) (known self.new) }
+        ensures cause { OnErr result (Rose (known self.old).read_faults (known self.new).read_faults) }
         ensures count { IfOk result (λ n. n ≡ min (min (length (input_left self.old)) (length into.old)) (ledger_of self.old).pieces.read) }
         ensures ledger { MatchResult result
             (λ _. IsSpared Call.Read (ledger_of self.old) (ledger_of self.new))
@@ -176,15 +176,15 @@ impl Host for MemoryHost {
     fn send(&mut self, piece: &[u8]) -> Result<usize, Failed>
         requires { 0 < length piece.now }
         ensures sent { MatchResult result
-            (λ n. (0 < n) × Grows (told self.old).sent (told self.new).sent piece.now n)
-            (λ _. (n : ℕ) × Grows (told self.old).sent (told self.new).sent piece.now n) }
-        ensures input { (told self.new).input ≡ (told self.old).input }
-        ensures disk { (told self.new).disk ≡ (told self.old).disk }
-        ensures moments { Elapses (told self.old) (told self.new) (Sends piece.now (told self.old)) }
-        ensures continues { Continues (told self.old) (told self.new) }
-        ensures cause { OnErr result (Rose (told self.old).send_faults (told self.new).send_faults) }
+            (λ n. (0 < n) × Grows (known self.old).sent (known self.new).sent piece.now n)
+            (λ _. (n : ℕ) × Grows (known self.old).sent (known self.new).sent piece.now n) }
+        ensures input { (known self.new).input ≡ (known self.old).input }
+        ensures disk { (known self.new).disk ≡ (known self.old).disk }
+        ensures moments { Elapses (known self.old) (known self.new) (Sends piece.now (known self.old)) }
+        ensures continues { Continues (known self.old) (known self.new) }
+        ensures cause { OnErr result (Rose (known self.old).send_faults (known self.new).send_faults) }
         ensures count { IfOk result (λ n. n ≡ min (length piece.now) (ledger_of self.old).pieces.send) }
-        ensures unsent { OnErr result ((told self.new).sent ≡ (told self.old).sent) }
+        ensures unsent { OnErr result ((known self.new).sent ≡ (known self.old).sent) }
         ensures ledger { MatchResult result
             (λ _. IsSpared Call.Send (ledger_of self.old) (ledger_of self.new))
             (λ _. IsRefused Call.Send (ledger_of self.old) (ledger_of self.new)) }
@@ -205,13 +205,13 @@ impl Host for MemoryHost {
     }
 
     fn disk_len(&mut self) -> Result<u64, Failed>
-        ensures len { IfOk result (λ n. (n < 2 ^ 63) × ((disk : List ℕ) → (told self.old).disk ≡ Some disk → n ≡ length disk)) }
-        ensures input { (told self.new).input ≡ (told self.old).input }
-        ensures sent { (told self.new).sent ≡ (told self.old).sent }
-        ensures disk { (told self.new).disk ≡ (told self.old).disk }
-        ensures moments { Elapses (told self.old) (told self.new) (Stays (told self.old)) }
-        ensures continues { Continues (told self.old) (told self.new) }
-        ensures cause { OnErr result (Rose (told self.old).disk_faults (told self.new).disk_faults) }
+        ensures len { IfOk result (λ n. (n < 2 ^ 63) × ((disk : List ℕ) → (known self.old).disk ≡ Some disk → n ≡ length disk)) }
+        ensures input { (known self.new).input ≡ (known self.old).input }
+        ensures sent { (known self.new).sent ≡ (known self.old).sent }
+        ensures disk { (known self.new).disk ≡ (known self.old).disk }
+        ensures moments { Elapses (known self.old) (known self.new) (Stays (known self.old)) }
+        ensures continues { Continues (known self.old) (known self.new) }
+        ensures cause { OnErr result (Rose (known self.old).disk_faults (known self.new).disk_faults) }
         ensures ledger { MatchResult result
             (λ _. IsSpared Call.Len (ledger_of self.old) (ledger_of self.new))
             (λ _. IsRefused Call.Len (ledger_of self.old) (ledger_of self.new)) }
@@ -223,15 +223,15 @@ impl Host for MemoryHost {
     }
 
     fn disk_read(&mut self, at: u64, into: &mut [u8]) -> Result<(), Failed>
-        requires within { (disk : List ℕ) → (told self.old).disk ≡ Some disk → at + length into.old ≤ length disk }
+        requires within { (disk : List ℕ) → (known self.old).disk ≡ Some disk → at + length into.old ≤ length disk }
         requires fits { at + length into.old < 2 ^ 64 }
-        ensures bytes { OnOk result (Agrees (option_map (λ disk. take (length into.old) (drop at disk)) (told self.old).disk) into.new) }
-        ensures input { (told self.new).input ≡ (told self.old).input }
-        ensures sent { (told self.new).sent ≡ (told self.old).sent }
-        ensures disk { (told self.new).disk ≡ (told self.old).disk }
-        ensures moments { Elapses (told self.old) (told self.new) (Stays (told self.old)) }
-        ensures continues { Continues (told self.old) (told self.new) }
-        ensures cause { OnErr result (Rose (told self.old).disk_faults (told self.new).disk_faults) }
+        ensures bytes { OnOk result (Agrees (option_map (λ disk. take (length into.old) (drop at disk)) (known self.old).disk) into.new) }
+        ensures input { (known self.new).input ≡ (known self.old).input }
+        ensures sent { (known self.new).sent ≡ (known self.old).sent }
+        ensures disk { (known self.new).disk ≡ (known self.old).disk }
+        ensures moments { Elapses (known self.old) (known self.new) (Stays (known self.old)) }
+        ensures continues { Continues (known self.old) (known self.new) }
+        ensures cause { OnErr result (Rose (known self.old).disk_faults (known self.new).disk_faults) }
         ensures ledger { MatchResult result
             (λ _. IsSpared Call.DiskRead (ledger_of self.old) (ledger_of self.new))
             (λ _. IsRefused Call.DiskRead (ledger_of self.old) (ledger_of self.new)) }
@@ -245,15 +245,15 @@ impl Host for MemoryHost {
     }
 
     fn disk_write(&mut self, at: u64, piece: &[u8]) -> Result<(), Failed>
-        requires within { (disk : List ℕ) → (told self.old).disk ≡ Some disk → at ≤ length disk }
+        requires within { (disk : List ℕ) → (known self.old).disk ≡ Some disk → at ≤ length disk }
         requires fits { at + length piece.now < 2 ^ 64 }
-        ensures written { OnOk result ((told self.new).disk ≡ option_map (written at piece.now) (told self.old).disk) }
-        ensures input { (told self.new).input ≡ (told self.old).input }
-        ensures sent { (told self.new).sent ≡ (told self.old).sent }
-        ensures moments { Elapses (told self.old) (told self.new) (Changes (Torn at (length piece.now)) (told self.old)) }
-        ensures continues { Continues (told self.old) (told self.new) }
-        ensures cause { OnErr result (Rose (told self.old).disk_faults (told self.new).disk_faults) }
-        ensures unwritten { OnErr result ((told self.new).disk ≡ (told self.old).disk) }
+        ensures written { OnOk result ((known self.new).disk ≡ option_map (written at piece.now) (known self.old).disk) }
+        ensures input { (known self.new).input ≡ (known self.old).input }
+        ensures sent { (known self.new).sent ≡ (known self.old).sent }
+        ensures moments { Elapses (known self.old) (known self.new) (Changes (Torn at (length piece.now)) (known self.old)) }
+        ensures continues { Continues (known self.old) (known self.new) }
+        ensures cause { OnErr result (Rose (known self.old).disk_faults (known self.new).disk_faults) }
+        ensures unwritten { OnErr result ((known self.new).disk ≡ (known self.old).disk) }
         ensures ledger { MatchResult result
             (λ _. IsSpared Call.Write (ledger_of self.old) (ledger_of self.new))
             (λ _. IsRefused Call.Write (ledger_of self.old) (ledger_of self.new)) }
@@ -271,13 +271,13 @@ impl Host for MemoryHost {
     }
 
     fn disk_sync(&mut self) -> Result<(), Failed>
-        ensures settled { OnOk result (IsSettled (told self.new)) }
-        ensures input { (told self.new).input ≡ (told self.old).input }
-        ensures sent { (told self.new).sent ≡ (told self.old).sent }
-        ensures disk { (told self.new).disk ≡ (told self.old).disk }
-        ensures moments { Elapses (told self.old) (told self.new) (Stays (told self.old)) }
-        ensures continues { Continues (told self.old) (told self.new) }
-        ensures cause { OnErr result (Rose (told self.old).disk_faults (told self.new).disk_faults) }
+        ensures settled { OnOk result (IsSettled (known self.new)) }
+        ensures input { (known self.new).input ≡ (known self.old).input }
+        ensures sent { (known self.new).sent ≡ (known self.old).sent }
+        ensures disk { (known self.new).disk ≡ (known self.old).disk }
+        ensures moments { Elapses (known self.old) (known self.new) (Stays (known self.old)) }
+        ensures continues { Continues (known self.old) (known self.new) }
+        ensures cause { OnErr result (Rose (known self.old).disk_faults (known self.new).disk_faults) }
         ensures ledger { MatchResult result
             (λ _. IsSpared Call.Sync (ledger_of self.old) (ledger_of self.new))
             (λ _. IsRefused Call.Sync (ledger_of self.old) (ledger_of self.new)) }

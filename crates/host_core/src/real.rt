@@ -1,9 +1,9 @@
-// The real outside: it tells nothing of what it holds, and counts its faults.
+// The real outside: it exposes nothing of what it holds, and counts its faults.
 ghost use Rattle.std.specs.Prelude.{◌≡◌, ◌<◌, ◌≤◌, ◌^◌, ℕ, List, Some, length, take, drop, IfOk, OnOk, OnErr, MatchResult, IsErr};
 ghost use Rattle.std.specs.Io.KnownBytes.{ReadConsumes, WriteAppends};
 ghost use Rattle.host_core.specs.Outside.{written};
 ghost use Rattle.host_core.specs.Calls.{faulted, no_faults, NoneFalls};
-ghost use Rattle.host_core.specs.Silent.{silent, untold};
+ghost use Rattle.host_core.specs.Opaque.{opaque, unknown};
 ghost use Rattle.host_core.specs.Real.{reader_of, writer_of, disk_of, faults_of};
 
 use crate::call::{Call, Faults};
@@ -72,11 +72,11 @@ fn send_some<W: Write>(output: &mut W, piece: &[u8]) -> io::Result<usize>
 }
 
 impl<R: Read + Drop, W: Write + Drop, D: Disk + Drop> Host for RealHost<R, W, D> {
-    ghost outside = { λ host. silent (faults_of host).reading (faults_of host).sending (faults_of host).storing };
+    ghost outside = { λ host. opaque (faults_of host).reading (faults_of host).sending (faults_of host).storing };
 
     ghost sent_now = { λ host image bytes left. absurd left };
 
-    ghost read_passes = { λ host disk is. absurd (untold disk is) };
+    ghost read_passes = { λ host disk is. absurd (unknown disk is) };
 
     fn read_input(&mut self, into: &mut [u8]) -> Result<usize, Failed>
         ensures bytes { ReadConsumes (R.remaining (reader_of self.old)) (R.remaining (reader_of self.new)) result into.new }
@@ -106,7 +106,7 @@ impl<R: Read + Drop, W: Write + Drop, D: Disk + Drop> Host for RealHost<R, W, D>
 
     fn disk_len(&mut self) -> Result<u64, Failed>
         ensures bound { IfOk result (λ n. n < 2 ^ 63) }
-        ensures len { IfOk result (λ n. (known : List ℕ) → D.bytes (disk_of self.old) ≡ Some known → n ≡ length known) }
+        ensures len { IfOk result (λ n. (content : List ℕ) → D.bytes (disk_of self.old) ≡ Some content → n ≡ length content) }
         ensures kept { D.bytes (disk_of self.new) ≡ D.bytes (disk_of self.old) }
         ensures same { OnOk result (faults_of self.new ≡ faults_of self.old) }
         ensures faults { OnErr result (faults_of self.new ≡ faulted Call.Len (faults_of self.old)) }
@@ -116,7 +116,7 @@ impl<R: Read + Drop, W: Write + Drop, D: Disk + Drop> Host for RealHost<R, W, D>
     }
 
     fn disk_read(&mut self, at: u64, into: &mut [u8]) -> Result<(), Failed>
-        ensures given { OnOk result ((known : List ℕ) → D.bytes (disk_of self.old) ≡ Some known → into.new ≡ take (length into.old) (drop at known)) }
+        ensures given { OnOk result ((content : List ℕ) → D.bytes (disk_of self.old) ≡ Some content → into.new ≡ take (length into.old) (drop at content)) }
         ensures kept { D.bytes (disk_of self.new) ≡ D.bytes (disk_of self.old) }
         ensures same { OnOk result (faults_of self.new ≡ faults_of self.old) }
         ensures faults { OnErr result (faults_of self.new ≡ faulted Call.DiskRead (faults_of self.old)) }
@@ -126,8 +126,8 @@ impl<R: Read + Drop, W: Write + Drop, D: Disk + Drop> Host for RealHost<R, W, D>
     }
 
     fn disk_write(&mut self, at: u64, piece: &[u8]) -> Result<(), Failed>
-        ensures written { OnOk result ((known : List ℕ) → D.bytes (disk_of self.old) ≡ Some known → at ≤ length known
-            → D.bytes (disk_of self.new) ≡ Some (written at piece.now known)) }
+        ensures written { OnOk result ((content : List ℕ) → D.bytes (disk_of self.old) ≡ Some content → at ≤ length content
+            → D.bytes (disk_of self.new) ≡ Some (written at piece.now content)) }
         ensures same { OnOk result (faults_of self.new ≡ faults_of self.old) }
         ensures faults { OnErr result (faults_of self.new ≡ faulted Call.Write (faults_of self.old)) }
         ensures later { NoneFalls (faults_of self.old) (faults_of self.new) }

@@ -5,7 +5,7 @@ ghost use Rattle.host_core.specs.Outside.{Outside, Sends, Grows, Rose, Continues
 
 use crate::host::{Failed, Host};
 
-/// Sends all of a piece, over as many sends as it needs. Where one fails, a front of the piece was sent.
+/// Sends all of a piece, over as many sends as it needs. Where one fails, a prefix of the piece was sent.
 pub fn send_all<H: Host>(host: &mut H, piece: &[u8]) -> Result<(), Failed>
     ensures sent { OnOk result ((H.outside host.new).sent ≡ append_known (H.outside host.old).sent piece.now) }
     ensures partly { OnErr result ((n : ℕ) × Grows (H.outside host.old).sent (H.outside host.new).sent piece.now n) }

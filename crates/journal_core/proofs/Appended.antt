@@ -1,12 +1,12 @@
--- The two steps of an append, over what a host tells before, between and after them.
+-- The two steps of an append, over what a host exposes before, between and after them.
 use Rattle.std.proofs.Common.{◌≡◌, inl, ℕ, ◌+◌, List, [], ◌∷◌, ◌++◌, length, get_or, drop, sym, ◌∙◌, ap, subst, arith, append_assoc, length-append}
 use Rattle.std.specs.Prelude.{Option, Some, option_map, reverse}
 use Rattle.std.proofs.lemmas.List.{length-reverse}
 use Rattle.host_core.specs.Outside.{Outside, MayLeave, Stays, Changes, IsSettled, Torn, written}
-use Rattle.host_core.proofs.Told.{mapped}
+use Rattle.host_core.proofs.Known.{mapped}
 use Rattle.wire_in.specs.declared.record.Record.{Record}
 use Rattle.journal_core.specs.Layout.{IsBatch, LeadsTo, HoldsTo, frames_of, content, with_batch}
-use Rattle.journal_core.specs.Journal.{Kept, Keeps, IsOf, IsAtRest, IsGateOf, IsSettledAt, Appends, Grown}
+use Rattle.journal_core.specs.Journal.{JournalState, Represents, IsOfDisk, IsAtRest, IsGateOf, IsSettledAt, Appends, Grown}
 use Rattle.journal_core.proofs.Images.{closed, torn_behind, written_behind, torn_gate, written_gate, grown, either}
 
 -- what an append writes behind a gate
@@ -17,14 +17,14 @@ body batch = content batch ++ 0 ∷ []
 abbrev pub next_gate : ℕ → List Record → ℕ
 next_gate gate batch = gate + (length (frames_of batch) + 5)
 
-module _ {limit gate : ℕ} {records : List Record} {disk : List ℕ} (batch : List Record) (valid : IsBatch batch) (held : HoldsTo limit gate records disk) where
-  staged : LeadsTo limit gate held.batches (written (gate + 1) (body batch) disk) (0 ∷ (content batch ++ 0 ∷ drop (gate + 1 + length (body batch)) disk))
-  staged = subst (λ l. LeadsTo limit gate held.batches (written (gate + 1) (body batch) disk) (0 ∷ l)) (append_assoc (content batch) (0 ∷ []) (drop (gate + 1 + length (body batch)) disk)) (written_behind held.leads (body batch))
+module _ {capacity gate : ℕ} {records : List Record} {disk : List ℕ} (batch : List Record) (valid : IsBatch batch) (held : HoldsTo capacity gate records disk) where
+  staged : LeadsTo capacity gate held.batches (written (gate + 1) (body batch) disk) (0 ∷ (content batch ++ 0 ∷ drop (gate + 1 + length (body batch)) disk))
+  staged = subst (λ l. LeadsTo capacity gate held.batches (written (gate + 1) (body batch) disk) (0 ∷ l)) (append_assoc (content batch) (0 ∷ []) (drop (gate + 1 + length (body batch)) disk)) (written_behind held.leads (body batch))
 
-  opened_torn : (image : List ℕ) (torn : Torn gate 1 (written (gate + 1) (body batch) disk) image) → LeadsTo limit gate held.batches image (get_or image gate 0 ∷ (content batch ++ 0 ∷ (drop (gate + 1 + length (body batch)) disk ++ torn.more)))
-  opened_torn image torn = subst (λ l. LeadsTo limit gate held.batches image (get_or image gate 0 ∷ l)) (append_assoc (content batch) (0 ∷ drop (gate + 1 + length (body batch)) disk) torn.more) (torn_gate staged image torn)
+  opened_torn : (image : List ℕ) (torn : Torn gate 1 (written (gate + 1) (body batch) disk) image) → LeadsTo capacity gate held.batches image (get_or image gate 0 ∷ (content batch ++ 0 ∷ (drop (gate + 1 + length (body batch)) disk ++ torn.more)))
+  opened_torn image torn = subst (λ l. LeadsTo capacity gate held.batches image (get_or image gate 0 ∷ l)) (append_assoc (content batch) (0 ∷ drop (gate + 1 + length (body batch)) disk) torn.more) (torn_gate staged image torn)
 
-  pub with_it : HoldsTo limit (next_gate gate batch) (with_batch records batch) (written gate (1 ∷ []) (written (gate + 1) (body batch) disk))
+  pub with_it : HoldsTo capacity (next_gate gate batch) (with_batch records batch) (written gate (1 ∷ []) (written (gate + 1) (body batch) disk))
   with_it = grown batch (drop (gate + 1 + length (body batch)) disk) held.same (written_gate staged 1) (omega arith) valid
 
 module _ (old mid new : Option (List ℕ)) (gate : ℕ) (batch : List Record)
@@ -43,65 +43,65 @@ module _ (old mid new : Option (List ℕ)) (gate : ℕ) (batch : List Record)
       let from = grown_from disk is in
       record {
         before = from.0;
-        told = from.1;
-        grows = λ limit records held. subst (HoldsTo limit (next_gate gate batch) (with_batch records batch)) from.2 (with_it batch valid held);
+        known = from.1;
+        grows = λ capacity records held. subst (HoldsTo capacity (next_gate gate batch) (with_batch records batch)) from.2 (with_it batch valid held);
       }
 
 -- a journal at rest has its gate at rest
-pub settled_at : {now : Outside} {records : List Record} (journal : Kept) (gate : ℕ) → gate ≡ journal.gate → IsAtRest journal records now → IsSettledAt journal.limit gate records now
+pub settled_at : {now : Outside} {records : List Record} (journal : JournalState) (gate : ℕ) → gate ≡ journal.gate → IsAtRest journal records now → IsSettledAt journal.capacity gate records now
 settled_at {now} {records} journal gate is rest = record {
   settled = rest.settled;
-  holds = λ disk told. subst (λ (g : ℕ). HoldsTo journal.limit g records disk) (sym is) (rest.keeps disk told).held;
+  holds = λ disk known. subst (λ (g : ℕ). HoldsTo journal.capacity g records disk) (sym is) (rest.keeps disk known).held;
 }
 
-pub gate_of_disk : (journal : Kept) (gate : ℕ) (told : Option (List ℕ)) → gate ≡ journal.gate → IsOf journal told → IsGateOf gate told
-gate_of_disk journal gate told is of_disk disk known =
-    let kept = of_disk disk known in
-    (journal.limit, kept.0, subst (λ (g : ℕ). HoldsTo journal.limit g kept.0 disk) (sym is) kept.1.held)
+pub gate_of_disk : (journal : JournalState) (gate : ℕ) (known : Option (List ℕ)) → gate ≡ journal.gate → IsOfDisk journal known → IsGateOf gate known
+gate_of_disk journal gate known is of_disk disk is_known =
+    let kept = of_disk disk is_known in
+    (journal.capacity, kept.0, subst (λ (g : ℕ). HoldsTo journal.capacity g kept.0 disk) (sym is) kept.1.held)
 
 pub grown_by : {gate next : ℕ} {list batch : List Record} {old : Option (List ℕ)} {disk : List ℕ} → list ≡ batch → Grown gate next list old disk → Grown gate next batch old disk
 grown_by {gate} {next} {old = old} {disk = disk} is grows = subst (λ (b : List Record). Grown gate next b old disk) is grows
 
 -- a journal with a batch more
-module _ (old new : Kept) (batch : List Record) (gate : ℕ) (gates : gate ≡ old.gate) (limits : new.limit ≡ old.limit) (counts : new.count ≡ old.count + length batch) where
-  kept_with : {records : List Record} {before disk : List ℕ} → ((limit : ℕ) (held : List Record) → HoldsTo limit gate held before → HoldsTo limit new.gate (with_batch held batch) disk)
-      → Keeps old records before → Keeps new (with_batch records batch) disk
+module _ (old new : JournalState) (batch : List Record) (gate : ℕ) (gates : gate ≡ old.gate) (limits : new.capacity ≡ old.capacity) (counts : new.count ≡ old.count + length batch) where
+  kept_with : {records : List Record} {before disk : List ℕ} → ((capacity : ℕ) (held : List Record) → HoldsTo capacity gate held before → HoldsTo capacity new.gate (with_batch held batch) disk)
+      → Represents old records before → Represents new (with_batch records batch) disk
   kept_with {records} {before} {disk} grows keeps = record {
     held = subst (λ (l : ℕ). HoldsTo l new.gate (with_batch records batch) disk) (sym limits)
-        (grows old.limit records (subst (λ (g : ℕ). HoldsTo old.limit g records before) (sym gates) keeps.held));
+        (grows old.capacity records (subst (λ (g : ℕ). HoldsTo old.capacity g records before) (sym gates) keeps.held));
     count = omega (arith, counts, keeps.count, length-append (reverse batch) records, length-reverse batch);
   }
 
   module _ (before now : Outside) (grown_to : (disk : List ℕ) → now.disk ≡ Some disk → Grown gate new.gate batch before.disk disk) where
-    pub of_disk_with : IsOf old before.disk → IsOf new now.disk
-    of_disk_with of_disk disk told =
-        let from = grown_to disk told in
-        let keeps = of_disk from.before from.told in
+    pub of_disk_with : IsOfDisk old before.disk → IsOfDisk new now.disk
+    of_disk_with of_disk disk known =
+        let from = grown_to disk known in
+        let keeps = of_disk from.before from.known in
         (with_batch keeps.0 batch, kept_with from.grows keeps.1)
 
     pub rest_with : IsSettled now → (records : List Record) → IsAtRest old records before → IsAtRest new (with_batch records batch) now
     rest_with settled records rest = record {
       settled = settled;
-      keeps = λ disk told. let from = grown_to disk told in kept_with from.grows (rest.keeps from.before from.told);
+      keeps = λ disk known. let from = grown_to disk known in kept_with from.grows (rest.keeps from.before from.known);
     }
 
-pub before_steps : (old : Outside) (limit gate : ℕ) (records batch : List Record) → IsSettledAt limit gate records old → (image bytes : List ℕ) → Stays old image bytes → Appends limit records batch old image bytes
-before_steps old limit gate records batch rest image bytes stays = record {
+pub before_steps : (old : Outside) (capacity gate : ℕ) (records batch : List Record) → IsSettledAt capacity gate records old → (image bytes : List ℕ) → Stays old image bytes → Appends capacity records batch old image bytes
+before_steps old capacity gate records batch rest image bytes stays = record {
   holds = inl (record { gate = gate; held = rest.holds image (rest.settled.only image stays.was) });
   sent = stays.sent;
 }
 
-module _ (old : Outside) (limit gate : ℕ) (records batch : List Record) (valid : IsBatch batch) (rest : IsSettledAt limit gate records old) where
-  held : (image : List ℕ) → MayLeave old image → HoldsTo limit gate records image
+module _ (old : Outside) (capacity gate : ℕ) (records batch : List Record) (valid : IsBatch batch) (rest : IsSettledAt capacity gate records old) where
+  held : (image : List ℕ) → MayLeave old image → HoldsTo capacity gate records image
   held image left = rest.holds image (rest.settled.only image left)
 
-  pub first_step : (n : ℕ) (image bytes : List ℕ) → Changes (Torn (gate + 1) n) old image bytes → Appends limit records batch old image bytes
+  pub first_step : (n : ℕ) (image bytes : List ℕ) → Changes (Torn (gate + 1) n) old image bytes → Appends capacity records batch old image bytes
   first_step n image bytes step =
       let before = held step.before step.was in
       record { holds = inl (record { gate = gate; held = closed before.same (torn_behind before.leads n image step.changed) }); sent = step.sent }
 
   module _ (mid : Outside) (first : mid.disk ≡ option_map (written (gate + 1) (body batch)) old.disk) (settled : IsSettled mid) (same : mid.sent ≡ old.sent) where
-    pub second_step : (image bytes : List ℕ) → Changes (Torn gate 1) mid image bytes → Appends limit records batch old image bytes
+    pub second_step : (image bytes : List ℕ) → Changes (Torn gate 1) mid image bytes → Appends capacity records batch old image bytes
     second_step image bytes step =
         let from = mapped (written (gate + 1) (body batch)) old.disk step.before (sym first ∙ settled.only step.before step.was) in
         let before = rest.holds from.0 from.1 in

@@ -11,7 +11,7 @@ use Rattle.wire_in.specs.declared.record.Record.TheVariants.{Day, Listing, Trade
 use Rattle.wire_in.specs.Laws.{IsSound}
 use Rattle.wire_in.specs.Spelling.{InRange, body_of}
 use Rattle.wire_in.specs.Reading.{record_of}
-use Rattle.wire_in.proofs.Found.{record_found}
+use Rattle.wire_in.proofs.DecodesOnly.{record_found}
 use Rattle.wire_in.proofs.Streams.{records_differ}
 use Rattle.journal_core.specs.Layout.{frame_of, frames_of}
 
@@ -40,7 +40,7 @@ pub frames_least : (xs : List Record) → length xs ≤ length (frames_of xs)
 frames_least [] = omega arith
 frames_least (x ∷ xs) = omega (arith, length-append (frame_of x) (frames_of xs), frames_least xs)
 
--- frames at the front of frames are those of the first records
+-- frames at the prefix of frames are those of the first records
 pub frames_front : (xs ys : List Record) (rest : List ℕ) → All IsSound xs → All IsSound ys → frames_of ys ≡ frames_of xs ++ rest
     → (later : List Record) × (ys ≡ xs ++ later) × (rest ≡ frames_of later) × All IsSound later
 frames_front [] ys rest hx hy is = (ys, refl, sym is, hy)
@@ -52,8 +52,8 @@ frames_front (x ∷ xs) (y ∷ ys) rest hx hy is =
 
 pub frames_alone : (xs ys : List Record) → All IsSound xs → All IsSound ys → frames_of xs ≡ frames_of ys → xs ≡ ys
 frames_alone xs ys hx hy is =
-    let front = frames_front xs ys [] hx hy (sym is ∙ sym (append-nil (frames_of xs))) in
-    none front.0 front.1 front.2
+    let prefix = frames_front xs ys [] hx hy (sym is ∙ sym (append-nil (frames_of xs))) in
+    none prefix.0 prefix.1 prefix.2
   where
     none : (later : List Record) → ys ≡ xs ++ later → [] ≡ frames_of later → xs ≡ ys
     none [] same is = sym (same ∙ append-nil xs)

@@ -6,17 +6,17 @@ use Rattle.std.proofs.lemmas.List.{append-nil, take-append-le, drop-append-le, l
 use Rattle.wire_core.specs.Fields.{number}
 use Rattle.wire_core.proofs.Cells.{IsBytes, wide64, cell}
 use Rattle.journal_core.specs.Layout.{IsLimit, LeadsTo, header, signature}
-use Rattle.journal_core.specs.Scan.{Scanned, HasRead, HasHeader, HasNoHeader}
+use Rattle.journal_core.specs.Scan.{ScanState, HasRead, HasHeader, HasNoHeader}
 
 -- bytes that begin with a header
-pub header_read : (bytes : List ℕ) (limit : ℕ) → IsBytes bytes → 16 ≤ length bytes → take 8 bytes ≡ signature → number w64 8 bytes ≡ limit → bytes ≡ header limit ++ drop 16 bytes
-header_read bytes limit range long signed is =
+pub header_read : (bytes : List ℕ) (capacity : ℕ) → IsBytes bytes → 16 ≤ length bytes → take 8 bytes ≡ signature → number w64 8 bytes ≡ capacity → bytes ≡ header capacity ++ drop 16 bytes
+header_read bytes capacity range long signed is =
     sym (take-append-drop 8 bytes)
     ∙ ap (λ (l : List ℕ). l ++ drop 8 bytes) signed
-    ∙ ap (λ (l : List ℕ). signature ++ l) (cell wide64 8 bytes (drop 16 bytes) limit range is long refl)
-    ∙ sym (append_assoc signature (to_be_bytes w64 limit) (drop 16 bytes))
+    ∙ ap (λ (l : List ℕ). signature ++ l) (cell wide64 8 bytes (drop 16 bytes) capacity range is long refl)
+    ∙ sym (append_assoc signature (to_be_bytes w64 capacity) (drop 16 bytes))
 
--- the front of the disk that was read
+-- the prefix of the disk that was read
 pub record IsFrontOf (disk ahead rest : List ℕ) : Type 0 where
   pub whole : disk ≡ ahead ++ rest
   pub long : 17 ≤ length ahead
@@ -27,42 +27,42 @@ front_of_disk size disk ahead sizes long len is = record {
   long = omega (arith, len, long);
 }
 
-module _ (disk ahead rest : List ℕ) (front : IsFrontOf disk ahead rest) where
-  module _ (limit : ℕ) (range : IsLimit limit) (begins : ahead ≡ header limit ++ drop 16 ahead) where
-    whole : disk ≡ header limit ++ (drop 16 ahead ++ rest)
-    whole = front.whole ∙ ap (λ (l : List ℕ). l ++ rest) begins ∙ append_assoc (header limit) (drop 16 ahead) rest
+module _ (disk ahead rest : List ℕ) (prefix : IsFrontOf disk ahead rest) where
+  module _ (capacity : ℕ) (range : IsLimit capacity) (begins : ahead ≡ header capacity ++ drop 16 ahead) where
+    whole : disk ≡ header capacity ++ (drop 16 ahead ++ rest)
+    whole = prefix.whole ∙ ap (λ (l : List ℕ). l ++ rest) begins ∙ append_assoc (header capacity) (drop 16 ahead) rest
 
-    pub has_header : HasHeader limit disk
+    pub has_header : HasHeader capacity disk
     has_header = record {
-      long = omega (arith, front.long, ap length front.whole, length-append ahead rest);
+      long = omega (arith, prefix.long, ap length prefix.whole, length-append ahead rest);
       signed = ap (take 8) whole;
-      limit_is = ap (number w64 8) whole ∙ wide64.read limit (omega (arith, range.most));
+      limit_is = ap (number w64 8) whole ∙ wide64.read capacity (omega (arith, range.most));
       range = range;
     }
 
-    pub leads : LeadsTo limit 16 [] disk (drop 16 ahead ++ rest)
-    leads = record { range = range; front = []; spelled = refl; place = refl; whole = whole ∙ ap (λ (l : List ℕ). l ++ (drop 16 ahead ++ rest)) (sym (append-nil (header limit))) }
+    pub leads : LeadsTo capacity 16 [] disk (drop 16 ahead ++ rest)
+    leads = record { range = range; prefix = []; spelled = refl; place = refl; whole = whole ∙ ap (λ (l : List ℕ). l ++ (drop 16 ahead ++ rest)) (sym (append-nil (header capacity))) }
 
   same_signature : take 8 disk ≡ take 8 ahead
-  same_signature = ap (take 8) front.whole ∙ take-append-le 8 ahead rest (omega (arith, front.long))
+  same_signature = ap (take 8) prefix.whole ∙ take-append-le 8 ahead rest (omega (arith, prefix.long))
 
   same_limit : number w64 8 disk ≡ number w64 8 ahead
   same_limit =
-      ap (λ (l : List ℕ). from_be_bytes w64 (take 8 (drop 8 l))) front.whole
-      ∙ ap (λ (l : List ℕ). from_be_bytes w64 (take 8 l)) (drop-append-le 8 ahead rest (omega (arith, front.long)))
-      ∙ ap (from_be_bytes w64) (take-append-le 8 (drop 8 ahead) rest (omega (arith, front.long, length-drop 8 ahead)))
+      ap (λ (l : List ℕ). from_be_bytes w64 (take 8 (drop 8 l))) prefix.whole
+      ∙ ap (λ (l : List ℕ). from_be_bytes w64 (take 8 l)) (drop-append-le 8 ahead rest (omega (arith, prefix.long)))
+      ∙ ap (from_be_bytes w64) (take-append-le 8 (drop 8 ahead) rest (omega (arith, prefix.long, length-drop 8 ahead)))
 
   pub has_no_header : (take 8 ahead ≢ signature) ⊎ (¬ IsLimit (number w64 8 ahead)) → HasNoHeader disk
   has_no_header (inl other) = inr (inl (λ is. other (sym same_signature ∙ is)))
   has_no_header (inr outside) = inr (inr (λ range. outside (subst IsLimit same_limit range)))
 
 -- what a scan has read that was just begun
-pub begun : (scan : Scanned) (disk ahead rest : List ℕ) (front : IsFrontOf disk ahead rest) (limit : ℕ) → IsLimit limit → ahead ≡ header limit ++ drop 16 ahead → scan.size ≡ length disk → scan.ahead ≡ drop 16 ahead
-    → scan.limit ≡ limit → scan.gate ≡ 16 → scan.count ≡ 0 → scan.is_closed ≡ false → HasRead scan [] disk
-begun scan disk ahead rest front limit range begins size aheads limits gates counts closes = record {
+pub begun : (scan : ScanState) (disk ahead rest : List ℕ) (prefix : IsFrontOf disk ahead rest) (capacity : ℕ) → IsLimit capacity → ahead ≡ header capacity ++ drop 16 ahead → scan.size ≡ length disk → scan.ahead ≡ drop 16 ahead
+    → scan.capacity ≡ capacity → scan.gate ≡ 16 → scan.count ≡ 0 → scan.is_closed ≡ false → HasRead scan [] disk
+begun scan disk ahead rest prefix capacity range begins size aheads limits gates counts closes = record {
   size = size;
   rest = rest;
-  leads = rw (limits, gates, aheads) (leads disk ahead rest front limit range begins);
+  leads = rw (limits, gates, aheads) (leads disk ahead rest prefix capacity range begins);
   count = counts;
   closed = λ is_closed. cc;
 }

@@ -1,8 +1,8 @@
 mod FrameLemmas
 pub mod Images
-pub mod Alone
+pub mod OneList
 mod Appended
-mod FrontLemmas
+mod AtGateLemmas
 mod AheadLemmas
 mod ScanLemmas
 pub mod Settled

@@ -6,11 +6,11 @@ use Rattle.wire_core.specs.Fields.{number}
 use Rattle.wire_core.proofs.Cells.{wide64}
 use Rattle.wire_in.specs.declared.record.Record.{Record}
 use Rattle.journal_core.specs.Layout.{IsLimit, AreBatches, LeadsTo, Holds, content, header, records_of}
-use Rattle.journal_core.specs.Front.{IsDamaged}
-use Rattle.journal_core.specs.Scan.{Scanned, HasRead, HasNoHeader}
+use Rattle.journal_core.specs.AtGate.{IsDamaged}
+use Rattle.journal_core.specs.Scan.{ScanState, HasRead, HasNoHeader}
 use Rattle.journal_core.specs.Laws.{IsReadable}
 use Rattle.journal_core.proofs.Images.{moved, from_gate}
-use Rattle.journal_core.proofs.Alone.{front_of, one_content, one_way}
+use Rattle.journal_core.proofs.OneList.{front_of, one_content, one_way}
 
 -- behind batches that were read, what is left of a list that ends with a closed gate begins with one or with a batch
 not_damaged : (seen held : List (List Record)) (g f rest more : List ℕ) → AreBatches seen g → AreBatches held f → g ++ rest ≡ f ++ 0 ∷ more → IsDamaged rest → ⊥
@@ -45,48 +45,48 @@ seen_first (a ∷ seen) (b ∷ held) g f rest more (tail, opens, spelled) (tail'
     (next.0, ap (λ (x : List Record). x ∷ held) (sym same.0) ∙ ap (λ (xs : List (List Record)). a ∷ xs) next.1)
 
 -- an image that begins with some batches and holds a list holds these batches first
-pub leads_first : (disk : List ℕ) (limit gate : ℕ) (batches : List (List Record)) (rest : List ℕ) (limit' : ℕ) (records : List Record) → LeadsTo limit gate batches disk rest → Holds disk limit' records
-    → (limit ≡ limit') × ((later : List (List Record)) × (records_of (batches ++ later) ≡ records))
-leads_first disk limit gate batches rest limit' records p holds =
+pub leads_first : (disk : List ℕ) (capacity gate : ℕ) (batches : List (List Record)) (rest : List ℕ) (capacity' : ℕ) (records : List Record) → LeadsTo capacity gate batches disk rest → Holds disk capacity' records
+    → (capacity ≡ capacity') × ((later : List (List Record)) × (records_of (batches ++ later) ≡ records))
+leads_first disk capacity gate batches rest capacity' records p holds =
     let q = holds.held.leads in
-    let parts = front_of (header limit) (p.front ++ rest) (header limit') (q.front ++ 0 ∷ holds.held.rest)
-    (sym (append_assoc (header limit) p.front rest) ∙ sym p.whole ∙ q.whole ∙ append_assoc (header limit') q.front (0 ∷ holds.held.rest)) refl in
+    let parts = front_of (header capacity) (p.prefix ++ rest) (header capacity') (q.prefix ++ 0 ∷ holds.held.rest)
+    (sym (append_assoc (header capacity) p.prefix rest) ∙ sym p.whole ∙ q.whole ∙ append_assoc (header capacity') q.prefix (0 ∷ holds.held.rest)) refl in
     let read : (n : ℕ) → IsLimit n → from_be_bytes w64 (to_be_bytes w64 n) ≡ n = λ n range. wide64.read n (omega (arith, range.most)) in
-    let first = seen_first batches holds.held.batches p.front q.front rest holds.held.rest p.spelled q.spelled parts.1 in
-    (sym (read limit p.range) ∙ ap (λ (bytes : List ℕ). from_be_bytes w64 (drop 8 bytes)) parts.0 ∙ read limit' q.range, (first.0, ap records_of (sym first.1) ∙ holds.held.same))
+    let first = seen_first batches holds.held.batches p.prefix q.prefix rest holds.held.rest p.spelled q.spelled parts.1 in
+    (sym (read capacity p.range) ∙ ap (λ (bytes : List ℕ). from_be_bytes w64 (drop 8 bytes)) parts.0 ∙ read capacity' q.range, (first.0, ap records_of (sym first.1) ∙ holds.held.same))
 
 -- and what follows the batches is not damaged
-pub leads_undamaged : (disk : List ℕ) (limit gate : ℕ) (batches : List (List Record)) (rest : List ℕ) (limit' : ℕ) (records : List Record) → LeadsTo limit gate batches disk rest → Holds disk limit' records → IsDamaged rest → ⊥
-leads_undamaged disk limit gate batches rest limit' records p holds damaged =
+pub leads_undamaged : (disk : List ℕ) (capacity gate : ℕ) (batches : List (List Record)) (rest : List ℕ) (capacity' : ℕ) (records : List Record) → LeadsTo capacity gate batches disk rest → Holds disk capacity' records → IsDamaged rest → ⊥
+leads_undamaged disk capacity gate batches rest capacity' records p holds damaged =
     let q = holds.held.leads in
-    let parts = front_of (header limit) (p.front ++ rest) (header limit') (q.front ++ 0 ∷ holds.held.rest)
-    (sym (append_assoc (header limit) p.front rest) ∙ sym p.whole ∙ q.whole ∙ append_assoc (header limit') q.front (0 ∷ holds.held.rest)) refl in
-    not_damaged batches holds.held.batches p.front q.front rest holds.held.rest p.spelled q.spelled parts.1 damaged
+    let parts = front_of (header capacity) (p.prefix ++ rest) (header capacity') (q.prefix ++ 0 ∷ holds.held.rest)
+    (sym (append_assoc (header capacity) p.prefix rest) ∙ sym p.whole ∙ q.whole ∙ append_assoc (header capacity') q.prefix (0 ∷ holds.held.rest)) refl in
+    not_damaged batches holds.held.batches p.prefix q.prefix rest holds.held.rest p.spelled q.spelled parts.1 damaged
 
-undamaged : (disk : List ℕ) (limit : ℕ) (records : List Record) (scan : Scanned) (batches : List (List Record)) → Holds disk limit records → HasRead scan batches disk → IsDamaged (drop scan.gate disk) → ⊥
-undamaged disk limit records scan batches holds read damaged =
+undamaged : (disk : List ℕ) (capacity : ℕ) (records : List Record) (scan : ScanState) (batches : List (List Record)) → Holds disk capacity records → HasRead scan batches disk → IsDamaged (drop scan.gate disk) → ⊥
+undamaged disk capacity records scan batches holds read damaged =
     let p = read.leads in
     let q = holds.held.leads in
     let rest = scan.ahead ++ read.rest in
-    let parts = front_of (header scan.limit) (p.front ++ rest) (header limit) (q.front ++ 0 ∷ holds.held.rest)
-    (sym (append_assoc (header scan.limit) p.front rest) ∙ sym p.whole ∙ q.whole ∙ append_assoc (header limit) q.front (0 ∷ holds.held.rest)) refl in
-    not_damaged batches holds.held.batches p.front q.front rest holds.held.rest p.spelled q.spelled parts.1 (subst IsDamaged (from_gate p) damaged)
+    let parts = front_of (header scan.capacity) (p.prefix ++ rest) (header capacity) (q.prefix ++ 0 ∷ holds.held.rest)
+    (sym (append_assoc (header scan.capacity) p.prefix rest) ∙ sym p.whole ∙ q.whole ∙ append_assoc (header capacity) q.prefix (0 ∷ holds.held.rest)) refl in
+    not_damaged batches holds.held.batches p.prefix q.prefix rest holds.held.rest p.spelled q.spelled parts.1 (subst IsDamaged (from_gate p) damaged)
 
-has_header : (disk : List ℕ) (limit : ℕ) (records : List Record) → Holds disk limit records → HasNoHeader disk → ⊥
-has_header disk limit records holds (inl short) =
+has_header : (disk : List ℕ) (capacity : ℕ) (records : List Record) → Holds disk capacity records → HasNoHeader disk → ⊥
+has_header disk capacity records holds (inl short) =
     let p = holds.held.leads in
-    omega (arith, short, ap length p.whole, length-append (header limit ++ p.front) (0 ∷ holds.held.rest), length-append (header limit) p.front)
-has_header disk limit records holds (inr (inl other)) = other (ap (take 8) holds.held.leads.whole)
-has_header disk limit records holds (inr (inr outside)) =
+    omega (arith, short, ap length p.whole, length-append (header capacity ++ p.prefix) (0 ∷ holds.held.rest), length-append (header capacity) p.prefix)
+has_header disk capacity records holds (inr (inl other)) = other (ap (take 8) holds.held.leads.whole)
+has_header disk capacity records holds (inr (inr outside)) =
     let p = holds.held.leads in
-    outside (subst IsLimit (sym (ap (number w64 8) p.whole ∙ wide64.read limit (omega (arith, p.range.most)))) p.range)
+    outside (subst IsLimit (sym (ap (number w64 8) p.whole ∙ wide64.read capacity (omega (arith, p.range.most)))) p.range)
 
-all_read : (disk : List ℕ) (limit : ℕ) (records : List Record) (scan : Scanned) (batches : List (List Record)) → Holds disk limit records → HasRead scan batches disk → IsTrue scan.is_closed
-    → (scan.limit ≡ limit) × (records_of batches ≡ records)
-all_read disk limit records scan batches holds read is_closed =
+all_read : (disk : List ℕ) (capacity : ℕ) (records : List Record) (scan : ScanState) (batches : List (List Record)) → Holds disk capacity records → HasRead scan batches disk → IsTrue scan.is_closed
+    → (scan.capacity ≡ capacity) × (records_of batches ≡ records)
+all_read disk capacity records scan batches holds read is_closed =
     let zero = read.closed is_closed in
-    let p = moved read.leads disk (0 ∷ zero.0) (read.leads.whole ∙ ap (λ (l : List ℕ). (header scan.limit ++ read.leads.front) ++ l) zero.1) in
-    let way = one_way disk scan.limit scan.gate batches zero.0 limit holds.gate holds.held.batches holds.held.rest p holds.held.leads in
+    let p = moved read.leads disk (0 ∷ zero.0) (read.leads.whole ∙ ap (λ (l : List ℕ). (header scan.capacity ++ read.leads.prefix) ++ l) zero.1) in
+    let way = one_way disk scan.capacity scan.gate batches zero.0 capacity holds.gate holds.held.batches holds.held.rest p holds.held.leads in
     (way.0, ap records_of way.1 ∙ holds.held.same)
 
 pub readable : IsReadable

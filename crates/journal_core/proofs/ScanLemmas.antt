@@ -4,38 +4,38 @@ use Rattle.std.specs.Prelude.{true, false, reverse, IsTrue}
 use Rattle.std.proofs.lemmas.List.{append-nil, take_at, take-append-le, nil_from_length, length-reverse}
 use Rattle.wire_in.specs.declared.record.Record.{Record}
 use Rattle.journal_core.specs.Layout.{Opens, LeadsTo, frames_of, content, header, records_of}
-use Rattle.journal_core.specs.Front.{IsDamaged}
-use Rattle.journal_core.specs.Scan.{Scanned, HasRead}
+use Rattle.journal_core.specs.AtGate.{IsDamaged}
+use Rattle.journal_core.specs.Scan.{ScanState, HasRead}
 use Rattle.journal_core.proofs.Images.{moved, from_gate, opened, records_of-push}
 use Rattle.journal_core.proofs.FrameLemmas.{frames_most}
 
 -- more was read ahead
-pub reads_on : (old : Scanned) (ahead rest : List ℕ) (batches : List (List Record)) (disk : List ℕ) → HasRead old batches disk → drop old.gate disk ≡ ahead ++ rest → HasRead (record old { ahead = ahead }) batches disk
+pub reads_on : (old : ScanState) (ahead rest : List ℕ) (batches : List (List Record)) (disk : List ℕ) → HasRead old batches disk → drop old.gate disk ≡ ahead ++ rest → HasRead (record old { ahead = ahead }) batches disk
 reads_on old ahead rest batches disk read is =
     let same : old.ahead ++ read.rest ≡ ahead ++ rest = sym (from_gate read.leads) ∙ is in
     record {
       size = read.size;
       rest = rest;
-      leads = moved read.leads disk (ahead ++ rest) (read.leads.whole ∙ ap (λ (l : List ℕ). (header old.limit ++ read.leads.front) ++ l) same);
+      leads = moved read.leads disk (ahead ++ rest) (read.leads.whole ∙ ap (λ (l : List ℕ). (header old.capacity ++ read.leads.prefix) ++ l) same);
       count = read.count;
       closed = λ is_closed. let zero = read.closed is_closed in (zero.0, sym same ∙ zero.1);
     }
 
 -- a batch was taken
-module _ (old new : Scanned) (batch : List Record) (opens : Opens batch old.ahead new.ahead) (gates : new.gate ≡ old.gate + (length (frames_of batch) + 5))
-    (counts : new.count ≡ old.count + length batch) (limits : new.limit ≡ old.limit) (sizes : new.size ≡ old.size) (not_closed : new.is_closed ≡ false) where
+module _ (old new : ScanState) (batch : List Record) (opens : Opens batch old.ahead new.ahead) (gates : new.gate ≡ old.gate + (length (frames_of batch) + 5))
+    (counts : new.count ≡ old.count + length batch) (limits : new.capacity ≡ old.capacity) (sizes : new.size ≡ old.size) (not_closed : new.is_closed ≡ false) where
   pub took_batch : (batches : List (List Record)) (disk : List ℕ) → HasRead old batches disk → HasRead new (batches ++ batch ∷ []) disk
   took_batch batches disk read =
       let behind : old.ahead ++ read.rest ≡ opens.gate ∷ (content batch ++ (new.ahead ++ read.rest)) =
       ap (λ (l : List ℕ). l ++ read.rest) opens.whole ∙ ap (λ (l : List ℕ). opens.gate ∷ l) (append_assoc (content batch) new.ahead read.rest) in
-      let before : LeadsTo old.limit old.gate batches disk (opens.gate ∷ (content batch ++ (new.ahead ++ read.rest))) =
-      moved read.leads disk _ (read.leads.whole ∙ ap (λ (l : List ℕ). (header old.limit ++ read.leads.front) ++ l) behind) in
+      let before : LeadsTo old.capacity old.gate batches disk (opens.gate ∷ (content batch ++ (new.ahead ++ read.rest))) =
+      moved read.leads disk _ (read.leads.whole ∙ ap (λ (l : List ℕ). (header old.capacity ++ read.leads.prefix) ++ l) behind) in
       let after = opened batch (new.ahead ++ read.rest) before opens.not_closed opens.valid in
       record {
         size = sizes ∙ read.size;
         rest = read.rest;
         leads = subst (λ (l : ℕ). LeadsTo l new.gate (batches ++ batch ∷ []) disk (new.ahead ++ read.rest)) (sym limits)
-            (subst (λ (g : ℕ). LeadsTo old.limit g (batches ++ batch ∷ []) disk (new.ahead ++ read.rest)) (sym gates) after);
+            (subst (λ (g : ℕ). LeadsTo old.capacity g (batches ++ batch ∷ []) disk (new.ahead ++ read.rest)) (sym gates) after);
         count = omega (arith, counts, read.count, ap length (records_of-push batches batch), length-append (reverse batch) (records_of batches), length-reverse batch);
         closed = λ is_closed. absurd (no_closed is_closed);
       }
@@ -44,7 +44,7 @@ module _ (old new : Scanned) (batch : List Record) (opens : Opens batch old.ahea
       no_closed is_closed = cc
 
 -- the gate was found closed
-pub took_none : (old : Scanned) (more : List ℕ) → old.ahead ≡ 0 ∷ more → (batches : List (List Record)) (disk : List ℕ) → HasRead old batches disk → HasRead (record old { is_closed = true }) batches disk
+pub took_none : (old : ScanState) (more : List ℕ) → old.ahead ≡ 0 ∷ more → (batches : List (List Record)) (disk : List ℕ) → HasRead old batches disk → HasRead (record old { is_closed = true }) batches disk
 took_none old more is batches disk read = record {
   size = read.size;
   rest = read.rest;
@@ -67,20 +67,20 @@ damaged_on (gate ∷ ahead) rest damaged (inr long) = record {
         let n = length (content batch) in
         let short : n ≤ length ahead = omega (arith, long, frames_most batch opens.valid.sound, opens.valid.most) in
         let behind : ahead ++ rest ≡ content batch ++ more = ap (drop 1) opens.whole in
-        let front : take n ahead ≡ content batch = sym (take-append-le n ahead rest short) ∙ ap (take n) behind ∙ take_at (content batch) more n refl in
+        let prefix : take n ahead ≡ content batch = sym (take-append-le n ahead rest short) ∙ ap (take n) behind ∙ take_at (content batch) more n refl in
         let same : gate ≡ opens.gate = ap (λ (l : List ℕ). get_or l 0 0) opens.whole in
         record {
           gate = opens.gate;
           not_closed = opens.not_closed;
           valid = opens.valid;
-          whole = ap (λ (l : List ℕ). gate ∷ l) (sym (take-append-drop n ahead) ∙ ap (λ (l : List ℕ). l ++ drop n ahead) front) ∙ ap (λ (g : ℕ). g ∷ (content batch ++ drop n ahead)) same;
+          whole = ap (λ (l : List ℕ). gate ∷ l) (sym (take-append-drop n ahead) ∙ ap (λ (l : List ℕ). l ++ drop n ahead) prefix) ∙ ap (λ (g : ℕ). g ∷ (content batch ++ drop n ahead)) same;
         }
 
 -- what was read ahead is damaged, and enough was read
-pub damaged_disk : (scan : Scanned) (batches : List (List Record)) (disk : List ℕ) → HasRead scan batches disk → (scan.gate + length scan.ahead ≡ scan.size) ⊎ (2309 ≤ length scan.ahead) → IsDamaged scan.ahead → IsDamaged (drop scan.gate disk)
+pub damaged_disk : (scan : ScanState) (batches : List (List Record)) (disk : List ℕ) → HasRead scan batches disk → (scan.gate + length scan.ahead ≡ scan.size) ⊎ (2309 ≤ length scan.ahead) → IsDamaged scan.ahead → IsDamaged (drop scan.gate disk)
 damaged_disk scan batches disk read enough damaged = subst IsDamaged (sym (from_gate read.leads)) (damaged_on scan.ahead read.rest damaged (all enough)) where
   all : (scan.gate + length scan.ahead ≡ scan.size) ⊎ (2309 ≤ length scan.ahead) → (read.rest ≡ []) ⊎ (2309 ≤ length scan.ahead)
-  all (inl end) = inl (nil_from_length read.rest (omega (arith, end, read.size, read.leads.place, ap length read.leads.whole, length-append (header scan.limit ++ read.leads.front) (scan.ahead ++ read.rest), length-append scan.ahead read.rest)))
+  all (inl end) = inl (nil_from_length read.rest (omega (arith, end, read.size, read.leads.place, ap length read.leads.whole, length-append (header scan.capacity ++ read.leads.prefix) (scan.ahead ++ read.rest), length-append scan.ahead read.rest)))
   all (inr long) = inr long
 
 -- bytes that were read from a place on

@@ -4,49 +4,49 @@ use Rattle.host_core.specs.Outside.{Outside, Agrees, IsSettled}
 use Rattle.wire_in.specs.declared.record.Record.{Record}
 use Rattle.journal_core.specs.Layout.{IsLimit, HoldsTo, Holds, with_batch}
 
--- The limit of a journal, how many records it holds, the place of its next gate, and whether it may be written: since it
+-- The capacity of a journal, how many records it holds, the place of its next gate, and whether it may be written: since it
 -- was read, no call has found a fault.
-pub record Kept : Type 0 where
-  pub limit : ℕ
+pub record JournalState : Type 0 where
+  pub capacity : ℕ
   pub count : ℕ
   pub gate : ℕ
   pub whole : Bool
 
 -- A gate stands within the greatest file, or as many bytes behind it as the records take that were added.
-pub record IsBounded (limit count gate : ℕ) : Type 0 where
-  pub range : IsLimit limit
+pub record IsBounded (capacity count gate : ℕ) : Type 0 where
+  pub range : IsLimit capacity
   pub within : gate ≤ 2 ^ 63 + 41 * count
 
 -- the disk holds these records up to the gate of the journal
-pub record Keeps (journal : Kept) (records : List Record) (disk : List ℕ) : Type 0 where
-  pub held : HoldsTo journal.limit journal.gate records disk
+pub record Represents (journal : JournalState) (records : List Record) (disk : List ℕ) : Type 0 where
+  pub held : HoldsTo journal.capacity journal.gate records disk
   pub count : journal.count ≡ length records
 
--- a journal is of this disk, where it is told
-abbrev pub IsOf : Kept → Option (List ℕ) → Type 0
-IsOf journal told = (disk : List ℕ) → told ≡ Some disk → (records : List Record) × Keeps journal records disk
+-- a journal is of this disk, where it is known
+abbrev pub IsOfDisk : JournalState → Option (List ℕ) → Type 0
+IsOfDisk journal known = (disk : List ℕ) → known ≡ Some disk → (records : List Record) × Represents journal records disk
 
--- nothing is pending, and the disk, where it is told, holds these records
-pub record IsAtRest (journal : Kept) (records : List Record) (now : Outside) : Type 0 where
+-- nothing is pending, and the disk, where it is known, holds these records
+pub record IsAtRest (journal : JournalState) (records : List Record) (now : Outside) : Type 0 where
   pub settled : IsSettled now
-  pub keeps : (disk : List ℕ) → now.disk ≡ Some disk → Keeps journal records disk
+  pub keeps : (disk : List ℕ) → now.disk ≡ Some disk → Represents journal records disk
 
--- a closed gate stands at this place of the disk, where it is told
+-- a closed gate stands at this place of the disk, where it is known
 abbrev pub IsGateOf : ℕ → Option (List ℕ) → Type 0
-IsGateOf gate told = (disk : List ℕ) → told ≡ Some disk → (limit : ℕ) × (records : List Record) × HoldsTo limit gate records disk
+IsGateOf gate known = (disk : List ℕ) → known ≡ Some disk → (capacity : ℕ) × (records : List Record) × HoldsTo capacity gate records disk
 
--- nothing is pending, and the disk, where it is told, holds these records up to a gate
-pub record IsSettledAt (limit gate : ℕ) (records : List Record) (now : Outside) : Type 0 where
+-- nothing is pending, and the disk, where it is known, holds these records up to a gate
+pub record IsSettledAt (capacity gate : ℕ) (records : List Record) (now : Outside) : Type 0 where
   pub settled : IsSettled now
-  pub holds : (disk : List ℕ) → now.disk ≡ Some disk → HoldsTo limit gate records disk
+  pub holds : (disk : List ℕ) → now.disk ≡ Some disk → HoldsTo capacity gate records disk
 
 -- the disk holds the records that another held up to a gate, and a batch more, up to the next gate
 pub record Grown (gate next : ℕ) (batch : List Record) (old : Option (List ℕ)) (disk : List ℕ) : Type 0 where
   pub before : List ℕ
-  pub told : old ≡ Some before
-  pub grows : (limit : ℕ) (records : List Record) → HoldsTo limit gate records before → HoldsTo limit next (with_batch records batch) disk
+  pub known : old ≡ Some before
+  pub grows : (capacity : ℕ) (records : List Record) → HoldsTo capacity gate records before → HoldsTo capacity next (with_batch records batch) disk
 
 -- a stop leaves the records as they were or with the batch, and nothing more was sent
-pub record Appends (limit : ℕ) (records batch : List Record) (old : Outside) (image bytes : List ℕ) : Type 0 where
-  pub holds : Holds image limit records ⊎ Holds image limit (with_batch records batch)
+pub record Appends (capacity : ℕ) (records batch : List Record) (old : Outside) (image bytes : List ℕ) : Type 0 where
+  pub holds : Holds image capacity records ⊎ Holds image capacity (with_batch records batch)
   pub sent : Agrees old.sent bytes

@@ -14,13 +14,13 @@ abbrev pub signature : List ℕ
 signature = 72 ∷ 65 ∷ 76 ∷ 84 ∷ 74 ∷ 78 ∷ 76 ∷ 49 ∷ []
 
 -- how many records a journal may take
-pub record IsLimit (limit : ℕ) : Type 0 where
-  pub least : 1 ≤ limit
-  pub most : limit ≤ 2000000000
+pub record IsLimit (capacity : ℕ) : Type 0 where
+  pub least : 1 ≤ capacity
+  pub most : capacity ≤ 2000000000
 
--- the signature, and the limit in eight bytes
+-- the signature, and the capacity in eight bytes
 abbrev pub header : ℕ → List ℕ
-header limit = signature ++ to_be_bytes w64 limit
+header capacity = signature ++ to_be_bytes w64 capacity
 
 abbrev pub frame_of : Record → List ℕ
 frame_of x = framed (body_of x)
@@ -52,12 +52,12 @@ AreBatches [] bytes = bytes ≡ []
 AreBatches (batch ∷ batches) bytes = (rest : List ℕ) × Opens batch bytes rest × AreBatches batches rest
 
 -- the image begins with a header and these batches, which end at this place, and this follows them
-pub record LeadsTo (limit gate : ℕ) (batches : List (List Record)) (image rest : List ℕ) : Type 0 where
-  pub range : IsLimit limit
-  pub front : List ℕ
-  pub spelled : AreBatches batches front
-  pub place : 16 + length front ≡ gate
-  pub whole : image ≡ header limit ++ front ++ rest
+pub record LeadsTo (capacity gate : ℕ) (batches : List (List Record)) (image rest : List ℕ) : Type 0 where
+  pub range : IsLimit capacity
+  pub prefix : List ℕ
+  pub spelled : AreBatches batches prefix
+  pub place : 16 + length prefix ≡ gate
+  pub whole : image ≡ header capacity ++ prefix ++ rest
 
 -- the records that are held once a batch is added
 abbrev pub with_batch : List Record → List Record → List Record
@@ -68,13 +68,13 @@ abbrev pub records_of : List (List Record) → List Record
 records_of batches = reverse (flat_map (λ batch. batch) batches)
 
 -- the image is a header, batches with these records, a closed gate at this place, and then any bytes
-pub record HoldsTo (limit gate : ℕ) (records : List Record) (image : List ℕ) : Type 0 where
+pub record HoldsTo (capacity gate : ℕ) (records : List Record) (image : List ℕ) : Type 0 where
   pub batches : List (List Record)
   pub same : records_of batches ≡ records
   pub rest : List ℕ
-  pub leads : LeadsTo limit gate batches image (0 ∷ rest)
+  pub leads : LeadsTo capacity gate batches image (0 ∷ rest)
 
--- the image holds these records under this limit
-pub record Holds (image : List ℕ) (limit : ℕ) (records : List Record) : Type 0 where
+-- the image holds these records under this capacity
+pub record Holds (image : List ℕ) (capacity : ℕ) (records : List Record) : Type 0 where
   pub gate : ℕ
-  pub held : HoldsTo limit gate records image
+  pub held : HoldsTo capacity gate records image

@@ -1,7 +1,7 @@
 pub mod Ahead
 pub mod Batch
 pub mod Layout
-pub mod Front
+pub mod AtGate
 pub mod Journal
 pub mod Scan
 pub mod Laws

@@ -82,7 +82,7 @@ impl Ahead {
     }
 }
 
-/// Reads so many bytes from a place of the disk on into the front of a buffer.
+/// Reads so many bytes from a place of the disk on into the prefix of a buffer.
 fn read_front<H: Host>(host: &mut H, at: u64, buffer: &mut [u8], count: usize) -> Result<(), Failed>
     requires room { count ≤ length buffer.old }
     requires within { (disk : List ℕ) → (H.outside host.old).disk ≡ Some disk → at + count ≤ length disk }

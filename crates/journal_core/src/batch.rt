@@ -18,13 +18,13 @@ pub struct Batch {
 impl Model for Batch {
     ghost use Rattle.std.specs.Prelude.{List, vec_capacity};
     ghost use Rattle.wire_in.specs.declared.record.Record.{Record};
-    ghost use Rattle.journal_core.specs.Batch.{IsKept};
+    ghost use Rattle.journal_core.specs.Batch.{IsBatchState};
 
     ghost Value = { List Record };
 
     ghost view = { λ b. b.records.items };
 
-    ghost invariant = { λ b. IsKept b.records.items (vec_capacity b.records) };
+    ghost invariant = { λ b. IsBatchState b.records.items (vec_capacity b.records) };
 }
 
 impl Batch {

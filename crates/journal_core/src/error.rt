@@ -19,7 +19,7 @@ pub enum FormatError {
 /// Why a batch was not appended.
 #[derive(Clone, Copy, Debug, PartialEq, Eq, Error)]
 pub enum AppendError {
-    /// The journal would hold more records than its limit.
+    /// The journal would hold more records than its capacity.
     #[error("the journal takes at most {limit} records")]
     Full { limit: u64 },
 

@@ -17,9 +17,9 @@ use wire_in::Record;
 pub const LIMIT_MAX: u64 = 2_000_000_000;
 
 /// Makes an empty journal that takes up to a number of records, 1 to 2,000,000,000, over what stands there.
-pub fn format<H: Host>(host: &mut H, limit: u64) -> Result<(), FormatError>
-    requires { IsLimit limit }
-    ensures stored { OnOk result ((disk : List ℕ) → (H.outside host.new).disk ≡ Some disk → Holds disk limit []) }
+pub fn format<H: Host>(host: &mut H, capacity: u64) -> Result<(), FormatError>
+    requires { IsLimit capacity }
+    ensures stored { OnOk result ((disk : List ℕ) → (H.outside host.new).disk ≡ Some disk → Holds disk capacity []) }
     ensures settled { OnOk result (IsSettled (H.outside host.new)) }
     ensures input { (H.outside host.new).input ≡ (H.outside host.old).input }
     ensures sent { (H.outside host.new).sent ≡ (H.outside host.old).sent }
@@ -27,17 +27,17 @@ pub fn format<H: Host>(host: &mut H, limit: u64) -> Result<(), FormatError>
     ensures continues { Continues (H.outside host.old) (H.outside host.new) }
     ensures cause { OnErr result (Rose (H.outside host.old).disk_faults (H.outside host.new).disk_faults) }
 {
-    store(host, 0, &fresh(limit))?;
+    store(host, 0, &fresh(capacity))?;
     Ok(())
 }
 
 /// The bytes of an empty journal.
-fn fresh(limit: u64) -> [u8; 17]
-    ensures { result ≡ header limit ++ 0 ∷ [] }
+fn fresh(capacity: u64) -> [u8; 17]
+    ensures { result ≡ header capacity ++ 0 ∷ [] }
 {
     let mut bytes = [0; 17];
     bytes[..8].copy_from_slice(b"HALTJNL1");
-    bytes[8..16].copy_from_slice(&limit.to_be_bytes());
+    bytes[8..16].copy_from_slice(&capacity.to_be_bytes());
     bytes
 }
 
@@ -49,8 +49,8 @@ fn add<H: Host>(host: &mut H, gate: u64, batch: &[Record]) -> Result<u64, Failed
     requires least { 0 < length batch.now }
     requires most { length batch.now ≤ BATCH_MAX }
     requires ranges { All InRange batch.now }
-    ensures moments { (limit : ℕ) (records : List Record) → IsSettledAt limit gate records (H.outside host.old)
-        → Elapses (H.outside host.old) (H.outside host.new) (Appends limit records batch.now (H.outside host.old)) }
+    ensures moments { (capacity : ℕ) (records : List Record) → IsSettledAt capacity gate records (H.outside host.old)
+        → Elapses (H.outside host.old) (H.outside host.new) (Appends capacity records batch.now (H.outside host.old)) }
     ensures grown { IfOk result (λ next. (disk : List ℕ) → (H.outside host.new).disk ≡ Some disk
         → Grown gate next batch.now (H.outside host.old).disk disk) }
     ensures settled { OnOk result (IsSettled (H.outside host.new)) }
@@ -70,33 +70,33 @@ fn add<H: Host>(host: &mut H, gate: u64, batch: &[Record]) -> Result<u64, Failed
 /// A journal that was read to its end, to which batches can be added.
 #[derive(Debug, Drop)]
 pub struct Journal {
-    limit: u64,
+    capacity: u64,
     count: u64,
     gate: u64,
     whole: bool,
 }
 
 impl Model for Journal {
-    ghost use Rattle.journal_core.specs.Journal.{Kept, IsBounded};
+    ghost use Rattle.journal_core.specs.Journal.{JournalState, IsBounded};
 
-    ghost Value = { Kept };
+    ghost Value = { JournalState };
 
-    ghost view = { λ j. record { limit = j.limit; count = j.count; gate = j.gate; whole = j.whole } };
+    ghost view = { λ j. record { capacity = j.capacity; count = j.count; gate = j.gate; whole = j.whole } };
 
-    ghost invariant = { λ j. IsBounded j.limit j.count j.gate };
+    ghost invariant = { λ j. IsBounded j.capacity j.count j.gate };
 }
 
 impl Journal {
-    ghost use Rattle.journal_core.specs.Journal.{IsOf, IsAtRest};
+    ghost use Rattle.journal_core.specs.Journal.{IsOfDisk, IsAtRest};
 
     /// A journal that holds some records up to a gate.
-    pub(crate) fn at(limit: u64, count: u64, gate: u64) -> Journal
-        requires limit { IsLimit limit }
+    pub(crate) fn at(capacity: u64, count: u64, gate: u64) -> Journal
+        requires capacity { IsLimit capacity }
         requires gate { gate ≤ 2 ^ 63 + 41 * count }
-        ensures { result ≡ record { limit = limit; count = count; gate = gate; whole = true } }
+        ensures { result ≡ record { capacity = capacity; count = count; gate = gate; whole = true } }
     {
         Journal {
-            limit,
+            capacity,
             count,
             gate,
             whole: true,
@@ -105,10 +105,10 @@ impl Journal {
 
     /// How many records it takes.
     pub fn limit(&self) -> u64
-        ensures limit { result ≡ self.now.limit }
+        ensures capacity { result ≡ self.now.capacity }
         ensures range { IsLimit result }
     {
-        self.limit
+        self.capacity
     }
 
     /// How many records it holds: those that were read, and those of the appends that answered Ok.
@@ -126,37 +126,37 @@ impl Journal {
     }
 
     /// Adds a batch behind the records that it holds, in four calls of the disk. A stop at any moment leaves the records
-    /// as they were or with the batch. `Full` comes before any call, exactly where the limit would be passed. After
+    /// as they were or with the batch. `Full` comes before any call, exactly where the capacity would be passed. After
     /// `DiskFault` the journal is not whole; which of the two the disk holds shows once it is read again.
     pub fn append<H: Host>(&mut self, host: &mut H, batch: &Batch) -> Result<(), AppendError>
         requires whole { IsTrue self.old.whole }
         requires some { 0 < length batch.now }
-        requires of_disk { IsOf self.old (H.outside host.old).disk }
+        requires of_disk { IsOfDisk self.old (H.outside host.old).disk }
 
         // Whenever the call is stopped, and whatever it answered.
         ensures moments { (records : List Record) → IsAtRest self.old records (H.outside host.old)
-            → Elapses (H.outside host.old) (H.outside host.new) (Appends self.old.limit records batch.now (H.outside host.old)) }
+            → Elapses (H.outside host.old) (H.outside host.new) (Appends self.old.capacity records batch.now (H.outside host.old)) }
         ensures left { (records : List Record) (image : List ℕ) → IsAtRest self.old records (H.outside host.old) → MayLeave (H.outside host.new) image
-            → Holds image self.old.limit records ⊎ Holds image self.old.limit (with_batch records batch.now) }
+            → Holds image self.old.capacity records ⊎ Holds image self.old.capacity (with_batch records batch.now) }
         ensures stored { OnOk result ((records : List Record) → IsAtRest self.old records (H.outside host.old)
             → IsAtRest self.new (with_batch records batch.now) (H.outside host.new)) }
-        ensures of_disk { OnOk result (IsOf self.new (H.outside host.new).disk) }
+        ensures of_disk { OnOk result (IsOfDisk self.new (H.outside host.new).disk) }
 
         ensures count { OnOk result (self.new.count ≡ self.old.count + length batch.now) }
-        ensures limit { self.new.limit ≡ self.old.limit }
+        ensures capacity { self.new.capacity ≡ self.old.capacity }
         ensures whole { IsTrue self.new.whole ↔ (result ≢ Err AppendError.DiskFault) }
 
-        ensures full { (result ≡ Err (AppendError.Full self.old.limit)) ↔ (self.old.limit < self.old.count + length batch.now) }
-        ensures full_limit { (limit : ℕ) → result ≡ Err (AppendError.Full limit) → limit ≡ self.old.limit }
-        ensures before { (limit : ℕ) → result ≡ Err (AppendError.Full limit) → (self.new ≡ self.old) × (host.new ≡ host.old) }
+        ensures full { (result ≡ Err (AppendError.Full self.old.capacity)) ↔ (self.old.capacity < self.old.count + length batch.now) }
+        ensures full_limit { (capacity : ℕ) → result ≡ Err (AppendError.Full capacity) → capacity ≡ self.old.capacity }
+        ensures before { (capacity : ℕ) → result ≡ Err (AppendError.Full capacity) → (self.new ≡ self.old) × (host.new ≡ host.old) }
         ensures cause { result ≡ Err AppendError.DiskFault → Rose (H.outside host.old).disk_faults (H.outside host.new).disk_faults }
 
         ensures input { (H.outside host.new).input ≡ (H.outside host.old).input }
         ensures sent { (H.outside host.new).sent ≡ (H.outside host.old).sent }
         ensures continues { Continues (H.outside host.old) (H.outside host.new) }
     {
-        if batch.len() as u64 > self.limit.saturating_sub(self.count) {
-            return Err(AppendError::Full { limit: self.limit });
+        if batch.len() as u64 > self.capacity.saturating_sub(self.count) {
+            return Err(AppendError::Full { limit: self.capacity });
         }
         self.whole = false;
         self.gate = add(host, self.gate, batch.list())?;

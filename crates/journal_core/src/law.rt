@@ -2,7 +2,7 @@
 
 ghost use Rattle.journal_core.specs.Laws.{HoldsOneList, IsReadable};
 
-/// An image holds at most one list of records, under one limit and in one way.
+/// An image holds at most one list of records, under one capacity and in one way.
 pub fn an_image_holds_one_list()
     ensures { HoldsOneList }
 {}

@@ -5,7 +5,7 @@ mod ahead;
 mod batch;
 mod error;
 mod frames;
-mod front;
+mod at_gate;
 mod journal;
 mod law;
 mod scan;

@@ -8,7 +8,7 @@ ghost use Rattle.journal_core.specs.Layout.{IsBatch, IsLimit, Opens, frames_of, 
 use crate::ahead::Ahead;
 use crate::batch::Batch;
 use crate::error::ScanError;
-use crate::front::Front;
+use crate::at_gate::AtGate;
 use crate::journal::{Journal, LIMIT_MAX};
 use host_core::{Failed, Host};
 use std::alloc::Global;
@@ -21,7 +21,7 @@ const BATCH_BYTES: u64 = 2309;
 /// A journal that is read batch by batch. It writes nothing, and takes no memory once it was begun.
 #[derive(Debug, Drop)]
 pub struct Scan {
-    limit: u64,
+    capacity: u64,
     count: u64,
     at: u64,
     gate: u64,
@@ -31,25 +31,25 @@ pub struct Scan {
 }
 
 impl Model for Scan {
-    ghost use Rattle.journal_core.specs.Scan.{Scanned, IsOrdered};
+    ghost use Rattle.journal_core.specs.Scan.{ScanState, IsOrdered};
 
-    ghost Value = { Scanned };
+    ghost Value = { ScanState };
 
-    ghost view = { λ s. record { limit = s.limit; count = s.count; at = s.at; gate = s.gate; is_closed = s.closed; size = s.size; ahead = s.ahead } };
+    ghost view = { λ s. record { capacity = s.capacity; count = s.count; at = s.at; gate = s.gate; is_closed = s.closed; size = s.size; ahead = s.ahead } };
 
-    ghost invariant = { λ s. IsOrdered s.limit s.count s.gate s.size s.ahead };
+    ghost invariant = { λ s. IsOrdered s.capacity s.count s.gate s.size s.ahead };
 }
 
 impl Scan {
-    ghost use Rattle.journal_core.specs.Front.{IsDamaged};
-    ghost use Rattle.journal_core.specs.Journal.{Keeps, IsOf};
+    ghost use Rattle.journal_core.specs.AtGate.{IsDamaged};
+    ghost use Rattle.journal_core.specs.Journal.{Represents, IsOfDisk};
     ghost use Rattle.journal_core.specs.Scan.{HasRead, IsScanOf, IsBegun, HasHeader, HasNoHeader};
 
     /// Begins at the header of a journal, after a sync of the disk. It takes a buffer. `NoJournal` comes exactly where the
-    /// disk has fewer than 17 bytes, another signature, or a limit outside its range.
+    /// disk has fewer than 17 bytes, another signature, or a capacity outside its range.
     pub fn begin<H: Host>(alloc: Global, host: &mut H) -> Result<Scan, ScanError>
         ensures begun { IfOk result IsBegun }
-        ensures header { IfOk result (λ scan. (disk : List ℕ) → (H.outside host.new).disk ≡ Some disk → HasHeader scan.limit disk) }
+        ensures header { IfOk result (λ scan. (disk : List ℕ) → (H.outside host.new).disk ≡ Some disk → HasHeader scan.capacity disk) }
         ensures read { IfOk result (λ scan. (disk : List ℕ) → (H.outside host.new).disk ≡ Some disk → HasRead scan [] disk) }
         ensures of_disk { IfOk result (λ scan. IsScanOf scan (H.outside host.new).disk) }
         ensures settled { OnOk result (IsSettled (H.outside host.new)) }
@@ -70,7 +70,7 @@ impl Scan {
     /// Reads the header.
     fn open<H: Host>(host: &mut H, ahead: Ahead) -> Result<Scan, ScanError>
         ensures begun { IfOk result IsBegun }
-        ensures header { IfOk result (λ scan. (disk : List ℕ) → (H.outside host.new).disk ≡ Some disk → HasHeader scan.limit disk) }
+        ensures header { IfOk result (λ scan. (disk : List ℕ) → (H.outside host.new).disk ≡ Some disk → HasHeader scan.capacity disk) }
         ensures read { IfOk result (λ scan. (disk : List ℕ) → (H.outside host.new).disk ≡ Some disk → HasRead scan [] disk) }
         ensures no_journal { result ≡ Err ScanError.NoJournal → (disk : List ℕ) → (H.outside host.new).disk ≡ Some disk → HasNoHeader disk }
         ensures only { (error : _) → result ≡ Err error → (error ≡ ScanError.NoJournal) ⊎ (error ≡ ScanError.DiskFault) }
@@ -87,12 +87,12 @@ impl Scan {
             return Err(ScanError::NoJournal);
         }
         ahead.read(host, 0, size)?;
-        let Some(limit) = limit_of(ahead.bytes()) else {
+        let Some(capacity) = limit_of(ahead.bytes()) else {
             return Err(ScanError::NoJournal);
         };
         ahead.skip(16);
         Ok(Scan {
-            limit,
+            capacity,
             count: 0,
             at: 16,
             gate: 16,
@@ -126,7 +126,7 @@ impl Scan {
         ensures goes_on { result ≡ Ok true → self.old.gate < self.new.gate }
         ensures within { self.new.gate ≤ self.new.size }
         ensures size { self.new.size ≡ self.old.size }
-        ensures limit { self.new.limit ≡ self.old.limit }
+        ensures capacity { self.new.capacity ≡ self.old.capacity }
 
         ensures no_memory { result ≢ Err ScanError.NoMemory }
         ensures no_journal { result ≢ Err ScanError.NoJournal }
@@ -140,7 +140,7 @@ impl Scan {
     {
         into.clear();
         self.fill(host)?;
-        self.take_front(into)
+        self.take_at_gate(into)
     }
 
     /// The place of the gate of the batch that was read last, or of the first gate, in bytes of the disk.
@@ -152,22 +152,22 @@ impl Scan {
 
     /// How many records the journal takes.
     pub fn limit(&self) -> u64
-        ensures limit { result ≡ self.now.limit }
+        ensures capacity { result ≡ self.now.capacity }
         ensures range { IsLimit result }
     {
-        self.limit
+        self.capacity
     }
 
     /// The journal, once it was read to its end.
     pub fn finish(self) -> Journal
         requires { IsTrue self.is_closed }
-        ensures limit { result.limit ≡ self.limit }
+        ensures capacity { result.capacity ≡ self.capacity }
         ensures count { result.count ≡ self.count }
         ensures whole { IsTrue result.whole }
-        ensures keeps { (batches : List (List Record)) (disk : List ℕ) → HasRead self batches disk → Keeps result (records_of batches) disk }
-        ensures of_disk { (told : _) → IsScanOf self told → IsOf result told }
+        ensures keeps { (batches : List (List Record)) (disk : List ℕ) → HasRead self batches disk → Represents result (records_of batches) disk }
+        ensures of_disk { (known : _) → IsScanOf self known → IsOfDisk result known }
     {
-        Journal::at(self.limit, self.count, self.gate)
+        Journal::at(self.capacity, self.count, self.gate)
     }
 
     /// Reads on where a batch may not be there as a whole.
@@ -193,7 +193,7 @@ impl Scan {
     }
 
     /// Takes what stands at the next gate of what was read ahead.
-    fn take_front(&mut self, into: &mut Batch) -> Result<bool, ScanError>
+    fn take_at_gate(&mut self, into: &mut Batch) -> Result<bool, ScanError>
         requires { into.old ≡ [] }
         ensures batch { result ≡ Ok true → Opens into.new self.old.ahead self.new.ahead
             × (self.new.gate ≡ self.old.gate + (length (frames_of into.new) + 5))
@@ -204,16 +204,16 @@ impl Scan {
         ensures only { (error : _) → result ≡ Err error → (at : ℕ) × (error ≡ ScanError.Damaged at) }
         ensures none { (result ≡ Ok true) ⊎ (into.new ≡ []) }
         ensures reads { (result ≡ Ok true) ⊎ ((batches : List (List Record)) (disk : List ℕ) → HasRead self.old batches disk → HasRead self.new batches disk) }
-        ensures limit { self.new.limit ≡ self.old.limit }
+        ensures capacity { self.new.capacity ≡ self.old.capacity }
         ensures size { self.new.size ≡ self.old.size }
         ensures within { self.new.gate ≤ self.new.size }
     {
-        match Front::read(self.ahead.bytes(), into) {
-            Front::Closed => {
+        match AtGate::read(self.ahead.bytes(), into) {
+            AtGate::Closed => {
                 self.closed = true;
                 Ok(false)
             }
-            Front::Batch { len } => {
+            AtGate::Batch { len } => {
                 self.ahead.skip(len);
                 self.at = self.gate;
                 self.gate += len as u64;
@@ -221,7 +221,7 @@ impl Scan {
                 self.closed = false;
                 Ok(true)
             }
-            Front::Damaged => {
+            AtGate::Damaged => {
                 into.clear();
                 Err(ScanError::Damaged { at: self.gate })
             }
@@ -229,16 +229,16 @@ impl Scan {
     }
 }
 
-/// The limit of the header that some bytes begin with; none exactly where they begin with no header.
+/// The capacity of the header that some bytes begin with; none exactly where they begin with no header.
 fn limit_of(bytes: &[u8]) -> Option<u64>
     requires { 16 ≤ length bytes.now }
     ensures { MatchOption result
         ((take 8 bytes.now ≢ signature) ⊎ (¬ IsLimit (number w64 8 bytes.now)))
-        (λ limit. IsLimit limit × (limit ≡ number w64 8 bytes.now) × (bytes.now ≡ header limit ++ drop 16 bytes.now)) }
+        (λ capacity. IsLimit capacity × (capacity ≡ number w64 8 bytes.now) × (bytes.now ≡ header capacity ++ drop 16 bytes.now)) }
 {
-    let limit = u64_at(bytes, 8);
-    if !bytes.starts_with(b"HALTJNL1") || limit < 1 || LIMIT_MAX < limit {
+    let capacity = u64_at(bytes, 8);
+    if !bytes.starts_with(b"HALTJNL1") || capacity < 1 || LIMIT_MAX < capacity {
         return None;
     }
-    Some(limit)
+    Some(capacity)
 }

@@ -1,6 +1,6 @@
 ghost use Rattle.std.specs.Prelude.{◌<◌, ◌≤◌, IfOk, IsTrue, length};
-ghost use Rattle.host_core.specs.Memory.{told};
-ghost use Rattle.journal_core.specs.Journal.{IsOf};
+ghost use Rattle.host_core.specs.Memory.{known};
+ghost use Rattle.journal_core.specs.Journal.{IsOfDisk};
 
 use super::*;
 use host_core::{Host, JournalFile, MemoryHost, Pick, RealHost};
@@ -56,7 +56,7 @@ fn quotes(alloc: Global, count: usize) -> Result<Batch, Fail>
 /// Reads a journal to its end.
 fn open<H: Host>(alloc: Global, host: &mut H) -> Result<Journal, ScanError>
     ensures whole { IfOk result (λ journal. IsTrue journal.whole) }
-    ensures of_disk { IfOk result (λ journal. IsOf journal (H.outside host.new).disk) }
+    ensures of_disk { IfOk result (λ journal. IsOfDisk journal (H.outside host.new).disk) }
 {
     let mut scan = Scan::begin(alloc, host)?;
     let mut batch = Batch::new(alloc)?;
@@ -183,7 +183,7 @@ fn fill(
 ) -> Result<(), AppendError>
     requires whole { IsTrue journal.old.whole }
     requires some { 0 < length batch.now }
-    requires of_disk { IsOf journal.old (told host.old).disk }
+    requires of_disk { IsOfDisk journal.old (known host.old).disk }
 {
     while journal.count() < count {
         journal.append(host, batch)?;

@@ -80,26 +80,26 @@ again_next from held records i x lt is first second =
     sends_on first (spelled (sent_again from (x ∷ with_batch held (take i records)))) more.0 all second
 
 pub owes_text : {begin now : Option (List ℕ)} {waiting : List ℕ} (text same : List ℕ) → text ≡ same → Owes begin now waiting text → Owes begin now waiting same
-owes_text text same is owes = record { sent = owes.sent; told = owes.told; whole = owes.whole ∙ is }
+owes_text text same is owes = record { sent = owes.sent; known = owes.known; whole = owes.whole ∙ is }
 
 -- what waits of the messages before a batch
-pub batch_none : {begin : Option (List ℕ)} (from : Option ℕ) (limit : ℕ) (held records : List Record) (engine : Engine) (outbox : List ℕ) (now : Outside) → ((image bytes : List ℕ) → now.leaves now.moment image bytes → Agrees now.sent bytes)
-    → Resumes from limit held begin engine outbox now → Elapses now now (SendsFront begin (spelled (sent_again from (with_batch held records))) now)
-batch_none from limit held records engine outbox now sent_now resumes =
+pub batch_none : {begin : Option (List ℕ)} (from : Option ℕ) (capacity : ℕ) (held records : List Record) (engine : Engine) (outbox : List ℕ) (now : Outside) → ((image bytes : List ℕ) → now.leaves now.moment image bytes → Agrees now.sent bytes)
+    → Resumes from capacity held begin engine outbox now → Elapses now now (SendsFront begin (spelled (sent_again from (with_batch held records))) now)
+batch_none from capacity held records engine outbox now sent_now resumes =
     let more = again_first from (reverse records) held in
     sends_longer (spelled (sent_again from held)) more.0 (spelled (sent_again from (with_batch held records))) more.1 (sends_none now sent_now outbox (spelled (sent_again from held)) resumes.owes)
 
-pub resumes_next : (from : Option ℕ) (limit : ℕ) (held records : List Record) (i : ℕ) (x : Record) → i < length records → x ≡ get_or records i x → (begin : Option (List ℕ)) (engine : Engine) (outbox : List ℕ) (now : Outside)
-    → Resumes from limit (x ∷ with_batch held (take i records)) begin engine outbox now → Resumes from limit (with_batch held (take (i + 1) records)) begin engine outbox now
-resumes_next from limit held records i x lt is begin engine outbox now = subst (λ (r : List Record). Resumes from limit r begin engine outbox now) (with_next held records i x lt is)
+pub resumes_next : (from : Option ℕ) (capacity : ℕ) (held records : List Record) (i : ℕ) (x : Record) → i < length records → x ≡ get_or records i x → (begin : Option (List ℕ)) (engine : Engine) (outbox : List ℕ) (now : Outside)
+    → Resumes from capacity (x ∷ with_batch held (take i records)) begin engine outbox now → Resumes from capacity (with_batch held (take (i + 1) records)) begin engine outbox now
+resumes_next from capacity held records i x lt is begin engine outbox now = subst (λ (r : List Record). Resumes from capacity r begin engine outbox now) (with_next held records i x lt is)
 
-pub resumes_all : (from : Option ℕ) (limit : ℕ) (held records : List Record) (i : ℕ) → length records ≤ i → (begin : Option (List ℕ)) (engine : Engine) (outbox : List ℕ) (now : Outside)
-    → Resumes from limit (with_batch held (take i records)) begin engine outbox now → Resumes from limit (with_batch held records) begin engine outbox now
-resumes_all from limit held records i le begin engine outbox now = subst (λ (r : List Record). Resumes from limit (with_batch held r) begin engine outbox now) (take_all i records le)
+pub resumes_all : (from : Option ℕ) (capacity : ℕ) (held records : List Record) (i : ℕ) → length records ≤ i → (begin : Option (List ℕ)) (engine : Engine) (outbox : List ℕ) (now : Outside)
+    → Resumes from capacity (with_batch held (take i records)) begin engine outbox now → Resumes from capacity (with_batch held records) begin engine outbox now
+resumes_all from capacity held records i le begin engine outbox now = subst (λ (r : List Record). Resumes from capacity (with_batch held r) begin engine outbox now) (take_all i records le)
 
-pub refused_at : (from : Option ℕ) (limit : ℕ) (held records : List Record) (i : ℕ) (x : Record) → i < length records → x ≡ get_or records i x → (begin : Option (List ℕ)) (engine : Engine) (outbox : List ℕ) (now : Outside)
-    → Resumes from limit (with_batch held (take i records)) begin engine outbox now × (verdict limit (with_batch held (take i records)) x ≢ None) → IsRefusedIn from limit held records begin engine outbox now
-refused_at from limit held records i x lt is begin engine outbox now (resumes, refused) = record {
+pub refused_at : (from : Option ℕ) (capacity : ℕ) (held records : List Record) (i : ℕ) (x : Record) → i < length records → x ≡ get_or records i x → (begin : Option (List ℕ)) (engine : Engine) (outbox : List ℕ) (now : Outside)
+    → Resumes from capacity (with_batch held (take i records)) begin engine outbox now × (verdict capacity (with_batch held (take i records)) x ≢ None) → IsRefusedIn from capacity held records begin engine outbox now
+refused_at from capacity held records i x lt is begin engine outbox now (resumes, refused) = record {
   good = take i records;
   bad = x;
   later = drop (i + 1) records;
@@ -108,6 +108,6 @@ refused_at from limit held records i x lt is begin engine outbox now (resumes, r
   refused = refused;
 }
 
-pub resumes_same : (from : Option ℕ) (limit : ℕ) (held records same : List Record) → records ≡ same → (begin : Option (List ℕ)) (engine : Engine) (outbox : List ℕ) (now : Outside)
-    → Resumes from limit (with_batch held records) begin engine outbox now → Resumes from limit (with_batch held same) begin engine outbox now
-resumes_same from limit held records same is begin engine outbox now = subst (λ (r : List Record). Resumes from limit (with_batch held r) begin engine outbox now) is
+pub resumes_same : (from : Option ℕ) (capacity : ℕ) (held records same : List Record) → records ≡ same → (begin : Option (List ℕ)) (engine : Engine) (outbox : List ℕ) (now : Outside)
+    → Resumes from capacity (with_batch held records) begin engine outbox now → Resumes from capacity (with_batch held same) begin engine outbox now
+resumes_same from capacity held records same is begin engine outbox now = subst (λ (r : List Record). Resumes from capacity (with_batch held r) begin engine outbox now) is

@@ -11,7 +11,7 @@ use Rattle.engine_core.specs.Ends.{IsEnd, end_of}
 use Rattle.live_core.specs.Safe.{Begin}
 use Rattle.live_core.specs.Ends.{Answered}
 
--- the input's end comes before the limit
+-- the input's end comes before the capacity
 ends_at_end : (most read : ℕ) (input : List ℕ) (status : Status) → read < most → read ≡ length input
     → status ≡ (cond (length (rest_of (take (read + 0) input)) == 0) Done Truncated) → status ≡ end_of most input
 ends_at_end most read input status lt all is =
@@ -27,7 +27,7 @@ last_end begin input most read n status now lt all answered is none =
     let at_once : status ≡ (cond (length (rest_of (take (read + 0) input)) == 0) Done Truncated) = is ∙ ap (λ (k : ℕ). cond (length (rest_of (take (read + k) input)) == 0) Done Truncated) none in
     (ends_at_end most read input status lt all at_once, subst (λ (k : ℕ). Answered begin input k now) (omega arith) answered)
 
--- the limit is reached: an end, or a fault of sending
+-- the capacity is reached: an end, or a fault of sending
 pub full_end : (begin : Begin) (input : List ℕ) (most read : ℕ) (now : Outside) (before after : ℕ) (status : Status) → read ≤ most → most ≤ read → read ≤ length input
     → (status ≡ SessionFull → Answered begin input read now) → (status ≡ SessionFull) ⊎ ((status ≡ SendFault) × Rose before after) → IsEnd status
     → (status ≡ end_of most input) × Answered begin input (min most (length input)) now

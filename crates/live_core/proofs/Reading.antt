@@ -27,7 +27,7 @@ safe_up_to begin input n m le image bytes safe =
 pub safe_sends : (begin : Begin) (read : List ℕ) (live : Live) (now : Outside) → Serves begin read live now → (image bytes : List ℕ) → SendsFront (Some begin.sent) (due begin (bodies_of read)) now image bytes → IsSafe begin (bodies_of read) image bytes
 safe_sends begin read live now serves image bytes stop =
     safe_leaves begin read image bytes
-    (sent_leaves live.journal begin.limit (held_after begin (bodies_of read)) now serves.stands.limited serves.stands.at_rest begin.sent (due begin (bodies_of read)) image bytes stop)
+    (sent_leaves live.journal begin.capacity (held_after begin (bodies_of read)) now serves.stands.limited serves.stands.at_rest begin.sent (due begin (bodies_of read)) image bytes stop)
 
 -- after all that waits was sent
 pub flushed : (begin : Begin) (read : List ℕ) (live after : Live) (old mid : Outside) → Serves begin read live old → after ≡ record live { outbox = after.outbox } → after.outbox ≡ []
@@ -35,7 +35,7 @@ pub flushed : (begin : Begin) (read : List ℕ) (live after : Live) (old mid : O
 flushed begin read live after old mid serves same none sent run disk = record {
   cutter = ap (λ (l : Live). pending l.cutter) same ∙ serves.cutter;
   place = ap (λ (l : Live). l.place) same ∙ serves.place;
-  stands = subst (λ (l : Live). Stands l begin.limit (held_after begin (bodies_of read)) mid) (sym same) (record {
+  stands = subst (λ (l : Live). Stands l begin.capacity (held_after begin (bodies_of read)) mid) (sym same) (record {
     engine = serves.stands.engine;
     limited = serves.stands.limited;
     at_rest = at_rest_sends live.journal (held_after begin (bodies_of read)) old mid (Some begin.sent) (due begin (bodies_of read)) serves.stands.at_rest run disk;
@@ -53,7 +53,7 @@ serves_still begin read live mid new serves run disk sent = record {
     limited = serves.stands.limited;
     at_rest = at_rest_stays live.journal (held_after begin (bodies_of read)) mid new serves.stands.at_rest run disk;
   };
-  owes = record { sent = serves.owes.sent; told = sent ∙ serves.owes.told; whole = serves.owes.whole };
+  owes = record { sent = serves.owes.sent; known = sent ∙ serves.owes.known; whole = serves.owes.whole };
 }
 
 pub answered_of : (begin : Begin) (input : List ℕ) (count : ℕ) (live : Live) (now : Outside) → now.input ≡ Some (drop count input) → count ≤ length input → now.sent ≡ Some (begin.sent ++ due begin (bodies_of (take count input)))
@@ -63,7 +63,7 @@ answered_of begin input count live now left there sent serves = record {
   there = there;
   sent = sent;
   settled = serves.stands.at_rest.settled;
-  holds = λ disk told. subst (λ (l : ℕ). Holds disk l (held_after begin (bodies_of (take count input)))) serves.stands.limited (record { gate = live.journal.gate; held = (serves.stands.at_rest.keeps disk told).held });
+  holds = λ disk known. subst (λ (l : ℕ). Holds disk l (held_after begin (bodies_of (take count input)))) serves.stands.limited (record { gate = live.journal.gate; held = (serves.stands.at_rest.keeps disk known).held });
 }
 
 -- n bytes more were read

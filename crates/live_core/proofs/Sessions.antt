@@ -25,7 +25,7 @@ use Rattle.live_core.proofs.Recovering.{same_disk, records_more, records_first}
 -- The stops.
 
 pub pending : (begin : Begin) (input : List ℕ) (start : Outside) → Begins begin input start → (bodies : List (List ℕ)) (image bytes : List ℕ) → Opening start begin image bytes → IsSafeOrPending start begin bodies image bytes
-pending begin input start begins bodies image bytes (inl stays) = inr (record { was = stays.was; unsent = stays.sent begin.sent begins.sent_told })
+pending begin input start begins bodies image bytes (inl stays) = inr (record { was = stays.was; unsent = stays.sent begin.sent begins.sent_known })
 pending begin input start begins bodies image bytes (inr leaves) = inl (safe_of begin [] bodies image bytes leaves)
 
 pub serves_on : (begin : Begin) (input : List ℕ) (bodies : List (List ℕ)) {old mid new : Outside} → Begins begin input old → Elapses old mid (Opening old begin) → Elapses mid new (IsSafe begin bodies) → Elapses old new (IsSafeOrPending old begin bodies)
@@ -36,7 +36,7 @@ serves_on begin input bodies {old} begins first second =
 settle : (begin : Begin) (input : List ℕ) (start : Outside) → Begins begin input start → IsSettled start → (bodies : List (List ℕ)) (image bytes : List ℕ) → IsSafeOrPending start begin bodies image bytes → IsSafe begin bodies image bytes
 settle begin input start begins settled bodies image bytes (inl safe) = safe
 settle begin input start begins settled bodies image bytes (inr pending) = safe_of begin [] bodies image bytes (record {
-  holds = subst (λ (i : List ℕ). Holds i begin.limit begin.held) (same_disk start.disk begins.disk image begins.disk_told (settled.only image pending.was)) begins.holds;
+  holds = subst (λ (i : List ℕ). Holds i begin.capacity begin.held) (same_disk start.disk begins.disk image begins.disk_known (settled.only image pending.was)) begins.holds;
   since = [];
   unsent = due begin [];
   bytes_are = pending.unsent ∙ sym (append-nil begin.sent);
@@ -50,7 +50,7 @@ settles begin input bodies {old} begins settled run = widened run (IsSafe begin 
 
 due_first : (begin : Begin) (bodies : List (List ℕ)) (count : ℕ) → (more : List ℕ) × (due begin (take count bodies) ++ more ≡ due begin bodies)
 due_first begin bodies count = (
-  spelled (replies begin.limit (length (take count bodies) + 1) (held_after begin (take count bodies)) (drop count bodies)),
+  spelled (replies begin.capacity (length (take count bodies) + 1) (held_after begin (take count bodies)) (drop count bodies)),
   sym (due_more begin (take count bodies) (drop count bodies)) ∙ ap (due begin) (take-append-drop count bodies),
 )
 
@@ -62,31 +62,31 @@ part_of start begin read now ends = by ends.left where
       record {
         since = safe.leaves.since;
         unsent = safe.leaves.unsent ++ more.0;
-        sent = ends.sent_told ∙ ap (λ (b : List ℕ). Some b) safe.leaves.bytes_are;
+        sent = ends.sent_known ∙ ap (λ (b : List ℕ). Some b) safe.leaves.bytes_are;
         front = sym (append_assoc safe.leaves.since safe.leaves.unsent more.0) ∙ ap (λ (b : List ℕ). b ++ more.0) safe.leaves.front ∙ more.1;
       }
   by (inr pending) = record {
     since = [];
     unsent = due begin (bodies_of read);
-    sent = ends.sent_told ∙ ap (λ (b : List ℕ). Some b) (pending.unsent ∙ sym (append-nil begin.sent));
+    sent = ends.sent_known ∙ ap (λ (b : List ℕ). Some b) (pending.unsent ∙ sym (append-nil begin.sent));
     front = refl;
   }
 
 -- The input from its begin.
 
 pub reads_first : (begin : Begin) (input : List ℕ) (live : Live) (old mid : Outside) → Begins begin input old → mid.input ≡ old.input → Serves begin [] live mid → Reads begin input 0 live mid
-reads_first begin input live old mid begins same serves = record { input_left = same ∙ begins.input_told; there = omega arith; serves = serves }
+reads_first begin input live old mid begins same serves = record { input_left = same ∙ begins.input_known; there = omega arith; serves = serves }
 
 -- Headers and damage.
 
-pub header_stands : (disk : List ℕ) (limit : ℕ) → HasHeader limit disk → HasNoHeader disk → ⊥
-header_stands disk limit header (inl short) = omega (arith, header.long, short)
-header_stands disk limit header (inr (inl other)) = other header.signed
-header_stands disk limit header (inr (inr outside)) = outside (subst IsLimit (sym header.limit_is) header.range)
+pub header_stands : (disk : List ℕ) (capacity : ℕ) → HasHeader capacity disk → HasNoHeader disk → ⊥
+header_stands disk capacity header (inl short) = omega (arith, header.long, short)
+header_stands disk capacity header (inr (inl other)) = other header.signed
+header_stands disk capacity header (inr (inr outside)) = outside (subst IsLimit (sym header.limit_is) header.range)
 
-pub lawful_at : (limit : ℕ) (later : List Record) (x : Record) (before : List Record) → IsLawful limit (later ++ x ∷ before) → verdict limit before x ≡ None
-lawful_at limit [] x before lawful = lawful.0
-lawful_at limit (y ∷ later) x before lawful = lawful_at limit later x before lawful.1
+pub lawful_at : (capacity : ℕ) (later : List Record) (x : Record) (before : List Record) → IsLawful capacity (later ++ x ∷ before) → verdict capacity before x ≡ None
+lawful_at capacity [] x before lawful = lawful.0
+lawful_at capacity (y ∷ later) x before lawful = lawful_at capacity later x before lawful.1
 
 pub backwards : (good : List Record) (bad : Record) (later held : List Record) → with_batch held (good ++ bad ∷ later) ≡ reverse later ++ bad ∷ with_batch held good
 backwards good bad later held =
@@ -94,23 +94,23 @@ backwards good bad later held =
     ∙ append_assoc (reverse later ++ bad ∷ []) (reverse good) held
     ∙ append_assoc (reverse later) (bad ∷ []) (reverse good ++ held)
 
-bad_record : (limit : ℕ) (batches : List (List Record)) (before : List Record) (disk : List ℕ) (held_limit : ℕ) (held : List Record) → HasBadRecord limit batches before disk → Holds disk held_limit held → IsLawful held_limit held → ⊥
-bad_record limit batches before disk held_limit held bad holds lawful =
+bad_record : (capacity : ℕ) (batches : List (List Record)) (before : List Record) (disk : List ℕ) (held_limit : ℕ) (held : List Record) → HasBadRecord capacity batches before disk → Holds disk held_limit held → IsLawful held_limit held → ⊥
+bad_record capacity batches before disk held_limit held bad holds lawful =
     let batch = bad.good ++ bad.bad ∷ bad.later in
-    let first = leads_first disk limit bad.next (batches ++ batch ∷ []) bad.rest held_limit held bad.leads holds in
+    let first = leads_first disk capacity bad.next (batches ++ batch ∷ []) bad.rest held_limit held bad.leads holds in
     let is : (records_of first.1.0 ++ reverse bad.later) ++ bad.bad ∷ before ≡ held =
     append_assoc (records_of first.1.0) (reverse bad.later) (bad.bad ∷ before)
     ∙ ap (λ (b : List Record). records_of first.1.0 ++ (reverse bad.later ++ bad.bad ∷ b)) bad.same
     ∙ ap (λ (r : List Record). records_of first.1.0 ++ r) (sym (records_more batches batch ∙ backwards bad.good bad.bad bad.later (records_of batches)))
     ∙ sym (records_first (batches ++ batch ∷ []) first.1.0) ∙ first.1.1 in
-    let at_limit : IsLawful limit held = subst (λ (l : ℕ). IsLawful l held) (sym first.0) lawful in
-    bad.refused (lawful_at limit (records_of first.1.0 ++ reverse bad.later) bad.bad before (subst (λ (r : List Record). IsLawful limit r) (sym is) at_limit))
+    let at_limit : IsLawful capacity held = subst (λ (l : ℕ). IsLawful l held) (sym first.0) lawful in
+    bad.refused (lawful_at capacity (records_of first.1.0 ++ reverse bad.later) bad.bad before (subst (λ (r : List Record). IsLawful capacity r) (sym is) at_limit))
 
-pub lawful_undamaged : (limit at : ℕ) (before : List Record) (disk : List ℕ) (held_limit : ℕ) (held : List Record) → IsDamagedAt limit at before disk → Holds disk held_limit held → IsLawful held_limit held → ⊥
-lawful_undamaged limit at before disk held_limit held damaged holds lawful = by damaged.why where
-  by : HasBadForm damaged.batches before damaged.rest ⊎ HasBadRecord limit damaged.batches before disk → ⊥
-  by (inl form) = leads_undamaged disk limit at damaged.batches damaged.rest held_limit held damaged.leads holds form.damaged
-  by (inr bad) = bad_record limit damaged.batches before disk held_limit held bad holds lawful
+pub lawful_undamaged : (capacity at : ℕ) (before : List Record) (disk : List ℕ) (held_limit : ℕ) (held : List Record) → IsDamagedAt capacity at before disk → Holds disk held_limit held → IsLawful held_limit held → ⊥
+lawful_undamaged capacity at before disk held_limit held damaged holds lawful = by damaged.why where
+  by : HasBadForm damaged.batches before damaged.rest ⊎ HasBadRecord capacity damaged.batches before disk → ⊥
+  by (inl form) = leads_undamaged disk capacity at damaged.batches damaged.rest held_limit held damaged.leads holds form.damaged
+  by (inr bad) = bad_record capacity damaged.batches before disk held_limit held bad holds lawful
 
 -- The answers.
 
@@ -182,8 +182,8 @@ completes (BadText line) reads sends disks answer memory damaged journal read se
 
 -- what begins with a lawful journal has a header
 pub has_journal : (begin : Begin) (input : List ℕ) (start : Outside) (s : Status) → Begins begin input start → (s ≡ NoJournal → (disk : List ℕ) → start.disk ≡ Some disk → HasNoHeader disk) → s ≢ NoJournal
-has_journal begin input start s begins no_journal is = readable.header begins.disk begin.limit begin.held begins.holds (no_journal is begins.disk begins.disk_told)
+has_journal begin input start s begins no_journal is = readable.header begins.disk begin.capacity begin.held begins.holds (no_journal is begins.disk begins.disk_known)
 
 -- and is not damaged
-pub has_no_damage : (begin : Begin) (input : List ℕ) (start now : Outside) (from : Option ℕ) (told : Option (List ℕ)) (at : ℕ) → (begins : Begins begin input start) → StopsAtDamage from told at begins.disk now → ⊥
-has_no_damage begin input start now from told at begins stops = lawful_undamaged stops.limit at stops.before begins.disk begin.limit begin.held stops.damaged begins.holds begins.lawful
+pub has_no_damage : (begin : Begin) (input : List ℕ) (start now : Outside) (from : Option ℕ) (known : Option (List ℕ)) (at : ℕ) → (begins : Begins begin input start) → StopsAtDamage from known at begins.disk now → ⊥
+has_no_damage begin input start now from known at begins stops = lawful_undamaged stops.capacity at stops.before begins.disk begin.capacity begin.held stops.damaged begins.holds begins.lawful

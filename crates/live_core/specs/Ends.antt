@@ -13,7 +13,7 @@ pub record Answered (begin : Begin) (input : List ℕ) (count : ℕ) (now : Outs
   pub there : count ≤ length input
   pub sent : now.sent ≡ Some (begin.sent ++ due begin (bodies_of (take count input)))
   pub settled : IsSettled now
-  pub holds : (disk : List ℕ) → now.disk ≡ Some disk → Holds disk begin.limit (held_after begin (bodies_of (take count input)))
+  pub holds : (disk : List ℕ) → now.disk ≡ Some disk → Holds disk begin.capacity (held_after begin (bodies_of (take count input)))
 
 -- a front of all that is due for these bytes was sent
 pub record SentPart (begin : Begin) (read : List ℕ) (now : Outside) : Type 0 where

@@ -13,31 +13,31 @@ use Rattle.live_core.specs.declared.recovery.Recovery.{Recovery}
 use Rattle.live_core.specs.Kept.{IsSmall}
 
 -- an engine is of these lawful records, and the messages that are asked for again are owed
-pub record Resumes (from : Option ℕ) (limit : ℕ) (held : List Record) (begin : Option (List ℕ)) (engine : Engine) (outbox : List ℕ) (now : Outside) : Type 0 where
-  pub engine_of : engines.IsOf engine limit held
-  pub lawful : IsLawful limit held
+pub record Resumes (from : Option ℕ) (capacity : ℕ) (held : List Record) (begin : Option (List ℕ)) (engine : Engine) (outbox : List ℕ) (now : Outside) : Type 0 where
+  pub engine_of : engines.IsOf engine capacity held
+  pub lawful : IsLawful capacity held
   pub owes : Owes begin now.sent outbox (spelled (sent_again from held))
 
 -- the first of these records resumed, and the next was refused
-pub record IsRefusedIn (from : Option ℕ) (limit : ℕ) (held records : List Record) (begin : Option (List ℕ)) (engine : Engine) (outbox : List ℕ) (now : Outside) : Type 0 where
+pub record IsRefusedIn (from : Option ℕ) (capacity : ℕ) (held records : List Record) (begin : Option (List ℕ)) (engine : Engine) (outbox : List ℕ) (now : Outside) : Type 0 where
   pub good : List Record
   pub bad : Record
   pub later : List Record
   pub parts : records ≡ good ++ bad ∷ later
-  pub resumes : Resumes from limit (with_batch held good) begin engine outbox now
-  pub refused : verdict limit (with_batch held good) bad ≢ None
+  pub resumes : Resumes from capacity (with_batch held good) begin engine outbox now
+  pub refused : verdict capacity (with_batch held good) bad ≢ None
 
--- the scan is of this disk, where it is told, and has counted as the engine has
-pub record IsReading (recovery : Recovery) (told : Option (List ℕ)) : Type 0 where
-  pub of_disk : IsScanOf recovery.scan told
-  pub limit : recovery.scan.limit ≡ recovery.engine.admission.limit
+-- the scan is of this disk, where it is known, and has counted as the engine has
+pub record IsReading (recovery : Recovery) (known : Option (List ℕ)) : Type 0 where
+  pub of_disk : IsScanOf recovery.scan known
+  pub capacity : recovery.scan.capacity ≡ recovery.engine.admission.capacity
   pub count : recovery.scan.count ≡ recovery.engine.admission.count
   pub small : IsSmall recovery.engine
 
 -- with nothing pending, some batches of this disk were read, and their records resumed
 pub record Recovers (from : Option ℕ) (begin : Option (List ℕ)) (disk : List ℕ) (recovery : Recovery) (now : Outside) : Type 0 where
-  pub disk_told : now.disk ≡ Some disk
+  pub disk_known : now.disk ≡ Some disk
   pub settled : IsSettled now
   pub batches : List (List Record)
   pub read : HasRead recovery.scan batches disk
-  pub resumes : Resumes from recovery.scan.limit (records_of batches) begin recovery.engine recovery.outbox now
+  pub resumes : Resumes from recovery.scan.capacity (records_of batches) begin recovery.engine recovery.outbox now

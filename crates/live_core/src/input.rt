@@ -128,7 +128,7 @@ fn ended(live: &Live) -> Status
     }
 }
 
-/// Sends the last of what waits, at the session's limit of bytes.
+/// Sends the last of what waits, at the session's capacity of bytes.
 fn finish<H: Host>(live: &mut Live, host: &mut H) -> Status
     requires ready { IsReady live.old (H.outside host.old).disk }
     ensures answered { (begin : Begin) (input : List ℕ) (count : ℕ) → Reads begin input count live.old (H.outside host.old)
@@ -157,7 +157,7 @@ pub fn answer_input<H: Host>(live: &mut Live, host: &mut H, buffer: &mut [u8], m
         → result ≡ Status.ReadFault → (count : ℕ) × (count < most) × Answered begin input count (H.outside host.new) }
     ensures moments { (begin : Begin) (input : List ℕ) → Reads begin input 0 live.old (H.outside host.old)
         → Elapses (H.outside host.old) (H.outside host.new) (IsSafe begin (bodies_of (take most input))) }
-    ensures limit { ReadsAtMost most (H.outside host.old).input (H.outside host.new).input }
+    ensures capacity { ReadsAtMost most (H.outside host.old).input (H.outside host.new).input }
     ensures kind { IsLive result }
     ensures continues { Continues (H.outside host.old) (H.outside host.new) }
     ensures read_cause { result ≡ Status.ReadFault → Rose (H.outside host.old).read_faults (H.outside host.new).read_faults }

@@ -6,9 +6,9 @@ ghost use Rattle.wire_in.specs.declared.record.Record.{Record};
 ghost use Rattle.rulebook.specs.Admission.{verdict, IsLawful};
 ghost use Rattle.rulebook.specs.Sent.{spelled, numbered, hello, sent_again, passed_over};
 ghost use Rattle.journal_core.specs.Layout.{Holds, records_of, with_batch};
-ghost use Rattle.journal_core.specs.Front.{IsDamaged};
+ghost use Rattle.journal_core.specs.AtGate.{IsDamaged};
 ghost use Rattle.journal_core.specs.Scan.{HasRead, IsScanOf, IsBegun, HasHeader, HasNoHeader};
-ghost use Rattle.journal_core.specs.Journal.{Keeps};
+ghost use Rattle.journal_core.specs.Journal.{Represents};
 ghost use Rattle.engine_core.specs.Kept as engines;
 ghost use Rattle.engine_core.specs.Owed.{Owes, SendsFront, OnlySends};
 ghost use Rattle.wire_out.specs.Spelling.{spelling};
@@ -79,15 +79,15 @@ fn resume_record<H: Host>(
     x: &Record,
 ) -> Result<(), Obstacle>
     requires small { IsSmall engine.old }
-    ensures resumes { (limit : ℕ) (held : List Record) (begin : Option (List ℕ)) → Resumes from limit held begin engine.old outbox.old (H.outside host.old)
-        → OnOk result (Resumes from limit (x.now ∷ held) begin engine.new outbox.new (H.outside host.new)) }
-    ensures refused { result ≡ Err Obstacle.Refused → (limit : ℕ) (held : List Record) (begin : Option (List ℕ)) → Resumes from limit held begin engine.old outbox.old (H.outside host.old)
-        → Resumes from limit held begin engine.new outbox.new (H.outside host.new) × (verdict limit held x.now ≢ None) }
-    ensures moments { (limit : ℕ) (held : List Record) (begin : Option (List ℕ)) → Resumes from limit held begin engine.old outbox.old (H.outside host.old)
+    ensures resumes { (capacity : ℕ) (held : List Record) (begin : Option (List ℕ)) → Resumes from capacity held begin engine.old outbox.old (H.outside host.old)
+        → OnOk result (Resumes from capacity (x.now ∷ held) begin engine.new outbox.new (H.outside host.new)) }
+    ensures refused { result ≡ Err Obstacle.Refused → (capacity : ℕ) (held : List Record) (begin : Option (List ℕ)) → Resumes from capacity held begin engine.old outbox.old (H.outside host.old)
+        → Resumes from capacity held begin engine.new outbox.new (H.outside host.new) × (verdict capacity held x.now ≢ None) }
+    ensures moments { (capacity : ℕ) (held : List Record) (begin : Option (List ℕ)) → Resumes from capacity held begin engine.old outbox.old (H.outside host.old)
         → Elapses (H.outside host.old) (H.outside host.new) (SendsFront begin (spelled (sent_again from (x.now ∷ held))) (H.outside host.old)) }
     ensures small { OnOk result (IsSmall engine.new) }
     ensures count { OnOk result (engine.new.admission.count ≡ engine.old.admission.count + 1) }
-    ensures limit { OnOk result (engine.new.admission.limit ≡ engine.old.admission.limit) }
+    ensures capacity { OnOk result (engine.new.admission.capacity ≡ engine.old.admission.capacity) }
     ensures keeps { OnlySends (H.outside host.old) (H.outside host.new) }
     ensures send_cause { result ≡ Err Obstacle.SendFault → Rose (H.outside host.old).send_faults (H.outside host.new).send_faults }
 {
@@ -114,15 +114,15 @@ fn resume_batch<H: Host>(
     records: &[Record],
 ) -> Result<(), Obstacle>
     requires small { IsSmall engine.old }
-    ensures resumes { (limit : ℕ) (held : List Record) (begin : Option (List ℕ)) → Resumes from limit held begin engine.old outbox.old (H.outside host.old)
-        → OnOk result (Resumes from limit (with_batch held records.now) begin engine.new outbox.new (H.outside host.new)) }
-    ensures refused { result ≡ Err Obstacle.Refused → (limit : ℕ) (held : List Record) (begin : Option (List ℕ)) → Resumes from limit held begin engine.old outbox.old (H.outside host.old)
-        → IsRefusedIn from limit held records.now begin engine.new outbox.new (H.outside host.new) }
-    ensures moments { (limit : ℕ) (held : List Record) (begin : Option (List ℕ)) → Resumes from limit held begin engine.old outbox.old (H.outside host.old)
+    ensures resumes { (capacity : ℕ) (held : List Record) (begin : Option (List ℕ)) → Resumes from capacity held begin engine.old outbox.old (H.outside host.old)
+        → OnOk result (Resumes from capacity (with_batch held records.now) begin engine.new outbox.new (H.outside host.new)) }
+    ensures refused { result ≡ Err Obstacle.Refused → (capacity : ℕ) (held : List Record) (begin : Option (List ℕ)) → Resumes from capacity held begin engine.old outbox.old (H.outside host.old)
+        → IsRefusedIn from capacity held records.now begin engine.new outbox.new (H.outside host.new) }
+    ensures moments { (capacity : ℕ) (held : List Record) (begin : Option (List ℕ)) → Resumes from capacity held begin engine.old outbox.old (H.outside host.old)
         → Elapses (H.outside host.old) (H.outside host.new) (SendsFront begin (spelled (sent_again from (with_batch held records.now))) (H.outside host.old)) }
     ensures small { OnOk result (IsSmall engine.new) }
     ensures count { OnOk result (engine.new.admission.count ≡ engine.old.admission.count + length records.now) }
-    ensures limit { OnOk result (engine.new.admission.limit ≡ engine.old.admission.limit) }
+    ensures capacity { OnOk result (engine.new.admission.capacity ≡ engine.old.admission.capacity) }
     ensures keeps { OnlySends (H.outside host.old) (H.outside host.new) }
     ensures send_cause { result ≡ Err Obstacle.SendFault → Rose (H.outside host.old).send_faults (H.outside host.new).send_faults }
 {
@@ -161,7 +161,7 @@ impl Recovery {
         ensures goes_on { result ≡ Ok true → self.old.scan.gate < self.new.scan.gate }
         ensures within { self.new.scan.gate ≤ self.new.scan.size }
         ensures size { self.new.scan.size ≡ self.old.scan.size }
-        ensures limit { self.new.scan.limit ≡ self.old.scan.limit }
+        ensures capacity { self.new.scan.capacity ≡ self.old.scan.capacity }
         ensures count { self.new.scan.count ≡ self.old.scan.count + length self.new.batch }
         ensures none { result ≡ Ok false → self.new.batch ≡ [] }
         ensures engine { self.new.engine ≡ self.old.engine }
@@ -185,15 +185,15 @@ impl Recovery {
     /// Evaluates the batch that was read last.
     fn resume<H: Host>(&mut self, host: &mut H, from: Option<u64>) -> Result<(), Status>
         requires small { IsSmall self.old.engine }
-        ensures resumes { (limit : ℕ) (held : List Record) (begin : Option (List ℕ)) → Resumes from limit held begin self.old.engine self.old.outbox (H.outside host.old)
-            → OnOk result (Resumes from limit (with_batch held self.old.batch) begin self.new.engine self.new.outbox (H.outside host.new)) }
-        ensures refused { (at : ℕ) → result ≡ Err (Status.Damaged at) → (at ≡ self.old.scan.at) × ((limit : ℕ) (held : List Record) (begin : Option (List ℕ)) → Resumes from limit held begin self.old.engine self.old.outbox (H.outside host.old)
-            → IsRefusedIn from limit held self.old.batch begin self.new.engine self.new.outbox (H.outside host.new)) }
-        ensures moments { (limit : ℕ) (held : List Record) (begin : Option (List ℕ)) → Resumes from limit held begin self.old.engine self.old.outbox (H.outside host.old)
+        ensures resumes { (capacity : ℕ) (held : List Record) (begin : Option (List ℕ)) → Resumes from capacity held begin self.old.engine self.old.outbox (H.outside host.old)
+            → OnOk result (Resumes from capacity (with_batch held self.old.batch) begin self.new.engine self.new.outbox (H.outside host.new)) }
+        ensures refused { (at : ℕ) → result ≡ Err (Status.Damaged at) → (at ≡ self.old.scan.at) × ((capacity : ℕ) (held : List Record) (begin : Option (List ℕ)) → Resumes from capacity held begin self.old.engine self.old.outbox (H.outside host.old)
+            → IsRefusedIn from capacity held self.old.batch begin self.new.engine self.new.outbox (H.outside host.new)) }
+        ensures moments { (capacity : ℕ) (held : List Record) (begin : Option (List ℕ)) → Resumes from capacity held begin self.old.engine self.old.outbox (H.outside host.old)
             → Elapses (H.outside host.old) (H.outside host.new) (SendsFront begin (spelled (sent_again from (with_batch held self.old.batch))) (H.outside host.old)) }
         ensures small { OnOk result (IsSmall self.new.engine) }
         ensures count { OnOk result (self.new.engine.admission.count ≡ self.old.engine.admission.count + length self.old.batch) }
-        ensures limit { OnOk result (self.new.engine.admission.limit ≡ self.old.engine.admission.limit) }
+        ensures capacity { OnOk result (self.new.engine.admission.capacity ≡ self.old.engine.admission.capacity) }
         ensures scan { self.new.scan ≡ self.old.scan }
         ensures keeps { OnlySends (H.outside host.old) (H.outside host.new) }
         ensures kind { IfErr result (λ status. (status ≡ Status.SendFault) ⊎ (status ≡ Status.NoMemory) ⊎ ((at : ℕ) × (status ≡ Status.Damaged at))) }
@@ -218,8 +218,8 @@ impl Recovery {
         requires { IsReading self.old (H.outside host.old).disk }
         ensures recovers { (begin : Option (List ℕ)) (disk : List ℕ) → Recovers from begin disk self.old (H.outside host.old)
             → OnOk result (Recovers from begin disk self.new (H.outside host.new)) }
-        ensures moments { (before disk : List ℕ) (limit : ℕ) (held : List Record) → Recovers from (Some before) disk self.old (H.outside host.old) → Holds disk limit held
-            → Elapses (H.outside host.old) (H.outside host.new) (Leaves limit held before (spelled (sent_again from held))) }
+        ensures moments { (before disk : List ℕ) (capacity : ℕ) (held : List Record) → Recovers from (Some before) disk self.old (H.outside host.old) → Holds disk capacity held
+            → Elapses (H.outside host.old) (H.outside host.new) (Leaves capacity held before (spelled (sent_again from held))) }
         ensures damaged { (at : ℕ) → result ≡ Err (Status.Damaged at) → (begin : Option (List ℕ)) (disk : List ℕ) → Recovers from begin disk self.old (H.outside host.old)
             → StopsAtDamage from begin at disk (H.outside host.new) }
         ensures reading { OnOk result (IsReading self.new (H.outside host.new).disk) }
@@ -250,8 +250,8 @@ impl Recovery {
         requires { IsReading self.old (H.outside host.old).disk }
         ensures recovers { (begin : Option (List ℕ)) (disk : List ℕ) → Recovers from begin disk self.old (H.outside host.old)
             → OnOk result (Recovers from begin disk self.new (H.outside host.new)) }
-        ensures moments { (before disk : List ℕ) (limit : ℕ) (held : List Record) → Recovers from (Some before) disk self.old (H.outside host.old) → Holds disk limit held
-            → Elapses (H.outside host.old) (H.outside host.new) (Leaves limit held before (spelled (sent_again from held))) }
+        ensures moments { (before disk : List ℕ) (capacity : ℕ) (held : List Record) → Recovers from (Some before) disk self.old (H.outside host.old) → Holds disk capacity held
+            → Elapses (H.outside host.old) (H.outside host.new) (Leaves capacity held before (spelled (sent_again from held))) }
         ensures damaged { (at : ℕ) → result ≡ Err (Status.Damaged at) → (begin : Option (List ℕ)) (disk : List ℕ) → Recovers from begin disk self.old (H.outside host.old)
             → StopsAtDamage from begin at disk (H.outside host.new) }
         ensures reading { OnOk result (IsReading self.new (H.outside host.new).disk) }
@@ -275,9 +275,9 @@ impl Recovery {
     /// A session over a journal that was read to its end.
     fn finish(self) -> Live
         requires { IsTrue self.scan.is_closed }
-        ensures keeps { (batches : List (List Record)) (disk : List ℕ) → HasRead self.scan batches disk → Keeps result.journal (records_of batches) disk }
-        ensures limit { result.journal.limit ≡ self.scan.limit }
-        ensures ready { (told : Option (List ℕ)) → IsReading self told → IsReady result told }
+        ensures keeps { (batches : List (List Record)) (disk : List ℕ) → HasRead self.scan batches disk → Represents result.journal (records_of batches) disk }
+        ensures capacity { result.journal.capacity ≡ self.scan.capacity }
+        ensures ready { (known : Option (List ℕ)) → IsReading self known → IsReady result known }
         ensures engine { result.engine ≡ self.engine }
         ensures outbox { result.outbox ≡ self.outbox }
         ensures cutter { result.cutter ≡ [] }
@@ -297,7 +297,7 @@ impl Recovery {
 /// Begins at the header of a journal.
 fn begin_scan<H: Host>(alloc: Global, host: &mut H) -> Result<Scan, Status>
     ensures begun { IfOk result IsBegun }
-    ensures header { IfOk result (λ scan. (disk : List ℕ) → (H.outside host.new).disk ≡ Some disk → HasHeader scan.limit disk) }
+    ensures header { IfOk result (λ scan. (disk : List ℕ) → (H.outside host.new).disk ≡ Some disk → HasHeader scan.capacity disk) }
     ensures read { IfOk result (λ scan. (disk : List ℕ) → (H.outside host.new).disk ≡ Some disk → HasRead scan [] disk) }
     ensures of_disk { IfOk result (λ scan. IsScanOf scan (H.outside host.new).disk) }
     ensures settled { OnOk result (IsSettled (H.outside host.new)) }
@@ -318,13 +318,13 @@ fn begin_scan<H: Host>(alloc: Global, host: &mut H) -> Result<Scan, Status>
     }
 }
 
-/// An engine of no records, under the limit of a journal.
-fn begin_engine(alloc: Global, limit: u64) -> Result<Engine, Status>
-    ensures stands { IfOk result (λ engine. engines.IsOf engine limit []) }
+/// An engine of no records, under the capacity of a journal.
+fn begin_engine(alloc: Global, capacity: u64) -> Result<Engine, Status>
+    ensures stands { IfOk result (λ engine. engines.IsOf engine capacity []) }
     ensures none { IfOk result (λ engine. (engine.admission.count ≡ 0) × (engine.published ≡ 0)) }
     ensures kind { IfErr result (λ status. status ≡ Status.NoMemory) }
 {
-    match Engine::new(alloc, limit) {
+    match Engine::new(alloc, capacity) {
         Ok(engine) => Ok(engine),
         Err(_) => Err(Status::NoMemory),
     }
@@ -341,7 +341,7 @@ fn begin<H: Host>(
     ensures recovers { IfOk result (λ recovery. (from : Option ℕ) (disk : List ℕ) → (H.outside host.new).disk ≡ Some disk
         → Recovers from (H.outside host.new).sent disk recovery (H.outside host.new)) }
     ensures reading { IfOk result (λ recovery. IsReading recovery (H.outside host.new).disk) }
-    ensures header { OnOk result ((disk : List ℕ) → (H.outside host.new).disk ≡ Some disk → (limit : ℕ) × HasHeader limit disk) }
+    ensures header { OnOk result ((disk : List ℕ) → (H.outside host.new).disk ≡ Some disk → (capacity : ℕ) × HasHeader capacity disk) }
     ensures no_journal { result ≡ Err Status.NoJournal → (disk : List ℕ) → (H.outside host.new).disk ≡ Some disk → HasNoHeader disk }
     ensures kind { IfErr result IsUnopened }
     ensures disk_cause { result ≡ Err Status.DiskFault → Rose (H.outside host.old).disk_faults (H.outside host.new).disk_faults }
@@ -366,9 +366,9 @@ fn begin<H: Host>(
     }
 }
 
-/// Puts the first frame of a session, which tells how many records and messages there are.
+/// Puts the first frame of a session, which exposes how many records and messages there are.
 fn greet<H: Host>(live: &mut Live, host: &mut H) -> Result<(), Failed>
-    ensures owes { (limit : ℕ) (held : List Record) (begin : Option (List ℕ)) (text : List ℕ) → engines.IsOf live.old.engine limit held → Owes begin (H.outside host.old).sent live.old.outbox text
+    ensures owes { (capacity : ℕ) (held : List Record) (begin : Option (List ℕ)) (text : List ℕ) → engines.IsOf live.old.engine capacity held → Owes begin (H.outside host.old).sent live.old.outbox text
         → OnOk result (Owes begin (H.outside host.new).sent live.new.outbox (text ++ spelling (hello held))) }
     ensures moments { (begin : Option (List ℕ)) (text : List ℕ) → Owes begin (H.outside host.old).sent live.old.outbox text
         → Elapses (H.outside host.old) (H.outside host.new) (SendsFront begin text (H.outside host.old)) }
@@ -399,10 +399,10 @@ pub fn restore<H: Host>(
     ensures ready { IfOk result (λ live. IsReady live (H.outside host.new).disk) }
     ensures fresh { IfOk result (λ live. live.place ≡ 0) }
     ensures lawful { OnOk result ((disk : List ℕ) → (H.outside host.old).disk ≡ Some disk
-        → (limit : ℕ) × (held : List Record) × Holds disk limit held × IsLawful limit held) }
+        → (capacity : ℕ) × (held : List Record) × Holds disk capacity held × IsLawful capacity held) }
     ensures no_journal { result ≡ Err Status.NoJournal → (disk : List ℕ) → (H.outside host.old).disk ≡ Some disk → HasNoHeader disk }
     ensures header { (result ≡ Err Status.NoJournal) ⊎ (result ≡ Err Status.DiskFault) ⊎ (result ≡ Err Status.NoMemory)
-        ⊎ ((disk : List ℕ) → (H.outside host.old).disk ≡ Some disk → (limit : ℕ) × HasHeader limit disk) }
+        ⊎ ((disk : List ℕ) → (H.outside host.old).disk ≡ Some disk → (capacity : ℕ) × HasHeader capacity disk) }
     ensures damaged { (at : ℕ) → result ≡ Err (Status.Damaged at) → (disk : List ℕ) → (H.outside host.old).disk ≡ Some disk
         → StopsAtDamage from (H.outside host.old).sent at disk (H.outside host.new) }
     ensures unsent { result ≡ Err Status.NoJournal → (H.outside host.new).sent ≡ (H.outside host.old).sent }

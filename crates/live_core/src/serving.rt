@@ -21,7 +21,7 @@ use std::alloc::Global;
 /// The most bytes that one session reads.
 const BYTES_MAX: u64 = 1_099_511_627_776;
 
-/// What a session is told.
+/// What a session is known.
 #[derive(Clone, Copy, Debug, PartialEq, Eq)]
 pub struct ServeOptions {
     /// The number from which on the messages of the journal are sent again; none without it.
@@ -82,31 +82,31 @@ fn serve_in<H: Host>(
     // What was sent is a front of what is due in any case.
     ensures part { (begin : Begin) (input : List ℕ) → begin.from ≡ options.now.from → Begins begin input (H.outside host.old)
         → SentPart begin (take options.now.bytes input) (H.outside host.new) }
-    // Where no header stands it is told, unless the disk fails or memory is short, and nothing is read, sent or written.
+    // Where no header stands it is known, unless the disk fails or memory is short, and nothing is read, sent or written.
     ensures no_journal { result ≡ Status.NoJournal → (disk : List ℕ) → (H.outside host.old).disk ≡ Some disk → HasNoHeader disk }
     ensures no_header { (disk : List ℕ) → (H.outside host.old).disk ≡ Some disk → HasNoHeader disk
         → (result ≡ Status.NoJournal) ⊎ (result ≡ Status.DiskFault) ⊎ (result ≡ Status.NoMemory) }
     ensures unsent { result ≡ Status.NoJournal → (H.outside host.new).sent ≡ (H.outside host.old).sent }
     ensures left_alone { (disk : List ℕ) → (H.outside host.old).disk ≡ Some disk → HasNoHeader disk → IsLeftAlone (H.outside host.old) (H.outside host.new) }
-    // Damage is told at the gate of the first batch that has no form or holds a record that may not follow, and never of a
+    // Damage is known at the gate of the first batch that has no form or holds a record that may not follow, and never of a
     // journal of lawful records.
     ensures damaged { (at : ℕ) → result ≡ Status.Damaged at → (disk : List ℕ) → (H.outside host.old).disk ≡ Some disk
         → StopsAtDamage options.now.from (H.outside host.old).sent at disk (H.outside host.new) }
     ensures undamaged { (begin : Begin) (input : List ℕ) → Begins begin input (H.outside host.old) → (at : ℕ) → result ≢ Status.Damaged at }
-    // A damaged journal behind a header is told at just its gate, unless a fault or want of memory comes before.
-    ensures damage_is_told { (limit at : ℕ) (before : List Record) (disk : List ℕ) → (H.outside host.old).disk ≡ Some disk → IsDamagedAt limit at before disk
+    // A damaged journal behind a header is known at just its gate, unless a fault or want of memory comes before.
+    ensures damage_is_told { (capacity at : ℕ) (before : List Record) (disk : List ℕ) → (H.outside host.old).disk ≡ Some disk → IsDamagedAt capacity at before disk
         → ¬ HasNoHeader disk → TellsDamage at result }
     // Nothing is written to it, and no input is read, whatever the answer.
-    ensures damage_is_left { (limit at : ℕ) (before : List Record) (disk : List ℕ) → (H.outside host.old).disk ≡ Some disk → IsDamagedAt limit at before disk
+    ensures damage_is_left { (capacity at : ℕ) (before : List Record) (disk : List ℕ) → (H.outside host.old).disk ≡ Some disk → IsDamagedAt capacity at before disk
         → (H.outside host.new).disk ≡ (H.outside host.old).disk }
-    ensures damage_is_unserved { (limit at : ℕ) (before : List Record) (disk : List ℕ) → (H.outside host.old).disk ≡ Some disk → IsDamagedAt limit at before disk
+    ensures damage_is_unserved { (capacity at : ℕ) (before : List Record) (disk : List ℕ) → (H.outside host.old).disk ≡ Some disk → IsDamagedAt capacity at before disk
         → (H.outside host.new).input ≡ (H.outside host.old).input }
     // Where there is no journal or a damaged one, nothing is written, and nothing of the input is read.
     ensures untouched { IsUnserved result → (H.outside host.new).disk ≡ (H.outside host.old).disk }
     ensures input_is_left { IsUnserved result → (H.outside host.new).input ≡ (H.outside host.old).input }
     // No more bytes than asked for are read, whatever the answer.
-    ensures limit { ReadsAtMost options.now.bytes (H.outside host.old).input (H.outside host.new).input }
-    // With enough memory and no faults, the input is read to its end or to the limit.
+    ensures capacity { ReadsAtMost options.now.bytes (H.outside host.old).input (H.outside host.new).input }
+    // With enough memory and no faults, the input is read to its end or to the capacity.
     ensures complete { (begin : Begin) (input : List ℕ) → Begins begin input (H.outside host.old) → result ≢ Status.NoMemory
         → ¬ (Rose (H.outside host.old).read_faults (H.outside host.new).read_faults)
         → ¬ (Rose (H.outside host.old).send_faults (H.outside host.new).send_faults)
@@ -124,7 +124,7 @@ fn serve_in<H: Host>(
     }
 }
 
-/// Reads a journal and evaluates its records, sends the messages that are asked for again and tells how many records and
+/// Reads a journal and evaluates its records, sends the messages that are asked for again and exposes how many records and
 /// messages there are. Then it answers the frames of the input, up to its end or up to so many bytes: each accepted record
 /// is in the journal before anything of it is sent.
 pub fn serve<H: Host>(alloc: Global, host: &mut H, options: &ServeOptions) -> Status
@@ -148,31 +148,31 @@ pub fn serve<H: Host>(alloc: Global, host: &mut H, options: &ServeOptions) -> St
     // What was sent is a front of what is due in any case.
     ensures part { (begin : Begin) (input : List ℕ) → begin.from ≡ options.now.from → Begins begin input (H.outside host.old)
         → SentPart begin (take options.now.bytes input) (H.outside host.new) }
-    // Where no header stands it is told, unless the disk fails or memory is short, and nothing is read, sent or written.
+    // Where no header stands it is known, unless the disk fails or memory is short, and nothing is read, sent or written.
     ensures no_journal { result ≡ Status.NoJournal → (disk : List ℕ) → (H.outside host.old).disk ≡ Some disk → HasNoHeader disk }
     ensures no_header { (disk : List ℕ) → (H.outside host.old).disk ≡ Some disk → HasNoHeader disk
         → (result ≡ Status.NoJournal) ⊎ (result ≡ Status.DiskFault) ⊎ (result ≡ Status.NoMemory) }
     ensures unsent { result ≡ Status.NoJournal → (H.outside host.new).sent ≡ (H.outside host.old).sent }
     ensures left_alone { (disk : List ℕ) → (H.outside host.old).disk ≡ Some disk → HasNoHeader disk → IsLeftAlone (H.outside host.old) (H.outside host.new) }
-    // Damage is told at the gate of the first batch that has no form or holds a record that may not follow, and never of a
+    // Damage is known at the gate of the first batch that has no form or holds a record that may not follow, and never of a
     // journal of lawful records.
     ensures damaged { (at : ℕ) → result ≡ Status.Damaged at → (disk : List ℕ) → (H.outside host.old).disk ≡ Some disk
         → StopsAtDamage options.now.from (H.outside host.old).sent at disk (H.outside host.new) }
     ensures undamaged { (begin : Begin) (input : List ℕ) → Begins begin input (H.outside host.old) → (at : ℕ) → result ≢ Status.Damaged at }
-    // A damaged journal behind a header is told at just its gate, unless a fault or want of memory comes before.
-    ensures damage_is_told { (limit at : ℕ) (before : List Record) (disk : List ℕ) → (H.outside host.old).disk ≡ Some disk → IsDamagedAt limit at before disk
+    // A damaged journal behind a header is known at just its gate, unless a fault or want of memory comes before.
+    ensures damage_is_told { (capacity at : ℕ) (before : List Record) (disk : List ℕ) → (H.outside host.old).disk ≡ Some disk → IsDamagedAt capacity at before disk
         → ¬ HasNoHeader disk → TellsDamage at result }
     // Nothing is written to it, and no input is read, whatever the answer.
-    ensures damage_is_left { (limit at : ℕ) (before : List Record) (disk : List ℕ) → (H.outside host.old).disk ≡ Some disk → IsDamagedAt limit at before disk
+    ensures damage_is_left { (capacity at : ℕ) (before : List Record) (disk : List ℕ) → (H.outside host.old).disk ≡ Some disk → IsDamagedAt capacity at before disk
         → (H.outside host.new).disk ≡ (H.outside host.old).disk }
-    ensures damage_is_unserved { (limit at : ℕ) (before : List Record) (disk : List ℕ) → (H.outside host.old).disk ≡ Some disk → IsDamagedAt limit at before disk
+    ensures damage_is_unserved { (capacity at : ℕ) (before : List Record) (disk : List ℕ) → (H.outside host.old).disk ≡ Some disk → IsDamagedAt capacity at before disk
         → (H.outside host.new).input ≡ (H.outside host.old).input }
     // Where there is no journal or a damaged one, nothing is written, and nothing of the input is read.
     ensures untouched { IsUnserved result → (H.outside host.new).disk ≡ (H.outside host.old).disk }
     ensures input_is_left { IsUnserved result → (H.outside host.new).input ≡ (H.outside host.old).input }
     // No more bytes than asked for are read, whatever the answer.
-    ensures limit { ReadsAtMost options.now.bytes (H.outside host.old).input (H.outside host.new).input }
-    // With enough memory and no faults, the input is read to its end or to the limit.
+    ensures capacity { ReadsAtMost options.now.bytes (H.outside host.old).input (H.outside host.new).input }
+    // With enough memory and no faults, the input is read to its end or to the capacity.
     ensures complete { (begin : Begin) (input : List ℕ) → Begins begin input (H.outside host.old) → result ≢ Status.NoMemory
         → ¬ (Rose (H.outside host.old).read_faults (H.outside host.new).read_faults)
         → ¬ (Rose (H.outside host.old).send_faults (H.outside host.new).send_faults)

@@ -6,7 +6,7 @@ ghost use Rattle.wire_in.specs.declared.record.Record.{Record};
 ghost use Rattle.wire_in.specs.Spelling.{InRange};
 ghost use Rattle.wire_in.specs.Cutting.{bodies_of};
 ghost use Rattle.rulebook.specs.Sent.{spelled, numbered, reply, with_record, accepted, refused};
-ghost use Rattle.market_core.specs.Admitted.{refusal_of};
+ghost use Rattle.market_core.specs.AdmissionState.{refusal_of};
 ghost use Rattle.journal_core.specs.Journal as journals;
 ghost use Rattle.engine_core.specs.Kept as engines;
 ghost use Rattle.engine_core.specs.Owed.{Owes, SendsFront, OnlySends};
@@ -47,17 +47,17 @@ fn keep<H: Host>(
     x: &Record,
 ) -> Result<(), Failed>
     requires whole { IsTrue journal.old.whole }
-    requires of_disk { journals.IsOf journal.old (H.outside host.old).disk }
+    requires of_disk { journals.IsOfDisk journal.old (H.outside host.old).disk }
     requires range { InRange x.now }
-    requires room { journal.old.count < journal.old.limit }
+    requires room { journal.old.count < journal.old.capacity }
     ensures moments { (records : List Record) → journals.IsAtRest journal.old records (H.outside host.old)
-        → Elapses (H.outside host.old) (H.outside host.new) (journals.Appends journal.old.limit records (x.now ∷ []) (H.outside host.old)) }
+        → Elapses (H.outside host.old) (H.outside host.new) (journals.Appends journal.old.capacity records (x.now ∷ []) (H.outside host.old)) }
     ensures stored { OnOk result ((records : List Record) → journals.IsAtRest journal.old records (H.outside host.old)
         → journals.IsAtRest journal.new (x.now ∷ records) (H.outside host.new)) }
-    ensures of_disk { OnOk result (journals.IsOf journal.new (H.outside host.new).disk) }
+    ensures of_disk { OnOk result (journals.IsOfDisk journal.new (H.outside host.new).disk) }
     ensures whole { OnOk result (IsTrue journal.new.whole) }
     ensures count { OnOk result (journal.new.count ≡ journal.old.count + 1) }
-    ensures limit { journal.new.limit ≡ journal.old.limit }
+    ensures capacity { journal.new.capacity ≡ journal.old.capacity }
     ensures input { (H.outside host.new).input ≡ (H.outside host.old).input }
     ensures sent { (H.outside host.new).sent ≡ (H.outside host.old).sent }
     ensures continues { Continues (H.outside host.old) (H.outside host.new) }
@@ -100,15 +100,15 @@ fn publish<H: Host>(
 ) -> Result<(), Interruption>
     requires admissible { refusal_of engine.old.admission x.now ≡ None }
     requires small { IsSmall engine.old }
-    ensures owes { (limit : ℕ) (held : List Record) (begin : Option (List ℕ)) (text : List ℕ) → engines.IsOf engine.old limit held
+    ensures owes { (capacity : ℕ) (held : List Record) (begin : Option (List ℕ)) (text : List ℕ) → engines.IsOf engine.old capacity held
         → Owes begin (H.outside host.old).sent outbox.old text
         → OnOk result (Owes begin (H.outside host.new).sent outbox.new (text ++ spelled (accepted held x.now))) }
-    ensures moments { (limit : ℕ) (held : List Record) (begin : Option (List ℕ)) (text : List ℕ) → engines.IsOf engine.old limit held
+    ensures moments { (capacity : ℕ) (held : List Record) (begin : Option (List ℕ)) (text : List ℕ) → engines.IsOf engine.old capacity held
         → Owes begin (H.outside host.old).sent outbox.old text
         → Elapses (H.outside host.old) (H.outside host.new) (SendsFront begin (text ++ spelled (accepted held x.now)) (H.outside host.old)) }
-    ensures stands { (limit : ℕ) (held : List Record) → engines.IsOf engine.old limit held → OnOk result (engines.IsOf engine.new limit (x.now ∷ held)) }
+    ensures stands { (capacity : ℕ) (held : List Record) → engines.IsOf engine.old capacity held → OnOk result (engines.IsOf engine.new capacity (x.now ∷ held)) }
     ensures count { OnOk result (engine.new.admission.count ≡ engine.old.admission.count + 1) }
-    ensures limit { OnOk result (engine.new.admission.limit ≡ engine.old.admission.limit) }
+    ensures capacity { OnOk result (engine.new.admission.capacity ≡ engine.old.admission.capacity) }
     ensures small { OnOk result (IsSmall engine.new) }
     ensures keeps { OnlySends (H.outside host.old) (H.outside host.new) }
     ensures cause { result ≡ Err Interruption.SendFault → Rose (H.outside host.old).send_faults (H.outside host.new).send_faults }
@@ -126,19 +126,19 @@ fn publish<H: Host>(
     }
 }
 
-/// Keeps a record that is admissible next, and then puts what it gives.
+/// Represents a record that is admissible next, and then puts what it gives.
 fn accept<H: Host>(live: &mut Live, host: &mut H, x: &Record) -> Result<(), Interruption>
     requires ready { IsReady live.old (H.outside host.old).disk }
     requires admissible { refusal_of live.old.engine.admission x.now ≡ None }
     requires range { InRange x.now }
-    ensures stands { (limit : ℕ) (held : List Record) → Stands live.old limit held (H.outside host.old)
-        → OnOk result (Stands live.new limit (x.now ∷ held) (H.outside host.new)) }
-    ensures owes { (limit : ℕ) (held : List Record) (before text : List ℕ) → Stands live.old limit held (H.outside host.old)
+    ensures stands { (capacity : ℕ) (held : List Record) → Stands live.old capacity held (H.outside host.old)
+        → OnOk result (Stands live.new capacity (x.now ∷ held) (H.outside host.new)) }
+    ensures owes { (capacity : ℕ) (held : List Record) (before text : List ℕ) → Stands live.old capacity held (H.outside host.old)
         → Owes (Some before) (H.outside host.old).sent live.old.outbox text
         → OnOk result (Owes (Some before) (H.outside host.new).sent live.new.outbox (text ++ spelled (accepted held x.now))) }
-    ensures moments { (limit : ℕ) (held : List Record) (before text : List ℕ) → Stands live.old limit held (H.outside host.old)
+    ensures moments { (capacity : ℕ) (held : List Record) (before text : List ℕ) → Stands live.old capacity held (H.outside host.old)
         → Owes (Some before) (H.outside host.old).sent live.old.outbox text
-        → Elapses (H.outside host.old) (H.outside host.new) (Steps limit before held text (x.now ∷ held) (text ++ spelled (accepted held x.now))) }
+        → Elapses (H.outside host.old) (H.outside host.new) (Steps capacity before held text (x.now ∷ held) (text ++ spelled (accepted held x.now))) }
     ensures ready { OnOk result (IsReady live.new (H.outside host.new).disk) }
     ensures cutter { live.new.cutter ≡ live.old.cutter }
     ensures place { live.new.place ≡ live.old.place }
@@ -156,12 +156,12 @@ fn accept<H: Host>(live: &mut Live, host: &mut H, x: &Record) -> Result<(), Inte
 /// Puts the refusal of the frame that was read last.
 fn refuse<H: Host>(live: &mut Live, host: &mut H, refusal: Refusal) -> Result<(), Interruption>
     requires ready { IsReady live.old (H.outside host.old).disk }
-    ensures stands { (limit : ℕ) (held : List Record) → Stands live.old limit held (H.outside host.old) → Stands live.new limit held (H.outside host.new) }
+    ensures stands { (capacity : ℕ) (held : List Record) → Stands live.old capacity held (H.outside host.old) → Stands live.new capacity held (H.outside host.new) }
     ensures owes { (before text : List ℕ) → Owes (Some before) (H.outside host.old).sent live.old.outbox text
         → OnOk result (Owes (Some before) (H.outside host.new).sent live.new.outbox (text ++ spelled (refused live.old.place refusal))) }
-    ensures moments { (limit : ℕ) (held : List Record) (before text : List ℕ) → Stands live.old limit held (H.outside host.old)
+    ensures moments { (capacity : ℕ) (held : List Record) (before text : List ℕ) → Stands live.old capacity held (H.outside host.old)
         → Owes (Some before) (H.outside host.old).sent live.old.outbox text
-        → Elapses (H.outside host.old) (H.outside host.new) (Steps limit before held text held (text ++ spelled (refused live.old.place refusal))) }
+        → Elapses (H.outside host.old) (H.outside host.new) (Steps capacity before held text held (text ++ spelled (refused live.old.place refusal))) }
     ensures ready { IsReady live.new (H.outside host.new).disk }
     ensures cutter { live.new.cutter ≡ live.old.cutter }
     ensures place { live.new.place ≡ live.old.place }
@@ -186,14 +186,14 @@ fn answer<H: Host>(
     requires ready { IsReady live.old (H.outside host.old).disk }
     requires admissible { IfOk outcome (λ x. refusal_of live.old.engine.admission x ≡ None) }
     requires range { IfOk outcome InRange }
-    ensures stands { (limit : ℕ) (held : List Record) → Stands live.old limit held (H.outside host.old)
-        → OnOk result (Stands live.new limit (with_record held outcome) (H.outside host.new)) }
-    ensures owes { (limit : ℕ) (held : List Record) (before text : List ℕ) → Stands live.old limit held (H.outside host.old)
+    ensures stands { (capacity : ℕ) (held : List Record) → Stands live.old capacity held (H.outside host.old)
+        → OnOk result (Stands live.new capacity (with_record held outcome) (H.outside host.new)) }
+    ensures owes { (capacity : ℕ) (held : List Record) (before text : List ℕ) → Stands live.old capacity held (H.outside host.old)
         → Owes (Some before) (H.outside host.old).sent live.old.outbox text
         → OnOk result (Owes (Some before) (H.outside host.new).sent live.new.outbox (text ++ spelled (reply live.old.place held outcome))) }
-    ensures moments { (limit : ℕ) (held : List Record) (before text : List ℕ) → Stands live.old limit held (H.outside host.old)
+    ensures moments { (capacity : ℕ) (held : List Record) (before text : List ℕ) → Stands live.old capacity held (H.outside host.old)
         → Owes (Some before) (H.outside host.old).sent live.old.outbox text
-        → Elapses (H.outside host.old) (H.outside host.new) (Steps limit before held text (with_record held outcome) (text ++ spelled (reply live.old.place held outcome))) }
+        → Elapses (H.outside host.old) (H.outside host.new) (Steps capacity before held text (with_record held outcome) (text ++ spelled (reply live.old.place held outcome))) }
     ensures ready { OnOk result (IsReady live.new (H.outside host.new).disk) }
     ensures cutter { live.new.cutter ≡ live.old.cutter }
     ensures place { live.new.place ≡ live.old.place }

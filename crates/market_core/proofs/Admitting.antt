@@ -16,7 +16,7 @@ use Rattle.wire_in.specs.declared.record.Record.TheVariants as in_
 use Rattle.wire_in.specs.declared.record.Refusal.{Refusal}
 use Rattle.rulebook.specs.Admission.{names, is_listed_name, with_name}
 use Rattle.market_core.specs.Dated.{is_on, is_up_to, are_up_to}
-use Rattle.market_core.specs.Admitted.{Admitted, StandsFor, refusal_of, is_date_early, added, dates_listed, admitted_with}
+use Rattle.market_core.specs.AdmissionState.{AdmissionState, Represents, refusal_of, is_date_early, added, dates_listed, admitted_with}
 use Rattle.rulebook.proofs.Listings.{own_name}
 use Rattle.rulebook.proofs.Places.{is_some-position}
 use Rattle.rulebook.proofs.Ids.{one_place}
@@ -103,8 +103,8 @@ put_up_to day (date ∷ dates) (Some (suc i)) past =
     let parts = both (is_up_to (Some day) date) (are_up_to (Some day) dates) past in
     ap (λ b. b && are_up_to (Some day) (slice_set dates i day.date)) parts.0 ∙ put_up_to day dates (Some i) parts.1
 
-listing_stands : (a : Admitted) (A : List Record) (day : Day) (t : ℕ) (name : List ℕ) (k : Tier) (l : ℕ) (c : Option ℕ) → a.day ≡ Some day
-    → StandsFor a A → StandsFor (admitted_with a (in_.Listing t name k l c)) (in_.Listing t name k l c ∷ A)
+listing_stands : (a : AdmissionState) (A : List Record) (day : Day) (t : ℕ) (name : List ℕ) (k : Tier) (l : ℕ) (c : Option ℕ) → a.day ≡ Some day
+    → Represents a A → Represents (admitted_with a (in_.Listing t name k l c)) (in_.Listing t name k l c ∷ A)
 listing_stands a A day t name k l c on s =
     let place = position (bytes_eq name) (names A) in
     let same : map (is_on (Some day)) a.dates ≡ map (is_listed_name A) (names A) = subst (λ d. map (is_on d) a.dates ≡ map (is_listed_name A) (names A)) on s.listed in
@@ -120,8 +120,8 @@ listing_stands a A day t name k l c on s =
       dated = (λ i. are_up_to (on i) (option_map_or (λ d. dates_listed d a.dates (position (bytes_eq name) (s.directory i))) (on i) a.dates)) ∙ put_up_to day a.dates place past;
     }
 
-day_stands : (a : Admitted) (A : List Record) (t : ℕ) (day : Day) (close : ℕ) → is_date_early a.day day ≡ false
-    → StandsFor a A → StandsFor (admitted_with a (in_.Day t day close)) (in_.Day t day close ∷ A)
+day_stands : (a : AdmissionState) (A : List Record) (t : ℕ) (day : Day) (close : ℕ) → is_date_early a.day day ≡ false
+    → Represents a A → Represents (admitted_with a (in_.Day t day close)) (in_.Day t day close ∷ A)
 day_stands a A t day close later s =
     let dates = later_day a.day day a.dates s.dated later in
     let as_many : length a.dates ≡ length (names A) = sym (length-map a.dates (is_on a.day)) ∙ ap length s.listed ∙ length-map (names A) (is_listed_name A) in
@@ -138,7 +138,7 @@ pub is_there : {X : Type 0} (o : Option X) → is_none o ≡ false → (x : X) �
 is_there None e = absurd (true≢false e)
 is_there (Some x) e = (x, refl)
 
-pub stands-admitted : (a : Admitted) (A : List Record) (x : Record) → StandsFor a A → refusal_of a x ≡ None → StandsFor (admitted_with a x) (x ∷ A)
+pub stands-admitted : (a : AdmissionState) (A : List Record) (x : Record) → Represents a A → refusal_of a x ≡ None → Represents (admitted_with a x) (x ∷ A)
 stands-admitted a A (in_.Day t d c) s passed = day_stands a A t d c (passes (is_date_early a.day d) _ _ passed).0 s
 stands-admitted a A (in_.Listing t name k l c) s passed =
     let day = is_there a.day (passes (is_none a.day) _ _ passed).0 in
@@ -151,7 +151,7 @@ stands-admitted a A (in_.Clock t) s passed = record { count = omega (arith, s.co
 stands-admitted a A (in_.Notice t y k) s passed = record { count = omega (arith, s.count); day = s.day; last = refl; directory = s.directory; listed = s.listed; dated = s.dated }
 stands-admitted a A (in_.Indication t y p u) s passed = record { count = omega (arith, s.count); day = s.day; last = refl; directory = s.directory; listed = s.listed; dated = s.dated }
 
-pub kept_stands : (r : Result (Unit {0}) NoMemory) (old new : Admitted) (A : List Record) (x : Record) → StandsFor old A → refusal_of old x ≡ None
-    → OnOk r (new ≡ admitted_with old x) → OnOk r (StandsFor new (x ∷ A))
-kept_stands (Ok y) old new A x s passed is = subst (λ v. StandsFor v (x ∷ A)) (sym is) (stands-admitted old A x s passed)
+pub kept_stands : (r : Result (Unit {0}) NoMemory) (old new : AdmissionState) (A : List Record) (x : Record) → Represents old A → refusal_of old x ≡ None
+    → OnOk r (new ≡ admitted_with old x) → OnOk r (Represents new (x ∷ A))
+kept_stands (Ok y) old new A x s passed is = subst (λ v. Represents v (x ∷ A)) (sym is) (stands-admitted old A x s passed)
 kept_stands (Err e) old new A x s passed is = tt

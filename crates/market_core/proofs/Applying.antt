@@ -18,7 +18,7 @@ use Rattle.wire_in.specs.Records.{moment_of, is_day, is_tick, symbol_of}
 use Rattle.wire_out.specs.declared.message.Message.{Message}
 use Rattle.wire_out.specs.declared.message.Message.TheVariants.{MarketResume}
 use Rattle.wire_out.specs.declared.message.Stamped.{Stamped}
-use Rattle.breaker_core.specs.Kept.{started, with_declared}
+use Rattle.breaker_core.specs.BreakerState.{started, with_declared}
 use Rattle.breaker_core.specs.Levels.{ends, declares}
 use Rattle.rulebook.specs.declared.event.Event.{Event}
 use Rattle.rulebook.specs.declared.event.Event.TheVariants.{Accepted}
@@ -34,22 +34,22 @@ use Rattle.rulebook.proofs.Speakers.{AllOfSymbols, of_symbol, own_part-by, by_ot
 use Rattle.symbol_core.specs.Rests.{Held, Rests}
 use Rattle.symbol_core.specs.Silent.{SaysNothing}
 use Rattle.market_core.specs.declared.market.Today.{Today}
-use Rattle.market_core.specs.Admitted.{lacks_room, added}
+use Rattle.market_core.specs.AdmissionState.{lacks_room, added}
 use Rattle.market_core.specs.Applied.{EachEvaluated, OneEvaluated, Finds, Ticks, Evaluated, Applies}
-use Rattle.market_core.specs.Kept.{Kept, StandsFor, SymbolsStandFor, day_of}
+use Rattle.market_core.specs.MarketState.{MarketState, Represents, SymbolsRepresent, day_of}
 use Rattle.market_core.specs.Ruled.{stamped, resumption, with_level_on, ruled, ruling, view_of}
 use Rattle.market_core.proofs.Admitting.{passes, added_name}
 use Rattle.market_core.proofs.Resting.{says-on, of_others, of_none}
 use Rattle.market_core.proofs.Stepping.{opened, day-kept, Begun, own_step, own_symbol, agree-before}
-use Rattle.market_core.proofs.Telling.{id_within}
+use Rattle.market_core.proofs.Appending.{id_within}
 use Rattle.market_core.proofs.Ticking.{Ticked, ToldBelow, told_below, day_below, ruled_history, parts_to, before_id, history-before, none-before}
 use Rattle.market_core.proofs.Verdicts.{no_room}
 
 -- What an admissible record finds.
 
 -- where no refusal applies there is a day, but for a Day record itself
-pub open_day : (limit : ℕ) (A : List Record) (x : Record) → is_day x ≡ false → verdict limit A x ≡ None → (d : Day × ℕ) × (day_record A ≡ Some d)
-open_day limit A x other passed = by (day_record A) refl where
+pub open_day : (capacity : ℕ) (A : List Record) (x : Record) → is_day x ≡ false → verdict capacity A x ≡ None → (d : Day × ℕ) × (day_record A ≡ Some d)
+open_day capacity A x other passed = by (day_record A) refl where
   none : is_none (last_day A) ≡ false
   none = sym (ap (λ b. not b && is_none (last_day A)) other) ∙ (passes (not (is_day x) && is_none (last_day A)) _ _ passed).0
 
@@ -58,12 +58,12 @@ open_day limit A x other passed = by (day_record A) refl where
   by (Some d) e = (d, e)
 
 -- the order of moments is kept
-pub not_early : (limit : ℕ) (A : List Record) (x : Record) → verdict limit A x ≡ None → is_early A x ≡ false
-not_early limit A x passed = (passes (is_early A x) _ _ (passes _ _ _ passed).1).0
+pub not_early : (capacity : ℕ) (A : List Record) (x : Record) → verdict capacity A x ≡ None → is_early A x ≡ false
+not_early capacity A x passed = (passes (is_early A x) _ _ (passes _ _ _ passed).1).0
 
 -- a symbol that is named by its id is listed
-pub is_known : (limit : ℕ) (A : List Record) (x : Record) (s : ℕ) → verdict limit A x ≡ None → symbol_of x ≡ Some s → is_listed A s ≡ true
-is_known limit A x s passed e =
+pub is_known : (capacity : ℕ) (A : List Record) (x : Record) (s : ℕ) → verdict capacity A x ≡ None → symbol_of x ≡ Some s → is_listed A s ≡ true
+is_known capacity A x s passed e =
     let after_day = (passes _ _ _ passed).1 in
     let after_order = (passes (is_early A x) _ _ after_day).1 in
     by (is_listed A s) (sym (ap (λ (o : Option ℕ). option_map_or (λ id. not (is_listed A id)) o false) e) ∙ (passes (is_unknown A x) _ _ after_order).0)
@@ -73,8 +73,8 @@ is_known limit A x s passed e =
     by false e = absurd (true≢false e)
 
 -- and a listing finds room
-pub has_room : (limit : ℕ) (A : List Record) (kept : Kept) (x : Record) → StandsFor kept A → verdict limit A x ≡ None → lacks_room kept.directory x ≡ false
-has_room limit A kept x s passed =
+pub has_room : (capacity : ℕ) (A : List Record) (kept : MarketState) (x : Record) → Represents kept A → verdict capacity A x ≡ None → lacks_room kept.directory x ≡ false
+has_room capacity A kept x s passed =
     let after_day = (passes _ _ _ passed).1 in
     let after_order = (passes (is_early A x) _ _ after_day).1 in
     let after_unknown = (passes (is_unknown A x) _ _ after_order).1 in
@@ -194,7 +194,7 @@ newest-are : (x : Record) (A : List Record) (ms : List Message) → step x (hist
 newest-are x A ms e = ap step_messages e ∙ step_messages-publish ms (opened x A)
 
 -- the day of a market that stands for the list
-on_day : (kept : Kept) (A : List Record) (d : Day × ℕ) → StandsFor kept A → day_record A ≡ Some d → kept.today ≡ Some (day_of A d)
+on_day : (kept : MarketState) (A : List Record) (d : Day × ℕ) → Represents kept A → day_record A ≡ Some d → kept.today ≡ Some (day_of A d)
 on_day kept A d s on = s.today ∙ ap (option_map (day_of A)) on
 
 -- the day of the list with one more record
@@ -202,8 +202,8 @@ next_day : (x : Record) (A : List Record) (d : Day × ℕ) (kept : Today) → is
 next_day x A d kept no_day on e = ap (λ (today : Today). Some today) e ∙ sym (ap (option_map (day_of (x ∷ A))) (day-kept x A no_day ∙ on))
 
 -- what an admissible record leaves
-abbrev pub Goes : Record → List Record → Kept → List Stamped → List Stamped → Type 0
-Goes x A new before after = (after ≡ before ++ newest_messages (x ∷ A)) × StandsFor new (x ∷ A)
+abbrev pub Goes : Record → List Record → MarketState → List Stamped → List Stamped → Type 0
+Goes x A new before after = (after ≡ before ++ newest_messages (x ∷ A)) × Represents new (x ∷ A)
 
 names-grow : (x : Record) (A : List Record) → length (names A) ≤ length (names (x ∷ A))
 names-grow (in_.Listing t n k l c) A = by (is_among (names A) n) where
@@ -221,9 +221,9 @@ names-grow (in_.Indication t s p u) A = omega arith
 
 -- A record of one symbol.
 
-own_goes : (x : Record) (A : List Record) (d : Day × ℕ) (s : ℕ) (middle new : Kept) (before after : List Stamped) → is_day x ≡ false → is_tick x ≡ false → day_record A ≡ Some d → now (history A) ≤ moment_of x
+own_goes : (x : Record) (A : List Record) (d : Day × ℕ) (s : ℕ) (middle new : MarketState) (before after : List Stamped) → is_day x ≡ false → is_tick x ≡ false → day_record A ≡ Some d → now (history A) ≤ moment_of x
     → target (x ∷ A) x ≡ Some s → s < length (names (x ∷ A))
-    → middle.directory ≡ names (x ∷ A) → middle.today ≡ Some (day_of A d) → length middle.symbols ≡ length (names (x ∷ A)) → SymbolsStandFor middle.symbols A
+    → middle.directory ≡ names (x ∷ A) → middle.today ≡ Some (day_of A d) → length middle.symbols ≡ length (names (x ∷ A)) → SymbolsRepresent middle.symbols A
     → ((k : ℕ) → length (names A) ≤ k → SaysNothing (named A k).own k (history A))
     → OneEvaluated s (day_of A d) x middle new before after → Goes x A new before after
 own_goes x A d s middle new before after no_day no_tick on later own within directory today_is count stand others one = (
@@ -250,24 +250,24 @@ own_goes x A d s middle new before after no_day no_tick on later own within dire
   begun : Begun x A d (view_of (day_of A d)) []
   begun = record { no_day = no_day; on = on; day = refl; stopped = ap (λ (today : Today). is_some today.breaker.halt) (sym (day_in-opened x A d no_day)); later = later }
 
-  told : (after ≡ before ++ stamped (moment_of x) ms) × SymbolsStandFor new.symbols (x ∷ A)
-  told = own_symbol x A d (view_of (day_of A d)) s middle.symbols new.symbols before after begun no_tick own stand one.tells one.others
+  told : (after ≡ before ++ stamped (moment_of x) ms) × SymbolsRepresent new.symbols (x ∷ A)
+  told = own_symbol x A d (view_of (day_of A d)) s middle.symbols new.symbols before after begun no_tick own stand one.appends one.others
 
   below_apart : (a b : ℕ) → a < b → (a == b) ≡ false
   below_apart a b lt = grind (arith, nat_tests)
 
 -- by its id
-id_goes : (limit : ℕ) (x : Record) (A : List Record) (s : ℕ) (old new : Kept) (before after : List Stamped) → is_day x ≡ false → is_tick x ≡ false → symbol_of x ≡ Some s → target (x ∷ A) x ≡ Some s
-    → names (x ∷ A) ≡ names A → StandsFor old A → verdict limit A x ≡ None → Evaluated s x old new before after → Goes x A new before after
-id_goes limit x A s old new before after no_day no_tick names_it own same stands passed one =
-    let day = open_day limit A x no_day passed in
-    let within : s < length (names A) = listed-below A s (is_known limit A x s passed names_it) in
-    own_goes x A day.0 s old new before after no_day no_tick day.1 (in_order A x no_day (not_early limit A x passed)) own (subst (λ (ns : List (List ℕ)). s < length ns) (sym same) within)
+id_goes : (capacity : ℕ) (x : Record) (A : List Record) (s : ℕ) (old new : MarketState) (before after : List Stamped) → is_day x ≡ false → is_tick x ≡ false → symbol_of x ≡ Some s → target (x ∷ A) x ≡ Some s
+    → names (x ∷ A) ≡ names A → Represents old A → verdict capacity A x ≡ None → Evaluated s x old new before after → Goes x A new before after
+id_goes capacity x A s old new before after no_day no_tick names_it own same stands passed one =
+    let day = open_day capacity A x no_day passed in
+    let within : s < length (names A) = listed-below A s (is_known capacity A x s passed names_it) in
+    own_goes x A day.0 s old new before after no_day no_tick day.1 (in_order A x no_day (not_early capacity A x passed)) own (subst (λ (ns : List (List ℕ)). s < length ns) (sym same) within)
     (stands.directory ∙ sym same) (on_day old A day.0 stands day.1) (stands.count ∙ ap length (sym same)) stands.symbols stands.others
     (one (day_of A day.0) (on_day old A day.0 stands day.1) (subst (λ (n : ℕ). s < n) (sym stands.count) within))
 
 -- by its name
-found-stand : (A : List Record) (name : List ℕ) (s : ℕ) (old middle : Kept) → StandsFor old A → Finds name s old middle → SymbolsStandFor middle.symbols A
+found-stand : (A : List Record) (name : List ℕ) (s : ℕ) (old middle : MarketState) → Represents old A → Finds name s old middle → SymbolsRepresent middle.symbols A
 found-stand A name s old middle stands f =
     record {
       ids = λ k held e. id_one k held e (nat_le (length old.symbols) k) refl;
@@ -290,11 +290,11 @@ found-stand A name s old middle stands f =
         (f.later k held (at_least (length old.symbols) k later) e).rests (named A k).own (history A) (stands.others k behind)
     rests_one k held e false later = stands.symbols.rests k held (sym (f.earlier k (less (length old.symbols) k later)) ∙ e)
 
-listing_goes : (limit t : ℕ) (name : List ℕ) (k : Tier) (l : ℕ) (c : Option ℕ) (A : List Record) (old new : Kept) (before after : List Stamped) → StandsFor old A → verdict limit A (in_.Listing t name k l c) ≡ None
+listing_goes : (capacity t : ℕ) (name : List ℕ) (k : Tier) (l : ℕ) (c : Option ℕ) (A : List Record) (old new : MarketState) (before after : List Stamped) → Represents old A → verdict capacity A (in_.Listing t name k l c) ≡ None
     → Applies (in_.Listing t name k l c) old new before after → Goes (in_.Listing t name k l c) A new before after
-listing_goes limit t name k l c A old new before after stands passed listed =
+listing_goes capacity t name k l c A old new before after stands passed listed =
     let x = in_.Listing t name k l c in
-    let day = open_day limit A x refl passed in
+    let day = open_day capacity A x refl passed in
     let on = on_day old A day.0 stands day.1 in
     let lists = listed (day_of A day.0) on in
     let found = lists.finds in
@@ -302,7 +302,7 @@ listing_goes limit t name k l c A old new before after stands passed listed =
     found.directory ∙ ap (λ ns. added ns (position (bytes_eq name) ns) name) stands.directory ∙ added_name (names A) name (position (bytes_eq name) (names A)) refl in
     let count : length lists.with_name.symbols ≡ length (names (x ∷ A)) = found.count ∙ ap length directory in
     let id : lists.symbol ≡ unwrap_or (position (bytes_eq name) (names A)) (length (names A)) = found.id ∙ ap (λ ns. unwrap_or (position (bytes_eq name) ns) (length ns)) stands.directory in
-    own_goes x A day.0 lists.symbol lists.with_name new before after refl refl day.1 (in_order A x refl (not_early limit A x passed))
+    own_goes x A day.0 lists.symbol lists.with_name new before after refl refl day.1 (in_order A x refl (not_early capacity A x passed))
     (place_listed (names A) name ∙ ap (λ (n : ℕ). Some n) (sym id))
     (subst (λ (n : ℕ). lists.symbol < n) count (id_within name lists.symbol old lists.with_name found)) directory (found.today ∙ on) count (found-stand A name lists.symbol old lists.with_name stands found) stands.others lists.evaluated
 
@@ -316,9 +316,9 @@ step_tick x A n no_day tick count =
     ∙ ap (λ (B : List Record). publish (market_part x (opened x A) ++ parts x (listed_ids (x ∷ B)) (ruled_history x A)) (opened x A)) (records-history A)
     ∙ ap (λ (m : ℕ). publish (market_part x (opened x A) ++ parts x (filter (is_listed (x ∷ A)) (ids_below m)) (ruled_history x A)) (opened x A)) (sym count)
 
-tick_goes : (limit : ℕ) (x : Record) (A : List Record) (old new : Kept) (before after : List Stamped) → is_day x ≡ false → is_tick x ≡ true → names (x ∷ A) ≡ names A → StandsFor old A → verdict limit A x ≡ None
+tick_goes : (capacity : ℕ) (x : Record) (A : List Record) (old new : MarketState) (before after : List Stamped) → is_day x ≡ false → is_tick x ≡ true → names (x ∷ A) ≡ names A → Represents old A → verdict capacity A x ≡ None
     → Ticks x old new before after → Goes x A new before after
-tick_goes limit x A old new before after no_day tick same stands passed ticks = goes (open_day limit A x no_day passed) where
+tick_goes capacity x A old new before after no_day tick same stands passed ticks = goes (open_day capacity A x no_day passed) where
   goes : (day : (d : Day × ℕ) × (day_record A ≡ Some d)) → Goes x A new before after
   goes (d, on) = (
     told.items ∙ ap (λ (ms : List Message). (before ++ stamped t ms) ++ stamped t (parts_to n x A)) said_is
@@ -364,21 +364,21 @@ tick_goes limit x A old new before after no_day tick same stands passed ticks = 
       on = on;
       day = ap (λ (today : Today). today.day) (ruled-history x A d tick on);
       stopped = ap (λ (today : Today). is_some today.breaker.halt) (ruled-history x A d tick on);
-      later = in_order A x no_day (not_early limit A x passed);
+      later = in_order A x no_day (not_early capacity A x passed);
     }
 
     told : ToldBelow n x A new.symbols (before ++ stamped t (ruling x (day_of A d))) after
-    told = told_below n x A d (view_of (ruled x (day_of A d))) old.symbols new.symbols (before ++ stamped t (ruling x (day_of A d))) after ticked stands.symbols each.tells
+    told = told_below n x A d (view_of (ruled x (day_of A d))) old.symbols new.symbols (before ++ stamped t (ruling x (day_of A d))) after ticked stands.symbols each.appends
 
     within : (k : ℕ) (held : Held) → slice_get new.symbols k ≡ Some held → k < n
     within k held e = subst (λ (m : ℕ). k < m) each.count (slice_get_within new.symbols k held e)
 
 -- A day.
 
-day_goes : (t : ℕ) (day : Day) (c : ℕ) (A : List Record) (old new : Kept) (before after : List Stamped) → StandsFor old A
+day_goes : (t : ℕ) (day : Day) (c : ℕ) (A : List Record) (old new : MarketState) (before after : List Stamped) → Represents old A
     → EachEvaluated (record { day = day; breaker = started c }) (in_.Day t day c) old new before after → Goes (in_.Day t day c) A new before after
 day_goes t day c A old new before after stands each =
-    let told = day_below (length old.symbols) t day c A (view_of (record { day = day; breaker = started c })) old.symbols new.symbols before after stands.symbols each.tells in
+    let told = day_below (length old.symbols) t day c A (view_of (record { day = day; breaker = started c })) old.symbols new.symbols before after stands.symbols each.appends in
     let within : (k : ℕ) (held : Held) → slice_get new.symbols k ≡ Some held → k < length old.symbols = λ k held e. subst (λ (m : ℕ). k < m) each.count (slice_get_within new.symbols k held e) in (
       told.items ∙ sym (append-nil before),
       record {
@@ -392,25 +392,25 @@ day_goes t day c A old new before after stands each =
 
 -- Any record.
 
-pub goes : (limit : ℕ) (x : Record) (A : List Record) (old new : Kept) (before after : List Stamped) → StandsFor old A → verdict limit A x ≡ None → Applies x old new before after → Goes x A new before after
-goes limit (in_.Day t day c) A old new before after stands passed a = day_goes t day c A old new before after stands a
-goes limit (in_.Listing t name k l c) A old new before after stands passed a = listing_goes limit t name k l c A old new before after stands passed a
-goes limit (in_.Clock t) A old new before after stands passed a = tick_goes limit (in_.Clock t) A old new before after refl refl refl stands passed a
-goes limit (in_.IndexTick t value) A old new before after stands passed a = tick_goes limit (in_.IndexTick t value) A old new before after refl refl refl stands passed a
-goes limit (in_.Trade t s n p q f) A old new before after stands passed a = id_goes limit (in_.Trade t s n p q f) A s old new before after refl refl refl refl refl stands passed a
-goes limit (in_.Cancel t s n) A old new before after stands passed a = id_goes limit (in_.Cancel t s n) A s old new before after refl refl refl refl refl stands passed a
-goes limit (in_.Quote t s b o y z) A old new before after stands passed a = id_goes limit (in_.Quote t s b o y z) A s old new before after refl refl refl refl refl stands passed a
-goes limit (in_.Notice t s k) A old new before after stands passed a = id_goes limit (in_.Notice t s k) A s old new before after refl refl refl refl refl stands passed a
-goes limit (in_.Indication t s p u) A old new before after stands passed a = id_goes limit (in_.Indication t s p u) A s old new before after refl refl refl refl refl stands passed a
+pub goes : (capacity : ℕ) (x : Record) (A : List Record) (old new : MarketState) (before after : List Stamped) → Represents old A → verdict capacity A x ≡ None → Applies x old new before after → Goes x A new before after
+goes capacity (in_.Day t day c) A old new before after stands passed a = day_goes t day c A old new before after stands a
+goes capacity (in_.Listing t name k l c) A old new before after stands passed a = listing_goes capacity t name k l c A old new before after stands passed a
+goes capacity (in_.Clock t) A old new before after stands passed a = tick_goes capacity (in_.Clock t) A old new before after refl refl refl stands passed a
+goes capacity (in_.IndexTick t value) A old new before after stands passed a = tick_goes capacity (in_.IndexTick t value) A old new before after refl refl refl stands passed a
+goes capacity (in_.Trade t s n p q f) A old new before after stands passed a = id_goes capacity (in_.Trade t s n p q f) A s old new before after refl refl refl refl refl stands passed a
+goes capacity (in_.Cancel t s n) A old new before after stands passed a = id_goes capacity (in_.Cancel t s n) A s old new before after refl refl refl refl refl stands passed a
+goes capacity (in_.Quote t s b o y z) A old new before after stands passed a = id_goes capacity (in_.Quote t s b o y z) A s old new before after refl refl refl refl refl stands passed a
+goes capacity (in_.Notice t s k) A old new before after stands passed a = id_goes capacity (in_.Notice t s k) A s old new before after refl refl refl refl refl stands passed a
+goes capacity (in_.Indication t s p u) A old new before after stands passed a = id_goes capacity (in_.Indication t s p u) A s old new before after refl refl refl refl refl stands passed a
 
 -- the same of a call that may have found no memory
 
-pub call_gives : (r : Result (Unit {0}) NoMemory) (limit : ℕ) (x : Record) (A : List Record) (old new : Kept) (before after : List Stamped) → StandsFor old A → verdict limit A x ≡ None
+pub call_gives : (r : Result (Unit {0}) NoMemory) (capacity : ℕ) (x : Record) (A : List Record) (old new : MarketState) (before after : List Stamped) → Represents old A → verdict capacity A x ≡ None
     → OnOk r (Applies x old new before after) → OnOk r (after ≡ before ++ newest_messages (x ∷ A))
-call_gives (Ok y) limit x A old new before after stands passed a = (goes limit x A old new before after stands passed a).0
-call_gives (Err y) limit x A old new before after stands passed a = tt
+call_gives (Ok y) capacity x A old new before after stands passed a = (goes capacity x A old new before after stands passed a).0
+call_gives (Err y) capacity x A old new before after stands passed a = tt
 
-pub call_stands : (r : Result (Unit {0}) NoMemory) (limit : ℕ) (x : Record) (A : List Record) (old new : Kept) (before after : List Stamped) → StandsFor old A → verdict limit A x ≡ None
-    → OnOk r (Applies x old new before after) → OnOk r (StandsFor new (x ∷ A))
-call_stands (Ok y) limit x A old new before after stands passed a = (goes limit x A old new before after stands passed a).1
-call_stands (Err y) limit x A old new before after stands passed a = tt
+pub call_stands : (r : Result (Unit {0}) NoMemory) (capacity : ℕ) (x : Record) (A : List Record) (old new : MarketState) (before after : List Stamped) → Represents old A → verdict capacity A x ≡ None
+    → OnOk r (Applies x old new before after) → OnOk r (Represents new (x ∷ A))
+call_stands (Ok y) capacity x A old new before after stands passed a = (goes capacity x A old new before after stands passed a).1
+call_stands (Err y) capacity x A old new before after stands passed a = tt

@@ -1,10 +1,10 @@
 pub mod Verdicts
 pub mod Marks
 pub mod Admitting
-pub mod Telling
+pub mod Appending
 pub mod Resting
 pub mod Stepping
 pub mod Ticking
 pub mod Applying
 pub mod Views
-pub mod Alone
+pub mod Isolation

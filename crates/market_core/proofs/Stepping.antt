@@ -13,7 +13,7 @@ use Rattle.rulebook.specs.declared.event.Event.{Event}
 use Rattle.rulebook.specs.declared.event.Event.TheVariants.{Accepted}
 use Rattle.rulebook.specs.Book.{Named, named, all_obeyed, announced, symbol_rules, evaluate_all, evaluate_own, evaluate_market, listed_ids, target, step, history}
 use Rattle.rulebook.specs.History.{now, records, publish}
-use Rattle.rulebook.specs.Market.{day_record, is_stopped}
+use Rattle.rulebook.specs.Market.{day_record, is_market_halted}
 use Rattle.rulebook.specs.Symbol.{terms}
 use Rattle.rulebook.proofs.Histories.{part, own_part, evaluate_own-part, records-history, records-publish}
 use Rattle.rulebook.proofs.Ids.{Agree, own-kept, same_id, own_id}
@@ -23,8 +23,8 @@ use Rattle.symbol_core.specs.Evaluates.{Opens, part_of, step_of}
 use Rattle.symbol_core.specs.Rests.{Held, Rests}
 use Rattle.symbol_core.specs.Silent.{IsOfOthers}
 use Rattle.symbol_core.specs.Stands as symbol
-use Rattle.market_core.specs.Applied.{TellsAt}
-use Rattle.market_core.specs.Kept.{SymbolsStandFor}
+use Rattle.market_core.specs.Applied.{AppendsAt}
+use Rattle.market_core.specs.MarketState.{SymbolsRepresent}
 use Rattle.market_core.specs.Ruled.{stamped}
 use Rattle.market_core.proofs.Resting.{silent, rests-agree, rests-on, of_others}
 
@@ -80,7 +80,7 @@ pub record Begun (x : Record) (A : List Record) (d : Day × ℕ) (market : Marke
   pub no_day : is_day x ≡ false
   pub on : day_record A ≡ Some d
   pub day : market.day ≡ d.0
-  pub stopped : market.stopped ≡ is_stopped (publish said (opened x A))
+  pub stopped : market.stopped ≡ is_market_halted (publish said (opened x A))
   pub later : now (history A) ≤ moment_of x
 
 -- a symbol that rests on the history is ready for the record
@@ -121,10 +121,10 @@ own_said x A d market s id b no_tick is =
     ∙ ap (λ (ms : List Message). said ++ ms) (sym (part-on x S said A d b.no_day b.on))
 
 pub own_symbol : (x : Record) (A : List Record) (d : Day × ℕ) (market : MarketView) (s : ℕ) (old new : List Held) (before after : List Stamped) → Begun x A d market [] → is_tick x ≡ false → target (x ∷ A) x ≡ Some s
-    → SymbolsStandFor old A → TellsAt s market x old new before after → ((k : ℕ) → k ≢ s → slice_get new k ≡ slice_get old k)
-    → (after ≡ before ++ stamped (moment_of x) (own_part x (named (x ∷ A) s) (opened x A))) × SymbolsStandFor new (x ∷ A)
+    → SymbolsRepresent old A → AppendsAt s market x old new before after → ((k : ℕ) → k ≢ s → slice_get new k ≡ slice_get old k)
+    → (after ≡ before ++ stamped (moment_of x) (own_part x (named (x ∷ A) s) (opened x A))) × SymbolsRepresent new (x ∷ A)
 own_symbol x A d market s old new before after b no_tick own stand at others = (
-  at.tells.items ∙ ap (λ (ms : List Message). before ++ stamped (moment_of x) ms) (at.tells.evaluates.says own_names [] (history A) opens ∙ said_is),
+  at.appends.items ∙ ap (λ (ms : List Message). before ++ stamped (moment_of x) ms) (at.appends.evaluates.says own_names [] (history A) opens ∙ said_is),
   record {
     ids = λ k held e. id_of_one k held e (k == s) refl;
     rests = λ k held e. subst (Rests (named (x ∷ A) k).own held) (sym step_is) (rests_one k held e (k == s) refl);
@@ -153,7 +153,7 @@ own_symbol x A d market s old new before after b no_tick own stand at others = (
       let here : k ≡ s = same_id k s same in
       let there : slice_get new k ≡ Some at.is = subst (λ (j : ℕ). slice_get new j ≡ Some at.is) (sym here) at.left in
       let is : at.is ≡ held = cc in
-      ap (λ (q : Held). q.kept.id) (sym is) ∙ at.tells.evaluates.id ∙ id_is ∙ sym here
+      ap (λ (q : Held). q.kept.id) (sym is) ∙ at.appends.evaluates.id ∙ id_is ∙ sym here
   id_of_one k held e false apart = stand.ids k held (sym (others k (apart_ids k s apart)) ∙ e)
 
   rests_one : (k : ℕ) (held : Held) → slice_get new k ≡ Some held → (same : Bool) → (k == s) ≡ same → Rests (named (x ∷ A) k).own held (publish ms (opened x A))
@@ -163,7 +163,7 @@ own_symbol x A d market s old new before after b no_tick own stand at others = (
       let is : at.is ≡ held = cc in
       subst (λ (q : Held). Rests (named (x ∷ A) k).own q (publish ms (opened x A))) is
       (subst (λ (j : ℕ). Rests (named (x ∷ A) j).own at.is (publish ms (opened x A))) (sym here)
-      (subst (λ (said : List Message). Rests own_names at.is (publish said (opened x A))) said_is (at.tells.evaluates.rests own_names [] (history A) opens)))
+      (subst (λ (said : List Message). Rests own_names at.is (publish said (opened x A))) said_is (at.appends.evaluates.rests own_names [] (history A) opens)))
   rests_one k held e false apart =
       let before_is : slice_get old k ≡ Some held = sym (others k (apart_ids k s apart)) ∙ e in
       let id : held.kept.id ≡ k = stand.ids k held before_is in

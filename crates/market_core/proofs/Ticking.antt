@@ -15,7 +15,7 @@ use Rattle.rulebook.specs.declared.event.Event.TheVariants.{Accepted}
 use Rattle.rulebook.specs.Admission.{is_listed}
 use Rattle.rulebook.specs.Book.{Named, named, all_obeyed, announced, symbol_rules, ids_below, history}
 use Rattle.rulebook.specs.History.{now, records, publish}
-use Rattle.rulebook.specs.Market.{day_record, is_stopped}
+use Rattle.rulebook.specs.Market.{day_record, is_market_halted}
 use Rattle.rulebook.specs.Symbol.{terms, terms_in}
 use Rattle.rulebook.proofs.Histories.{part, parts, market_part, publish-append}
 use Rattle.rulebook.proofs.Ids.{terms-listed, same_id}
@@ -24,8 +24,8 @@ use Rattle.symbol_core.specs.declared.symbol.MarketView.{MarketView}
 use Rattle.symbol_core.specs.Evaluates.{Opens, open_history, part_of}
 use Rattle.symbol_core.specs.Rests.{Held, Rests}
 use Rattle.symbol_core.specs.Stands as symbol
-use Rattle.market_core.specs.Applied.{TellsAt, TellsBelow}
-use Rattle.market_core.specs.Kept.{SymbolsStandFor}
+use Rattle.market_core.specs.Applied.{AppendsAt, AppendsBelow}
+use Rattle.market_core.specs.MarketState.{SymbolsRepresent}
 use Rattle.market_core.specs.Ruled.{stamped}
 use Rattle.market_core.proofs.Resting.{rests-publish}
 use Rattle.market_core.proofs.Stepping.{opened, records-opened, part-on, same_named, Begun, ready, apart_ids, swap_ids}
@@ -71,7 +71,7 @@ pub record Ticked (x : Record) (A : List Record) (d : Day × ℕ) (market : Mark
   pub tick : is_tick x ≡ true
   pub on : day_record A ≡ Some d
   pub day : market.day ≡ d.0
-  pub stopped : market.stopped ≡ is_stopped (ruled_history x A)
+  pub stopped : market.stopped ≡ is_market_halted (ruled_history x A)
   pub later : now (history A) ≤ moment_of x
 
 pub tick_day : (x : Record) → is_tick x ≡ true → is_day x ≡ false
@@ -157,11 +157,11 @@ pub record ToldBelow (n : ℕ) (x : Record) (A : List Record) (new : List Held) 
   pub ids : (k : ℕ) (held : Held) → k < n → slice_get new k ≡ Some held → held.kept.id ≡ k
   pub rests : (k : ℕ) (held : Held) → k < n → slice_get new k ≡ Some held → Rests (named (x ∷ A) k).own held (history_to n x A)
 
-one_told : (n : ℕ) (x : Record) (A : List Record) (d : Day × ℕ) (market : MarketView) (old new : List Held) (before middle after : List Stamped) → Ticked x A d market → SymbolsStandFor old A
-    → TellsAt n market x old new middle after → ToldBelow n x A new before middle → ToldBelow (suc n) x A new before after
+one_told : (n : ℕ) (x : Record) (A : List Record) (d : Day × ℕ) (market : MarketView) (old new : List Held) (before middle after : List Stamped) → Ticked x A d market → SymbolsRepresent old A
+    → AppendsAt n market x old new middle after → ToldBelow n x A new before middle → ToldBelow (suc n) x A new before after
 one_told n x A d market old new before middle after tick stand at told =
     record {
-      items = at.tells.items ∙ ap (λ (ms : List Message). middle ++ stamped t ms) said_is ∙ ap (λ (ms : List Stamped). ms ++ stamped t said) told.items
+      items = at.appends.items ∙ ap (λ (ms : List Message). middle ++ stamped t ms) said_is ∙ ap (λ (ms : List Stamped). ms ++ stamped t said) told.items
           ∙ append_assoc before (stamped t (parts_to n x A)) (stamped t said)
           ∙ ap (λ (ms : List Stamped). before ++ ms) (sym (map-append _ (parts_to n x A) said) ∙ ap (stamped t) (sym more));
       ids = λ k held below e. id_one k held e below (k == n) refl;
@@ -191,28 +191,28 @@ one_told n x A d market old new before middle after tick stand at told =
       no_day = tick_day x tick.tick;
       on = tick.on;
       day = tick.day;
-      stopped = tick.stopped ∙ sym (ap is_some (market_halt-publish (parts_to n x A) (ruled_history x A) (parts-of_symbols x (filter (is_listed (x ∷ A)) (ids_below n)) (ruled_history x A)))) ∙ ap is_stopped (sym (history-before n x A));
+      stopped = tick.stopped ∙ sym (ap is_some (market_halt-publish (parts_to n x A) (ruled_history x A) (parts-of_symbols x (filter (is_listed (x ∷ A)) (ids_below n)) (ruled_history x A)))) ∙ ap is_market_halted (sym (history-before n x A));
       later = tick.later;
     }
 
     opens : Opens S.own at.was market x (before_id n x A) (history A)
     opens = ready x A d market n at.was (before_id n x A) begun (none-before n n x A (omega arith)) id_is (tick_name S.own x tick.tick) (stand.rests n at.was at.found)
 
-    said_is : at.tells.said ≡ said
-    said_is = at.tells.evaluates.says S.own (before_id n x A) (history A) opens ∙ said-tick x A d market n at.was.kept.id tick id_is
+    said_is : at.appends.said ≡ said
+    said_is = at.appends.evaluates.says S.own (before_id n x A) (history A) opens ∙ said-tick x A d market n at.was.kept.id tick id_is
 
     own_rests : Rests S.own at.is (publish said (history_to n x A))
     own_rests =
         subst (λ (h : List Event). Rests S.own at.is (publish said h)) (history-before n x A)
         (subst (λ (ms : List Message). Rests S.own at.is (publish ms (publish (before_id n x A) (opened x A)))) (said-tick x A d market n at.was.kept.id tick id_is)
-        (at.tells.evaluates.rests S.own (before_id n x A) (history A) opens))
+        (at.appends.evaluates.rests S.own (before_id n x A) (history A) opens))
 
     id_one : (k : ℕ) (held : Held) → slice_get new k ≡ Some held → k < suc n → (same : Bool) → (k == n) ≡ same → held.kept.id ≡ k
     id_one k held e below true same =
         let here : k ≡ n = same_id k n same in
         let there : slice_get new k ≡ Some at.is = subst (λ (j : ℕ). slice_get new j ≡ Some at.is) (sym here) at.left in
         let is : at.is ≡ held = cc in
-        ap (λ (q : Held). q.kept.id) (sym is) ∙ at.tells.evaluates.id ∙ id_is ∙ sym here
+        ap (λ (q : Held). q.kept.id) (sym is) ∙ at.appends.evaluates.id ∙ id_is ∙ sym here
     id_one k held e below false apart = let ne : k ≢ n = apart_ids k n apart in told.ids k held (omega arith) e
 
     rests_one : (k : ℕ) (held : Held) → slice_get new k ≡ Some held → k < suc n → (same : Bool) → (k == n) ≡ same → Rests (named (x ∷ A) k).own held (publish said (history_to n x A))
@@ -228,8 +228,8 @@ one_told n x A d market old new before middle after tick stand at told =
         (subst (λ (j : ℕ). NoneBy j said) (sym (told.ids k held (omega arith) e)) (said_if-by (is_listed (x ∷ A) n) d.0 S x (history_to n x A) k (swap_ids k n apart)))
         (told.rests k held (omega arith) e)
 
-pub told_below : (n : ℕ) (x : Record) (A : List Record) (d : Day × ℕ) (market : MarketView) (old new : List Held) (before after : List Stamped) → Ticked x A d market → SymbolsStandFor old A
-    → TellsBelow n market x old new before after → ToldBelow n x A new before after
+pub told_below : (n : ℕ) (x : Record) (A : List Record) (d : Day × ℕ) (market : MarketView) (old new : List Held) (before after : List Stamped) → Ticked x A d market → SymbolsRepresent old A
+    → AppendsBelow n market x old new before after → ToldBelow n x A new before after
 told_below zero x A d market old new before after tick stand unsaid =
     record { items = unsaid ∙ sym (append-nil before); ids = λ k held below e. absurd (omega arith); rests = λ k held below e. absurd (omega arith) }
 told_below (suc n) x A d market old new before after tick stand (middle, earlier, at) =
@@ -242,11 +242,11 @@ pub record DayBelow (n t : ℕ) (day : Day) (close : ℕ) (A : List Record) (new
   pub ids : (k : ℕ) (held : Held) → k < n → slice_get new k ≡ Some held → held.kept.id ≡ k
   pub rests : (k : ℕ) (held : Held) → k < n → slice_get new k ≡ Some held → Rests (named A k).own held (Accepted (in_.Day t day close) ∷ history A)
 
-one_day : (n t : ℕ) (day : Day) (close : ℕ) (A : List Record) (market : MarketView) (old new : List Held) (before middle after : List Stamped) → SymbolsStandFor old A
-    → TellsAt n market (in_.Day t day close) old new middle after → DayBelow n t day close A new before middle → DayBelow (suc n) t day close A new before after
+one_day : (n t : ℕ) (day : Day) (close : ℕ) (A : List Record) (market : MarketView) (old new : List Held) (before middle after : List Stamped) → SymbolsRepresent old A
+    → AppendsAt n market (in_.Day t day close) old new middle after → DayBelow n t day close A new before middle → DayBelow (suc n) t day close A new before after
 one_day n t day close A market old new before middle after stand at told =
     record {
-      items = at.tells.items ∙ ap (λ (ms : List Message). middle ++ stamped t ms) (at.tells.evaluates.says_no_day refl) ∙ append-nil middle ∙ told.items;
+      items = at.appends.items ∙ ap (λ (ms : List Message). middle ++ stamped t ms) (at.appends.evaluates.says_no_day refl) ∙ append-nil middle ∙ told.items;
       ids = λ k held below e. id_one k held e below (k == n) refl;
       rests = λ k held below e. rests_one k held e below (k == n) refl;
     }
@@ -259,7 +259,7 @@ one_day n t day close A market old new before middle after stand at told =
         let here : k ≡ n = same_id k n same in
         let there : slice_get new k ≡ Some at.is = subst (λ (j : ℕ). slice_get new j ≡ Some at.is) (sym here) at.left in
         let is : at.is ≡ held = cc in
-        ap (λ (q : Held). q.kept.id) (sym is) ∙ at.tells.evaluates.id ∙ stand.ids n at.was at.found ∙ sym here
+        ap (λ (q : Held). q.kept.id) (sym is) ∙ at.appends.evaluates.id ∙ stand.ids n at.was at.found ∙ sym here
     id_one k held e below false apart = let ne : k ≢ n = apart_ids k n apart in told.ids k held (omega arith) e
 
     rests_one : (k : ℕ) (held : Held) → slice_get new k ≡ Some held → k < suc n → (same : Bool) → (k == n) ≡ same → Rests (named A k).own held h
@@ -268,11 +268,11 @@ one_day n t day close A market old new before middle after stand at told =
         let there : slice_get new k ≡ Some at.is = subst (λ (j : ℕ). slice_get new j ≡ Some at.is) (sym here) at.left in
         let is : at.is ≡ held = cc in
         subst (λ (q : Held). Rests (named A k).own q h) is
-        (subst (λ (j : ℕ). Rests (named A j).own at.is h) (sym here) (at.tells.evaluates.begins refl (named A n).own (history A) (stand.rests n at.was at.found)))
+        (subst (λ (j : ℕ). Rests (named A j).own at.is h) (sym here) (at.appends.evaluates.begins refl (named A n).own (history A) (stand.rests n at.was at.found)))
     rests_one k held e below false apart = let ne : k ≢ n = apart_ids k n apart in told.rests k held (omega arith) e
 
-pub day_below : (n t : ℕ) (day : Day) (close : ℕ) (A : List Record) (market : MarketView) (old new : List Held) (before after : List Stamped) → SymbolsStandFor old A
-    → TellsBelow n market (in_.Day t day close) old new before after → DayBelow n t day close A new before after
+pub day_below : (n t : ℕ) (day : Day) (close : ℕ) (A : List Record) (market : MarketView) (old new : List Held) (before after : List Stamped) → SymbolsRepresent old A
+    → AppendsBelow n market (in_.Day t day close) old new before after → DayBelow n t day close A new before after
 day_below zero t day close A market old new before after stand unsaid = record { items = unsaid; ids = λ k held below e. absurd (omega arith); rests = λ k held below e. absurd (omega arith) }
 day_below (suc n) t day close A market old new before after stand (middle, earlier, at) =
     one_day n t day close A market old new before middle after stand at (day_below n t day close A market old new before middle stand earlier)

@@ -14,7 +14,7 @@ use Rattle.wire_in.specs.declared.record.Refusal.TheVariants.{NoDay, OutOfOrder,
 use Rattle.wire_in.specs.Records.{symbol_of, is_day}
 use Rattle.rulebook.specs.Admission.{verdict, names, last_day, is_listed_name, is_listed, is_early, is_unknown, lists_again, finds_no_id}
 use Rattle.market_core.specs.Dated.{is_on}
-use Rattle.market_core.specs.Admitted.{Admitted, StandsFor, refusal_of, last_moment, is_out_of_order, is_listed_id, names_unlisted, lists_twice, lacks_room}
+use Rattle.market_core.specs.AdmissionState.{AdmissionState, Represents, refusal_of, last_moment, is_out_of_order, is_listed_id, names_unlisted, lists_twice, lacks_room}
 use Rattle.rulebook.proofs.Places.{is_some-position}
 use Rattle.rulebook.proofs.Listings.{listed_by_id}
 
@@ -78,13 +78,13 @@ no_room A (in_.Indication t s p u) = refl
 
 -- the first of the refusals whose test holds
 abbrev first_of : Bool → Bool → Bool → Bool → Bool → Bool → Option Refusal
-first_of no_day out_of_order unknown again full limit =
-    cond no_day (Some NoDay) (cond out_of_order (Some OutOfOrder) (cond unknown (Some UnknownSymbol) (cond again (Some AlreadyListed) (cond full (Some DirectoryFull) (cond limit (Some JournalFull) None)))))
+first_of no_day out_of_order unknown again full capacity =
+    cond no_day (Some NoDay) (cond out_of_order (Some OutOfOrder) (cond unknown (Some UnknownSymbol) (cond again (Some AlreadyListed) (cond full (Some DirectoryFull) (cond capacity (Some JournalFull) None)))))
 
-pub refusal_of-stands : (a : Admitted) (A : List Record) (x : Record) → StandsFor a A → refusal_of a x ≡ verdict a.limit A x
+pub refusal_of-stands : (a : AdmissionState) (A : List Record) (x : Record) → Represents a A → refusal_of a x ≡ verdict a.capacity A x
 refusal_of-stands a A x s =
     let early : is_out_of_order a.day a.last x ≡ is_early A x = ap2 (λ d l. is_out_of_order d l x) s.day s.last ∙ out_of_order A x in
     let again : lists_twice a.day a.dates a.directory x ≡ lists_again A x = ap (λ d. lists_twice a.day a.dates d x) s.directory ∙ twice a.day a.dates A s.listed x in
     let room : lacks_room a.directory x ≡ finds_no_id A x = ap (λ d. lacks_room d x) s.directory ∙ no_room A x in
     let unknown : names_unlisted a.day a.dates x ≡ is_unknown A x = unlisted a.day a.dates A s.listed x in
-    λ i. first_of (not (is_day x) && is_none (s.day i)) (early i) (unknown i) (again i) (room i) (nat_le a.limit (s.count i))
+    λ i. first_of (not (is_day x) && is_none (s.day i)) (early i) (unknown i) (again i) (room i) (nat_le a.capacity (s.count i))

@@ -10,7 +10,7 @@ use Rattle.wire_out.specs.declared.message.Stamped.{Stamped}
 use Rattle.rulebook.specs.declared.event.Event.{Event}
 use Rattle.rulebook.specs.declared.event.Event.TheVariants.{Accepted}
 use Rattle.rulebook.specs.Admission.{names}
-use Rattle.rulebook.specs.Alone.{alone, concerns, for_symbol, history_alone, is_for, is_listed_alone, view}
+use Rattle.rulebook.specs.Isolation.{isolated, concerns, for_symbol, isolated_history, is_for, is_listed_in_view, view}
 use Rattle.rulebook.specs.Book.{evaluate, evaluate_market, evaluate_own, named}
 use Rattle.rulebook.specs.History.{records}
 use Rattle.rulebook.specs.Symbol.{terms_in}
@@ -73,34 +73,34 @@ pub view-more : (x : Record) (A : List Record) (s : ℕ) (b : Bool) → concerns
 view-more x A s b e = λ i. cond (e i) (x ∷ view-kept x A s i) (view-kept x A s i)
 
 -- the records of a symbol's own history are those that it is of
-pub records-alone : (s : ℕ) (v : List Record) → records (history_alone s v) ≡ v
-records-alone s [] = refl
-records-alone s (x ∷ v) = by (is_day x) (is_tick x) (is_listed_alone (records (Accepted x ∷ history_alone s v))) ∙ ap (λ (earlier : List Record). x ∷ earlier) (records-alone s v) where
+pub records-isolated : (s : ℕ) (v : List Record) → records (isolated_history s v) ≡ v
+records-isolated s [] = refl
+records-isolated s (x ∷ v) = by (is_day x) (is_tick x) (is_listed_in_view (records (Accepted x ∷ isolated_history s v))) ∙ ap (λ (earlier : List Record). x ∷ earlier) (records-isolated s v) where
   h : List Event
-  h = Accepted x ∷ history_alone s v
+  h = Accepted x ∷ isolated_history s v
 
   market : records (evaluate_market x h) ≡ records h
   market = ap records (evaluate_market-part x h) ∙ records-publish (market_part x h) h
 
   by : (day tick listed : Bool)
-      → records (cond day h (cond tick (cond listed (evaluate x (alone s) (evaluate_market x h)) (evaluate_market x h)) (evaluate_own x (alone s) h))) ≡ records h
+      → records (cond day h (cond tick (cond listed (evaluate x (isolated s) (evaluate_market x h)) (evaluate_market x h)) (evaluate_own x (isolated s) h))) ≡ records h
   by true tick listed = refl
-  by false true true = ap records (evaluate-part x (alone s) (evaluate_market x h)) ∙ records-publish (part x (alone s) (evaluate_market x h)) (evaluate_market x h) ∙ market
+  by false true true = ap records (evaluate-part x (isolated s) (evaluate_market x h)) ∙ records-publish (part x (isolated s) (evaluate_market x h)) (evaluate_market x h) ∙ market
   by false true false = market
-  by false false listed = ap records (evaluate_own-part x (alone s) h) ∙ records-publish (own_part x (alone s) h) h
+  by false false listed = ap records (evaluate_own-part x (isolated s) h) ∙ records-publish (own_part x (isolated s) h) h
 
 -- alone, a symbol has terms where there is a listing
-pub terms-alone : (v : List Record) → is_some (terms_in (λ name. true) v) ≡ is_listed_alone v
-terms-alone [] = refl
-terms-alone (in_.Day t d c ∷ v) = refl
-terms-alone (in_.Listing t name k l c ∷ v) = refl
-terms-alone (in_.Trade t i n p q f ∷ v) = terms-alone v
-terms-alone (in_.Cancel t i n ∷ v) = terms-alone v
-terms-alone (in_.Quote t i b o y z ∷ v) = terms-alone v
-terms-alone (in_.IndexTick t x ∷ v) = terms-alone v
-terms-alone (in_.Clock t ∷ v) = terms-alone v
-terms-alone (in_.Notice t i k ∷ v) = terms-alone v
-terms-alone (in_.Indication t i p u ∷ v) = terms-alone v
+pub terms-isolated : (v : List Record) → is_some (terms_in (λ name. true) v) ≡ is_listed_in_view v
+terms-isolated [] = refl
+terms-isolated (in_.Day t d c ∷ v) = refl
+terms-isolated (in_.Listing t name k l c ∷ v) = refl
+terms-isolated (in_.Trade t i n p q f ∷ v) = terms-isolated v
+terms-isolated (in_.Cancel t i n ∷ v) = terms-isolated v
+terms-isolated (in_.Quote t i b o y z ∷ v) = terms-isolated v
+terms-isolated (in_.IndexTick t x ∷ v) = terms-isolated v
+terms-isolated (in_.Clock t ∷ v) = terms-isolated v
+terms-isolated (in_.Notice t i k ∷ v) = terms-isolated v
+terms-isolated (in_.Indication t i p u ∷ v) = terms-isolated v
 
 -- Messages.
 

@@ -1,7 +1,7 @@
 pub mod Kinds
 pub mod Dated
-pub mod Admitted
-pub mod Kept
+pub mod AdmissionState
+pub mod MarketState
 pub mod Ruled
 pub mod Applied
-pub mod Alone
+pub mod Isolation

@@ -6,7 +6,7 @@ use Rattle.wire_in.specs.declared.record.Record.TheVariants as in_
 use Rattle.wire_out.specs.declared.message.Message.{Message}
 use Rattle.wire_out.specs.declared.message.Message.TheVariants.{MarketResume}
 use Rattle.wire_out.specs.declared.message.Stamped.{Stamped}
-use Rattle.breaker_core.specs.Kept.{resumed, with_declared}
+use Rattle.breaker_core.specs.BreakerState.{resumed, with_declared}
 use Rattle.breaker_core.specs.Levels.{ends, declares}
 use Rattle.rulebook.specs.Market.{breaks}
 use Rattle.symbol_core.specs.declared.symbol.MarketView.{MarketView}

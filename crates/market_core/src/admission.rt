@@ -5,7 +5,7 @@ ghost use Rattle.wire_in.specs.declared.record.Record.{Record};
 ghost use Rattle.wire_in.specs.Records.{name_of, symbol_of};
 ghost use Rattle.rulebook.specs.Admission.{verdict};
 ghost use Rattle.market_core.specs.Dated.{is_on};
-ghost use Rattle.market_core.specs.Admitted.{Admitted, StandsFor, refusal_of, is_before_day, is_date_early, is_out_of_order, names_unlisted, lists_twice, lacks_room, is_listed_id, is_full_for, added, dates_listed, day_after, directory_after, dates_after, admitted_with};
+ghost use Rattle.market_core.specs.AdmissionState.{AdmissionState, Represents, refusal_of, is_before_day, is_date_early, is_out_of_order, names_unlisted, lists_twice, lacks_room, is_listed_id, is_full_for, added, dates_listed, day_after, directory_after, dates_after, admitted_with};
 
 use crate::directory::{Directory, is_full_for};
 use price_core::NoMemory;
@@ -17,7 +17,7 @@ use wire_in::{Record, Refusal};
 /// What decides whether a record may follow those admitted before it.
 #[derive(Drop)]
 pub struct Admission {
-    limit: u64,
+    capacity: u64,
     count: u64,
     day: Option<Day>,
     last: Option<Moment>,
@@ -27,12 +27,12 @@ pub struct Admission {
 
 impl Model for Admission {
     ghost use Rattle.std.specs.Prelude.{◌≡◌, length, unwrap_or, vec_len};
-    ghost use Rattle.market_core.specs.Admitted.{Admitted};
+    ghost use Rattle.market_core.specs.AdmissionState.{AdmissionState};
 
-    ghost Value = { Admitted };
+    ghost Value = { AdmissionState };
 
     ghost view = { λ a. record {
-      limit = a.limit;
+      capacity = a.capacity;
       count = a.count;
       day = a.day;
       last = unwrap_or a.last 0;
@@ -136,14 +136,14 @@ fn lacks_room(directory: &Directory, x: &Record) -> bool
 }
 
 impl Admission {
-    /// An admission of no records, under a limit of records. It takes no memory yet.
-    pub fn new(alloc: Global, limit: u64) -> Result<Admission, NoMemory>
+    /// An admission of no records, under a capacity of records. It takes no memory yet.
+    pub fn new(alloc: Global, capacity: u64) -> Result<Admission, NoMemory>
         ensures succeeds { IsOk result }
-        ensures stands { IfOk result (λ a. StandsFor a []) }
-        ensures limit { IfOk result (λ a. a.limit ≡ limit) }
+        ensures stands { IfOk result (λ a. Represents a []) }
+        ensures capacity { IfOk result (λ a. a.capacity ≡ capacity) }
     {
         Ok(Admission {
-            limit,
+            capacity,
             count: 0,
             day: None,
             last: None,
@@ -187,7 +187,7 @@ impl Admission {
             Some(Refusal::AlreadyListed)
         } else if lacks_room(&self.directory, x) {
             Some(Refusal::DirectoryFull)
-        } else if self.limit <= self.count {
+        } else if self.capacity <= self.count {
             Some(Refusal::JournalFull)
         } else {
             None
@@ -198,7 +198,7 @@ impl Admission {
     /// listed, directory full and journal full that applies, or none.
     pub fn verdict(&self, x: &Record) -> Option<Refusal>
         ensures kept { result ≡ refusal_of self.now x.now }
-        ensures exact { (admitted : List Record) → StandsFor self.now admitted → result ≡ verdict self.now.limit admitted x.now }
+        ensures exact { (admitted : List Record) → Represents self.now admitted → result ≡ verdict self.now.capacity admitted x.now }
     {
         self.refusal(x)
     }
@@ -260,8 +260,8 @@ impl Admission {
     /// Listing.
     pub fn admit(&mut self, x: &Record) -> Result<(), NoMemory>
         requires { refusal_of self.old x.now ≡ None }
-        ensures stands { (admitted : List Record) → StandsFor self.old admitted → OnOk result (StandsFor self.new (x.now ∷ admitted)) }
-        ensures limit { self.new.limit ≡ self.old.limit }
+        ensures stands { (admitted : List Record) → Represents self.old admitted → OnOk result (Represents self.new (x.now ∷ admitted)) }
+        ensures capacity { self.new.capacity ≡ self.old.capacity }
         ensures count { OnOk result (self.new.count ≡ self.old.count + 1) }
         ensures err { OnErr result (self.new ≡ self.old) }
         ensures succeeds { name_of x.now ≡ None → IsOk result }

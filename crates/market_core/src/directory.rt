@@ -1,6 +1,6 @@
 ghost use Rattle.std.specs.Prelude.{◌≡◌, ◌<◌, ◌≤◌, ◌∷◌, ◌++◌, [], None, length, position, OnOk, OnErr, IfOk};
 ghost use Rattle.std.specs.Str.{bytes_eq};
-ghost use Rattle.market_core.specs.Admitted.{is_full_for};
+ghost use Rattle.market_core.specs.AdmissionState.{is_full_for};
 
 use indexmap::IndexSet;
 use price_core::NoMemory;

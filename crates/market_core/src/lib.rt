@@ -11,5 +11,5 @@ mod tests;
 
 pub use admission::Admission;
 pub use directory::Directory;
-pub use law::a_symbol_speaks_alone;
+pub use law::a_symbol_is_isolated;
 pub use market::{Market, Today};

@@ -2,14 +2,14 @@ ghost use Rattle.std.specs.Prelude.{◌≡◌, ◌+◌, ◌*◌, ◌<◌, ◌≤
 ghost use Rattle.std.specs.Str.{bytes_eq};
 ghost use Rattle.wire_in.specs.declared.record.Record.{Record};
 ghost use Rattle.wire_in.specs.Records.{moment_of, name_of, is_day, is_tick};
-ghost use Rattle.breaker_core.specs.Kept.{started};
+ghost use Rattle.breaker_core.specs.BreakerState.{started};
 ghost use Rattle.rulebook.specs.Admission.{verdict, IsLawful};
-ghost use Rattle.rulebook.specs.Alone.{for_symbol};
+ghost use Rattle.rulebook.specs.Isolation.{for_symbol};
 ghost use Rattle.rulebook.specs.Market.{breaks};
 ghost use Rattle.rulebook.specs.Book.{newest_messages};
 ghost use Rattle.market_core.specs.Kinds.{is_trade};
-ghost use Rattle.market_core.specs.Alone.{newest_alone};
-ghost use Rattle.market_core.specs.Admitted.{is_full_for, lacks_room, added};
+ghost use Rattle.market_core.specs.Isolation.{newest_isolated};
+ghost use Rattle.market_core.specs.AdmissionState.{is_full_for, lacks_room, added};
 
 use crate::directory::{Directory, is_full_for};
 use crate::symbols::{evaluate, evaluate_each, put};
@@ -44,9 +44,9 @@ pub struct Market {
 
 impl Model for Market {
     ghost use Rattle.std.specs.Prelude.{◌≡◌, ◌≤◌, length, vec_len, vec_capacity};
-    ghost use Rattle.market_core.specs.Kept.{Kept};
+    ghost use Rattle.market_core.specs.MarketState.{MarketState};
 
-    ghost Value = { Kept };
+    ghost Value = { MarketState };
 
     ghost view = { λ market. record { directory = market.directory; today = market.today; symbols = market.symbols.items } };
 
@@ -121,12 +121,12 @@ impl Today {
 }
 
 impl Market {
-    ghost use Rattle.market_core.specs.Kept.{StandsFor};
+    ghost use Rattle.market_core.specs.MarketState.{Represents};
     ghost use Rattle.market_core.specs.Applied.{EachEvaluated, OneEvaluated, Finds, Lists, OnToday, Ticks, Evaluated, Applies};
 
     /// A market with no names and no day.
     pub fn new(alloc: Global) -> Result<Market, NoMemory>
-        ensures { IfOk result (λ market. StandsFor market []) }
+        ensures { IfOk result (λ market. Represents market []) }
     {
         let said = Vec::with_capacity(alloc, MOST_SAID)?;
         Ok(Market {
@@ -150,7 +150,7 @@ impl Market {
         ensures err { OnErr result ((self.new ≡ self.old) × (out.new.items ≡ out.old.items)) }
         ensures len { vec_len out.new ≤ vec_len out.old + 16 * length self.old.directory }
         ensures room { vec_len out.old + 16 * length self.old.directory ≤ vec_capacity out.old → IsOk result }
-        ensures capacity { vec_capacity out.old ≤ vec_capacity out.new }
+        ensures keeps_room { vec_capacity out.old ≤ vec_capacity out.new }
     {
         let _day = matches!(x, Record::Day { .. });
         out.reserve(MOST_SAID * self.symbols.len())?;
@@ -167,7 +167,7 @@ impl Market {
         ensures err { OnErr result ((self.new ≡ self.old) × (out.new.items ≡ out.old.items)) }
         ensures len { vec_len out.new ≤ vec_len out.old + (2 + 16 * length self.old.directory) }
         ensures room { vec_len out.old + (2 + 16 * length self.old.directory) ≤ vec_capacity out.old → IsOk result }
-        ensures capacity { vec_capacity out.old ≤ vec_capacity out.new }
+        ensures keeps_room { vec_capacity out.old ≤ vec_capacity out.new }
     {
         out.reserve(2 + MOST_SAID * self.symbols.len())?;
         if let Some(today) = &mut self.today {
@@ -185,7 +185,7 @@ impl Market {
         ensures len { vec_len out.new ≤ vec_len out.old + 16 }
         ensures room { is_trade x.now ≡ false → vec_len out.old + 16 ≤ vec_capacity out.old → IsOk result }
         ensures room_for_all { is_trade x.now ≡ false → vec_len out.old + 16 * length self.old.directory ≤ vec_capacity out.old → IsOk result }
-        ensures capacity { vec_capacity out.old ≤ vec_capacity out.new }
+        ensures keeps_room { vec_capacity out.old ≤ vec_capacity out.new }
     {
         let Some(today) = &self.today else {
             return Ok(());
@@ -234,7 +234,7 @@ impl Market {
         ensures ok { is_full_for self.old.directory name ≡ false → OnOk result (OnToday self.old (λ today. Lists name today x.now self.old self.new out.old.items out.new.items)) }
         ensures err { OnErr result ((self.new ≡ self.old) × (out.new.items ≡ out.old.items)) }
         ensures len { vec_len out.new ≤ vec_len out.old + 16 }
-        ensures capacity { vec_capacity out.old ≤ vec_capacity out.new }
+        ensures keeps_room { vec_capacity out.old ≤ vec_capacity out.new }
     {
         if is_full_for(&self.directory, name) {
             return Ok(());
@@ -251,7 +251,7 @@ impl Market {
         ensures err { OnErr result ((self.new ≡ self.old) × (out.new.items ≡ out.old.items)) }
         ensures len { vec_len out.new ≤ vec_len out.old + (2 + 16 * 16384) }
         ensures room { name_of x.now ≡ None → is_trade x.now ≡ false → vec_len out.old + (2 + 16 * length self.old.directory) ≤ vec_capacity out.old → IsOk result }
-        ensures capacity { vec_capacity out.old ≤ vec_capacity out.new }
+        ensures keeps_room { vec_capacity out.old ≤ vec_capacity out.new }
     {
         let _names = self.directory.len();
         match *x {
@@ -279,17 +279,17 @@ impl Market {
     /// leaves market and list as they were. It takes no memory where the record is neither a Listing nor a Trade and
     /// the list has room for 2 messages and 16 for each name. The list keeps its room.
     pub fn apply(&mut self, x: &Record, out: &mut Vec<Stamped>) -> Result<(), NoMemory>
-        ensures given { (limit : ℕ) (applied : List Record) → StandsFor self.old applied → verdict limit applied x.now ≡ None
+        ensures given { (capacity : ℕ) (applied : List Record) → Represents self.old applied → verdict capacity applied x.now ≡ None
             → OnOk result (out.new.items ≡ out.old.items ++ newest_messages (x.now ∷ applied)) }
-        ensures stands { (limit : ℕ) (applied : List Record) → StandsFor self.old applied → verdict limit applied x.now ≡ None
-            → OnOk result (StandsFor self.new (x.now ∷ applied)) }
-        ensures alone { (limit : ℕ) (applied : List Record) (s : ℕ) → StandsFor self.old applied → IsLawful limit (x.now ∷ applied)
-            → OnOk result (for_symbol s out.new.items ≡ for_symbol s out.old.items ++ newest_alone s (x.now ∷ applied)) }
+        ensures stands { (capacity : ℕ) (applied : List Record) → Represents self.old applied → verdict capacity applied x.now ≡ None
+            → OnOk result (Represents self.new (x.now ∷ applied)) }
+        ensures isolated { (capacity : ℕ) (applied : List Record) (s : ℕ) → Represents self.old applied → IsLawful capacity (x.now ∷ applied)
+            → OnOk result (for_symbol s out.new.items ≡ for_symbol s out.old.items ++ newest_isolated s (x.now ∷ applied)) }
         ensures err { OnErr result ((self.new ≡ self.old) × (out.new.items ≡ out.old.items)) }
         ensures few { vec_len out.new ≤ vec_len out.old + (2 + 16 * 16384) }
         ensures room { name_of x.now ≡ None → is_trade x.now ≡ false
             → vec_len out.old + (2 + 16 * length self.old.directory) ≤ vec_capacity out.old → IsOk result }
-        ensures capacity { vec_capacity out.old ≤ vec_capacity out.new }
+        ensures keeps_room { vec_capacity out.old ≤ vec_capacity out.new }
     {
         self.keep(x, out)
     }

@@ -1,7 +1,7 @@
 // The symbols of a market, evaluated one after the other.
 ghost use Rattle.std.specs.Prelude.{◌≡◌, ◌+◌, ◌*◌, ◌≤◌, ◌++◌, ◌∷◌, [], false, OnOk, OnErr, IsOk, vec_len, vec_capacity, length};
 ghost use Rattle.wire_in.specs.Records.{moment_of};
-ghost use Rattle.market_core.specs.Applied.{Tells, TellsBelow};
+ghost use Rattle.market_core.specs.Applied.{Appends, AppendsBelow};
 ghost use Rattle.market_core.specs.Kinds.{is_trade};
 ghost use Rattle.market_core.specs.Ruled.{stamped};
 
@@ -43,7 +43,7 @@ pub(crate) fn evaluate(
 ) -> Result<(), NoMemory>
     requires said { 16 ≤ vec_capacity said.old }
     requires room { vec_len out.old + 16 ≤ vec_capacity out.old }
-    ensures ok { OnOk result (Tells market.now x.now symbol.old symbol.new out.old.items out.new.items) }
+    ensures ok { OnOk result (Appends market.now x.now symbol.old symbol.new out.old.items out.new.items) }
     ensures err { OnErr result ((symbol.new ≡ symbol.old) × (out.new.items ≡ out.old.items)) }
     ensures succeeds { is_trade x.now ≡ false → IsOk result }
     ensures said { 16 ≤ vec_capacity said.new }
@@ -67,7 +67,7 @@ pub(crate) fn evaluate_each(
     requires kind { is_trade x.now ≡ false }
     requires said { 16 ≤ vec_capacity said.old }
     requires room { vec_len out.old + 16 * length symbols.old ≤ vec_capacity out.old }
-    ensures tells { TellsBelow (length symbols.old) market.now x.now symbols.old symbols.new out.old.items out.new.items }
+    ensures appends { AppendsBelow (length symbols.old) market.now x.now symbols.old symbols.new out.old.items out.new.items }
     ensures said { 16 ≤ vec_capacity said.new }
     ensures room { vec_capacity out.old ≤ vec_capacity out.new }
     ensures len { vec_len out.new ≤ vec_len out.old + 16 * length symbols.old }

@@ -90,13 +90,13 @@ fn tried(admission: &mut Admission, x: &Record) -> Result<Option<Refusal>, Fail>
     Ok(verdict)
 }
 
-/// The admission of these records under a limit, with exactly these verdicts.
+/// The admission of these records under a capacity, with exactly these verdicts.
 fn expect_verdicts<R: Abort + AllocGlobal>(
     rt: &R,
-    limit: u64,
+    capacity: u64,
     cases: &[(Record, Option<Refusal>)],
 ) -> Result<Admission, Fail> {
-    let mut admission = Admission::new(rt.alloc(), limit)?;
+    let mut admission = Admission::new(rt.alloc(), capacity)?;
     for (x, want) in cases {
         assert_eq!(rt; tried(&mut admission, x)?, *want, "at {x:?}");
     }
@@ -107,10 +107,10 @@ fn expect_verdicts<R: Abort + AllocGlobal>(
 fn before_any_day_nothing_else_is_refused(rt: HostRuntime) -> Result<(), Fail> {
     let t = at(10, 0, 0, 0)?;
     let no_day = Some(Refusal::NoDay);
-    for limit in [0, 100] {
+    for capacity in [0, 100] {
         let admission = expect_verdicts(
             &rt,
-            limit,
+            capacity,
             &[
                 (clock(t), no_day),
                 (listing(t, name(0))?, no_day),
@@ -242,8 +242,8 @@ fn listings(alloc: Global, moment: Moment, end: u16) -> Result<Vec<Record>, Fail
 }
 
 /// An admission of a day and of these listings, each of which is admitted.
-fn admitted<R: Abort + AllocGlobal>(rt: &R, limit: u64, xs: &[Record]) -> Result<Admission, Fail> {
-    let mut admission = expect_verdicts(rt, limit, &[(day(3)?, None)])?;
+fn admitted<R: Abort + AllocGlobal>(rt: &R, capacity: u64, xs: &[Record]) -> Result<Admission, Fail> {
+    let mut admission = expect_verdicts(rt, capacity, &[(day(3)?, None)])?;
     for x in xs {
         assert_eq!(rt; tried(&mut admission, x)?, None, "at {x:?}");
     }
@@ -447,11 +447,11 @@ fn quiet_clocks_take_no_room(rt: HostRuntime) -> Result<(), Fail> {
         market.apply(&x, &mut out)?;
     }
     market.apply(&clock(start), &mut out)?;
-    let (messages, room) = (out.len(), out.capacity());
+    let (messages, room) = (out.len(), out.keeps_room());
     for _ in 0..1000 {
         market.apply(&clock(start), &mut out)?;
     }
     assert_eq!(rt; out.len(), messages);
-    assert_eq!(rt; out.capacity(), room);
+    assert_eq!(rt; out.keeps_room(), room);
     Ok(())
 }

@@ -1,3 +1,3 @@
 pub mod Prices
 pub mod Runs
-pub mod Kept
+pub mod ReferenceState

@@ -12,13 +12,13 @@ abbrev pub because : Cause → Option ℕ → Option Priced
 because cause price = option_map (λ p. record { cause = cause; price = p }) price
 
 -- within five minutes after a run's begin
-abbrev pub is_opening : ℕ → ℕ → Bool
-is_opening begun t = nat_lt t (begun + seconds 300)
+abbrev pub is_in_opening_period : ℕ → ℕ → Bool
+is_in_opening_period begun t = nat_lt t (begun + seconds 300)
 
 -- the first price of a run: within five minutes after its begin the price that is offered, by an opening trade or an
 -- opening on quotations, and then the mean
 abbrev pub first_price : ℕ → ℕ → Option ℕ → Option ℕ → Option ℕ
-first_price begun t offered mean = if is_opening begun t then offered else mean
+first_price begun t offered mean = if is_in_opening_period begun t then offered else mean
 
 -- 30 seconds have passed since an adoption
 abbrev pub has_stood : Adoption → ℕ → Bool

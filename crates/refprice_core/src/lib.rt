@@ -5,4 +5,4 @@ mod reference;
 #[cfg(test)]
 mod tests;
 
-pub use reference::{Adoption, Priced, Reference, because, forced, is_opening};
+pub use reference::{Adoption, Priced, Reference, because, forced, is_in_opening_period};

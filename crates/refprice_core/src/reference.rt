@@ -1,5 +1,5 @@
 ghost use Rattle.std.specs.Prelude.{◌≡◌, ◌∷◌, List, None, Some};
-ghost use Rattle.refprice_core.specs.Prices.{because, observed, forced, first_price, is_opening, cause_of, price_of, adopted_at};
+ghost use Rattle.refprice_core.specs.Prices.{because, observed, forced, first_price, is_in_opening_period, cause_of, price_of, adopted_at};
 ghost use Rattle.refprice_core.specs.Runs.{Call, Begin, Release, Observe, Force, events, begun_in, last_in};
 
 use price_core::{Cause, Price, moved_one_percent};
@@ -44,9 +44,9 @@ pub struct Reference {
 }
 
 impl Model for Reference {
-    ghost use Rattle.refprice_core.specs.Kept.{Kept};
+    ghost use Rattle.refprice_core.specs.ReferenceState.{ReferenceState};
 
-    ghost Value = { Kept };
+    ghost Value = { ReferenceState };
 
     ghost view = { λ r. record { begun = r.begun; last = r.last } };
 
@@ -54,8 +54,8 @@ impl Model for Reference {
 }
 
 /// Whether a moment is in the first five minutes of a run (LULD Plan, Section V(A)).
-pub fn is_opening(begun: Moment, t: Moment) -> bool
-    ensures { result ≡ is_opening begun t }
+pub fn is_in_opening_period(begun: Moment, t: Moment) -> bool
+    ensures { result ≡ is_in_opening_period begun t }
 {
     t.nanos() < begun.nanos() + 300_000_000_000
 }
@@ -69,7 +69,7 @@ fn first_price(
 ) -> Option<Price>
     ensures { result ≡ first_price begun t offered mean }
 {
-    if is_opening(begun, t) { offered } else { mean }
+    if is_in_opening_period(begun, t) { offered } else { mean }
 }
 
 impl Adoption {
@@ -91,12 +91,12 @@ impl Adoption {
 }
 
 impl Reference {
-    ghost use Rattle.refprice_core.specs.Kept.{with_adopted, Stands};
+    ghost use Rattle.refprice_core.specs.ReferenceState.{with_adopted, Represents};
 
     /// A run that begins with no price yet.
     pub fn begin(t: Moment) -> Reference
         ensures value { result ≡ record { begun = t; last = None } }
-        ensures stands { (calls : List Call) → Stands result (Begin t ∷ calls) }
+        ensures stands { (calls : List Call) → Represents result (Begin t ∷ calls) }
     {
         Reference {
             begun: t,
@@ -107,7 +107,7 @@ impl Reference {
     /// A run that begins at the price of a reopening, in ten-thousandths of a dollar.
     pub fn released(t: Moment, p: Price) -> Reference
         ensures value { result ≡ record { begun = t; last = Some (record { moment = t; price = p }) } }
-        ensures stands { (calls : List Call) → Stands result (Release t p ∷ calls) }
+        ensures stands { (calls : List Call) → Represents result (Release t p ∷ calls) }
     {
         Reference {
             begun: t,
@@ -129,9 +129,9 @@ impl Reference {
     ) -> Option<Cause>
         ensures cause { result ≡ cause_of (observed self.old.begun self.old.last t offered mean) }
         ensures value { self.new ≡ with_adopted t (observed self.old.begun self.old.last t offered mean) self.old }
-        ensures answer { (calls : List Call) → Stands self.old calls
+        ensures answer { (calls : List Call) → Represents self.old calls
             → result ≡ cause_of (observed (begun_in (events calls)) (last_in (events calls)) t offered mean) }
-        ensures stands { (calls : List Call) → Stands self.old calls → Stands self.new (Observe t offered mean ∷ calls) }
+        ensures stands { (calls : List Call) → Represents self.old calls → Represents self.new (Observe t offered mean ∷ calls) }
     {
         let (price, cause) = match &self.last {
             None => (first_price(self.begun, t, offered, mean)?, Cause::First),
@@ -146,7 +146,7 @@ impl Reference {
     pub fn force(&mut self, t: Moment, mean: Option<Price>) -> Option<Cause>
         ensures cause { result ≡ cause_of (forced mean) }
         ensures value { self.new ≡ with_adopted t (forced mean) self.old }
-        ensures stands { (calls : List Call) → Stands self.old calls → Stands self.new (Force t mean ∷ calls) }
+        ensures stands { (calls : List Call) → Represents self.old calls → Represents self.new (Force t mean ∷ calls) }
     {
         self.adopt(t, mean?);
         Some(Cause::Forced)
@@ -162,7 +162,7 @@ impl Reference {
     /// The price last adopted in ten-thousandths of a dollar, None exactly where there was none.
     pub fn current(&self) -> Option<Price>
         ensures value { result ≡ price_of self.now.last }
-        ensures answer { (calls : List Call) → Stands self.now calls → result ≡ price_of (last_in (events calls)) }
+        ensures answer { (calls : List Call) → Represents self.now calls → result ≡ price_of (last_in (events calls)) }
     {
         self.last.map(|last| last.price)
     }
@@ -170,7 +170,7 @@ impl Reference {
     /// The moment of the last adoption, or that of the begin where there was none.
     pub fn adopted(&self) -> Moment
         ensures value { result ≡ adopted_at self.now.begun self.now.last }
-        ensures answer { (calls : List Call) → Stands self.now calls
+        ensures answer { (calls : List Call) → Represents self.now calls
             → result ≡ adopted_at (begun_in (events calls)) (last_in (events calls)) }
     {
         self.last.map_or(self.begun, |last| last.moment)

@@ -1,4 +1,4 @@
 pub mod Collars
 pub mod Trials
 pub mod Calls
-pub mod Kept
+pub mod AuctionState

@@ -94,9 +94,9 @@ pub struct Auction {
 }
 
 impl Model for Auction {
-    ghost use Rattle.reopen_core.specs.Kept.{Kept, IsTimely};
+    ghost use Rattle.reopen_core.specs.AuctionState.{AuctionState, IsTimely};
 
-    ghost Value = { Kept };
+    ghost Value = { AuctionState };
 
     ghost view = { λ a. record { reference = a.reference; indication = a.indication; round = a.round } };
 
@@ -106,12 +106,12 @@ impl Model for Auction {
 }
 
 impl Auction {
-    ghost use Rattle.reopen_core.specs.Kept.{begun, with_indication, with_trial, Stands};
+    ghost use Rattle.reopen_core.specs.AuctionState.{begun, with_indication, with_trial, Represents};
 
     /// An auction that begins at a moment, with the price bands and the reference price of the stock.
     pub fn begin(t: Moment, origin: Origin, bands: &Bands, reference: Price) -> Auction
         ensures value { result ≡ begun t origin bands.now reference }
-        ensures stands { (calls : List Call) → Stands result (Begin t origin bands.now reference ∷ calls) }
+        ensures stands { (calls : List Call) → Represents result (Begin t origin bands.now reference ∷ calls) }
     {
         Auction {
             reference: auction_reference(origin, bands, reference),
@@ -143,7 +143,7 @@ impl Auction {
     /// Takes an indication of the price and of the side of unmatched orders, in place of an earlier one.
     pub fn indicate(&mut self, price: Price, unmatched: Unmatched)
         ensures value { self.new ≡ with_indication price unmatched self.old }
-        ensures stands { (calls : List Call) → Stands self.old calls → Stands self.new (Indicate price unmatched ∷ calls) }
+        ensures stands { (calls : List Call) → Represents self.old calls → Represents self.new (Indicate price unmatched ∷ calls) }
     {
         self.indication = Some(Indication { price, unmatched });
     }
@@ -153,8 +153,8 @@ impl Auction {
     pub fn trial(&mut self, t: Moment, last_10: bool) -> Trial
         ensures trial { result ≡ trial t last_10 self.old.round self.old.reference self.old.indication }
         ensures value { self.new ≡ with_trial t result self.old }
-        ensures answer { (calls : List Call) → Stands self.old calls → result ≡ trial_after t last_10 calls }
-        ensures stands { (calls : List Call) → Stands self.old calls → Stands self.new (Try t last_10 ∷ calls) }
+        ensures answer { (calls : List Call) → Represents self.old calls → result ≡ trial_after t last_10 calls }
+        ensures stands { (calls : List Call) → Represents self.old calls → Represents self.new (Try t last_10 ∷ calls) }
     {
         let trial = try_round(t, last_10, &self.round, self.reference, &self.indication);
         if let Trial::Extend(collars) = &trial {

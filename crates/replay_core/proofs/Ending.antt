@@ -17,7 +17,7 @@ use Rattle.engine_core.specs.Owed.{Owes, SentPart}
 use Rattle.replay_core.specs.Text.{replay_text}
 use Rattle.replay_core.specs.Kept.{Follows, Serves}
 use Rattle.replay_core.specs.declared.session.Session.{Session}
-use Rattle.host_core.proofs.Told.{append_known-nil}
+use Rattle.host_core.proofs.Known.{append_known-nil}
 use Rattle.engine_core.proofs.Owing.{owes_none}
 use Rattle.replay_core.proofs.Reading.{part_up_to}
 
@@ -78,7 +78,7 @@ serves_fresh input now session left follows none = serves_first now.sent input n
 
 -- nothing was sent
 pub part_of_none : (begin : Option (List ℕ)) (bytes : List ℕ) → SentPart begin begin (replay_text bytes)
-part_of_none begin bytes = record { sent = []; rest = replay_text bytes; told = sym (append_known-nil begin); front = refl }
+part_of_none begin bytes = record { sent = []; rest = replay_text bytes; known = sym (append_known-nil begin); front = refl }
 
 -- a session without a fault, for which there is memory, comes to an end
 pub completes : (status : Status) (reads sends : Type 0) → IsAnswer status → status ≢ NoMemory → (status ≡ ReadFault → reads) → (status ≡ SendFault → sends) → ¬ reads → ¬ sends → IsEnd status

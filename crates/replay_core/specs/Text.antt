@@ -3,7 +3,7 @@ use Rattle.std.specs.Prelude.{ℕ, List}
 use Rattle.wire_in.specs.Cutting.{bodies_of}
 use Rattle.rulebook.specs.Sent.{replayed_frames, spelled}
 
--- more records than any input has: a replay has no limit of its own
+-- more records than any input has: a replay has no capacity of its own
 abbrev pub record_limit : ℕ
 record_limit = 18446744073709551615
 

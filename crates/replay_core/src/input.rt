@@ -1,4 +1,4 @@
-//! A replay over a host: reads, evaluates and sends, up to the end of the input or to a limit of bytes.
+//! A replay over a host: reads, evaluates and sends, up to the end of the input or to a capacity of bytes.
 
 ghost use Rattle.std.specs.Prelude.{◌≡◌, ◌≢◌, ◌⊎◌, ◌+◌, ◌*◌, ◌<◌, ◌≤◌, ◌^◌, ◌==◌, [], ℕ, List, Option, Some, IfOk, OnOk, OnErr, length, min, take, if◌then◌else◌};
 ghost use Rattle.host_core.specs.Outside.{Elapses, Rose, Continues};
@@ -141,7 +141,7 @@ fn failed(stop: Stop) -> Status
     }
 }
 
-/// Sends the last of what waits, at the session's limit.
+/// Sends the last of what waits, at the session's capacity.
 fn finish<H: Host>(session: &mut Session, host: &mut H) -> Status
     ensures answered { (begin : Option (List ℕ)) (input : List ℕ) (count : ℕ) → Serves begin input count (H.outside host.old) session.old
         → result ≡ Status.SessionFull → Answered begin input count (H.outside host.new) }
@@ -178,7 +178,7 @@ fn answer_input<H: Host>(
         → SentPart begin (H.outside host.new).sent (replay_text (take most input)) }
     ensures moments { (begin : Option (List ℕ)) (input : List ℕ) → Serves begin input 0 (H.outside host.old) session.old
         → Elapses (H.outside host.old) (H.outside host.new) (SendsFront begin (replay_text (take most input)) (H.outside host.old)) }
-    ensures limit { ReadsAtMost most (H.outside host.old).input (H.outside host.new).input }
+    ensures capacity { ReadsAtMost most (H.outside host.old).input (H.outside host.new).input }
     ensures kind { IsAnswer result }
     ensures read_cause { result ≡ Status.ReadFault → Rose (H.outside host.old).read_faults (H.outside host.new).read_faults }
     ensures send_cause { result ≡ Status.SendFault → Rose (H.outside host.old).send_faults (H.outside host.new).send_faults }
@@ -197,7 +197,7 @@ fn answer_input<H: Host>(
     finish(session, host)
 }
 
-/// What a replay is told.
+/// What a replay is known.
 #[derive(Clone, Copy, Debug, PartialEq, Eq)]
 pub struct ReplayOptions {
     /// The most bytes that it reads, up to 1,099,511,627,776.
@@ -221,12 +221,12 @@ pub fn replay<H: Host>(alloc: Global, host: &mut H, options: &ReplayOptions) -> 
     ensures part { (input : List ℕ) → (H.outside host.old).input ≡ Some input
         → SentPart (H.outside host.old).sent (H.outside host.new).sent (replay_text (take options.now.bytes input)) }
     // No more bytes than asked for are read, whatever the answer.
-    ensures limit { ReadsAtMost options.now.bytes (H.outside host.old).input (H.outside host.new).input }
+    ensures capacity { ReadsAtMost options.now.bytes (H.outside host.old).input (H.outside host.new).input }
     ensures kind { IsAnswer result }
     // A fault is answered only where the host met one.
     ensures read_cause { result ≡ Status.ReadFault → Rose (H.outside host.old).read_faults (H.outside host.new).read_faults }
     ensures send_cause { result ≡ Status.SendFault → Rose (H.outside host.old).send_faults (H.outside host.new).send_faults }
-    // With enough memory and no faults, the input is read to its end or to the limit.
+    // With enough memory and no faults, the input is read to its end or to the capacity.
     ensures complete { result ≢ Status.NoMemory
         → ¬ (Rose (H.outside host.old).read_faults (H.outside host.new).read_faults)
         → ¬ (Rose (H.outside host.old).send_faults (H.outside host.new).send_faults) → IsEnd result }

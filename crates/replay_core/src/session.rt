@@ -4,7 +4,7 @@ ghost use Rattle.std.specs.Prelude.{◌≡◌, ◌+◌, ◌*◌, ◌<◌, ◌≤
 ghost use Rattle.wire_in.specs.declared.record.Record.{Record};
 ghost use Rattle.host_core.specs.Outside.{Elapses, Rose};
 ghost use Rattle.rulebook.specs.Sent.{spelled, unacknowledged, reply, judged, with_record, accepted, refused};
-ghost use Rattle.market_core.specs.Admitted.{refusal_of};
+ghost use Rattle.market_core.specs.AdmissionState.{refusal_of};
 ghost use Rattle.engine_core.specs.Kept.{IsOf};
 ghost use Rattle.replay_core.specs.Kept.{Follows};
 ghost use Rattle.replay_core.specs.Text.{replay_text};
@@ -40,16 +40,16 @@ fn accept<H: Host>(
 ) -> Result<(), Interruption>
     requires admissible { refusal_of engine.old.admission x.now ≡ None }
     requires room { engine.old.published + 524292 < 2 ^ 64 }
-    ensures owes { (limit : ℕ) (held : List Record) (begin : Option (List ℕ)) (text : List ℕ) → IsOf engine.old limit held
+    ensures owes { (capacity : ℕ) (held : List Record) (begin : Option (List ℕ)) (text : List ℕ) → IsOf engine.old capacity held
         → Owes begin (H.outside host.old).sent outbox.old text
         → OnOk result (Owes begin (H.outside host.new).sent outbox.new (text ++ spelled (unacknowledged (accepted held x.now)))) }
-    ensures part { (limit : ℕ) (held : List Record) (begin : Option (List ℕ)) (text : List ℕ) → IsOf engine.old limit held
+    ensures part { (capacity : ℕ) (held : List Record) (begin : Option (List ℕ)) (text : List ℕ) → IsOf engine.old capacity held
         → Owes begin (H.outside host.old).sent outbox.old text
         → OnErr result (SentPart begin (H.outside host.new).sent (text ++ spelled (unacknowledged (accepted held x.now)))) }
-    ensures moments { (limit : ℕ) (held : List Record) (begin : Option (List ℕ)) (text : List ℕ) → IsOf engine.old limit held
+    ensures moments { (capacity : ℕ) (held : List Record) (begin : Option (List ℕ)) (text : List ℕ) → IsOf engine.old capacity held
         → Owes begin (H.outside host.old).sent outbox.old text
         → Elapses (H.outside host.old) (H.outside host.new) (SendsFront begin (text ++ spelled (unacknowledged (accepted held x.now))) (H.outside host.old)) }
-    ensures stands { (limit : ℕ) (held : List Record) → IsOf engine.old limit held → OnOk result (IsOf engine.new limit (x.now ∷ held)) }
+    ensures stands { (capacity : ℕ) (held : List Record) → IsOf engine.old capacity held → OnOk result (IsOf engine.new capacity (x.now ∷ held)) }
     ensures few { OnOk result (engine.new.published ≤ engine.old.published + 262146) }
     ensures keeps { OnlySends (H.outside host.old) (H.outside host.new) }
     ensures cause { result ≡ Err Interruption.SendFault → Rose (H.outside host.old).send_faults (H.outside host.new).send_faults }
@@ -93,16 +93,16 @@ fn answer<H: Host>(
 ) -> Result<(), Interruption>
     requires body { length body.now ≤ 255 }
     requires room { engine.old.published + 524292 < 2 ^ 64 }
-    ensures owes { (limit : ℕ) (held : List Record) (begin : Option (List ℕ)) (text : List ℕ) → IsOf engine.old limit held
+    ensures owes { (capacity : ℕ) (held : List Record) (begin : Option (List ℕ)) (text : List ℕ) → IsOf engine.old capacity held
         → Owes begin (H.outside host.old).sent outbox.old text
-        → OnOk result (Owes begin (H.outside host.new).sent outbox.new (text ++ spelled (unacknowledged (reply place held (judged limit held body.now))))) }
-    ensures part { (limit : ℕ) (held : List Record) (begin : Option (List ℕ)) (text : List ℕ) → IsOf engine.old limit held
+        → OnOk result (Owes begin (H.outside host.new).sent outbox.new (text ++ spelled (unacknowledged (reply place held (judged capacity held body.now))))) }
+    ensures part { (capacity : ℕ) (held : List Record) (begin : Option (List ℕ)) (text : List ℕ) → IsOf engine.old capacity held
         → Owes begin (H.outside host.old).sent outbox.old text
-        → OnErr result (SentPart begin (H.outside host.new).sent (text ++ spelled (unacknowledged (reply place held (judged limit held body.now))))) }
-    ensures moments { (limit : ℕ) (held : List Record) (begin : Option (List ℕ)) (text : List ℕ) → IsOf engine.old limit held
+        → OnErr result (SentPart begin (H.outside host.new).sent (text ++ spelled (unacknowledged (reply place held (judged capacity held body.now))))) }
+    ensures moments { (capacity : ℕ) (held : List Record) (begin : Option (List ℕ)) (text : List ℕ) → IsOf engine.old capacity held
         → Owes begin (H.outside host.old).sent outbox.old text
-        → Elapses (H.outside host.old) (H.outside host.new) (SendsFront begin (text ++ spelled (unacknowledged (reply place held (judged limit held body.now)))) (H.outside host.old)) }
-    ensures stands { (limit : ℕ) (held : List Record) → IsOf engine.old limit held → OnOk result (IsOf engine.new limit (with_record held (judged limit held body.now))) }
+        → Elapses (H.outside host.old) (H.outside host.new) (SendsFront begin (text ++ spelled (unacknowledged (reply place held (judged capacity held body.now)))) (H.outside host.old)) }
+    ensures stands { (capacity : ℕ) (held : List Record) → IsOf engine.old capacity held → OnOk result (IsOf engine.new capacity (with_record held (judged capacity held body.now))) }
     ensures few { OnOk result (engine.new.published ≤ engine.old.published + 262146) }
     ensures keeps { OnlySends (H.outside host.old) (H.outside host.new) }
     ensures cause { result ≡ Err Interruption.SendFault → Rose (H.outside host.old).send_faults (H.outside host.new).send_faults }

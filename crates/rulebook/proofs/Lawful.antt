@@ -17,8 +17,8 @@ passed : (b : Bool) (refusal : Refusal) (others : Option Refusal) → cond b (So
 passed true refusal others e = absurd cc
 passed false refusal others e = (refl, e)
 
-finds_id : (limit : ℕ) (A : List Record) (x : Record) → verdict limit A x ≡ None → finds_no_id A x ≡ false
-finds_id limit A x e =
+finds_id : (capacity : ℕ) (A : List Record) (x : Record) → verdict capacity A x ≡ None → finds_no_id A x ≡ false
+finds_id capacity A x e =
     let after_day = (passed _ _ _ e).1 in
     let after_order = (passed (is_early A x) _ _ after_day).1 in
     let after_unknown = (passed (is_unknown A x) _ _ after_order).1 in
@@ -35,21 +35,21 @@ with_one_more ns name few room = by (is_among ns name) room where
   by false e = subst (λ (n : ℕ). n ≤ 16384) (sym (length-append ns (name ∷ []))) (at_number (length ns) e)
 
 -- a lawful list has at most 16,384 names
-pub few_names : (limit : ℕ) (A : List Record) → IsLawful limit A → length (names A) ≤ 16384
-few_names limit [] lawful = omega arith
-few_names limit (in_.Listing t name k l c ∷ A) lawful = with_one_more (names A) name (few_names limit A lawful.1) (finds_id limit A (in_.Listing t name k l c) lawful.0)
-few_names limit (in_.Day t d c ∷ A) lawful = few_names limit A lawful.1
-few_names limit (in_.Trade t s n p q f ∷ A) lawful = few_names limit A lawful.1
-few_names limit (in_.Cancel t s n ∷ A) lawful = few_names limit A lawful.1
-few_names limit (in_.Quote t s b o x y ∷ A) lawful = few_names limit A lawful.1
-few_names limit (in_.IndexTick t v ∷ A) lawful = few_names limit A lawful.1
-few_names limit (in_.Clock t ∷ A) lawful = few_names limit A lawful.1
-few_names limit (in_.Notice t s k ∷ A) lawful = few_names limit A lawful.1
-few_names limit (in_.Indication t s p u ∷ A) lawful = few_names limit A lawful.1
+pub few_names : (capacity : ℕ) (A : List Record) → IsLawful capacity A → length (names A) ≤ 16384
+few_names capacity [] lawful = omega arith
+few_names capacity (in_.Listing t name k l c ∷ A) lawful = with_one_more (names A) name (few_names capacity A lawful.1) (finds_id capacity A (in_.Listing t name k l c) lawful.0)
+few_names capacity (in_.Day t d c ∷ A) lawful = few_names capacity A lawful.1
+few_names capacity (in_.Trade t s n p q f ∷ A) lawful = few_names capacity A lawful.1
+few_names capacity (in_.Cancel t s n ∷ A) lawful = few_names capacity A lawful.1
+few_names capacity (in_.Quote t s b o x y ∷ A) lawful = few_names capacity A lawful.1
+few_names capacity (in_.IndexTick t v ∷ A) lawful = few_names capacity A lawful.1
+few_names capacity (in_.Clock t ∷ A) lawful = few_names capacity A lawful.1
+few_names capacity (in_.Notice t s k ∷ A) lawful = few_names capacity A lawful.1
+few_names capacity (in_.Indication t s p u ∷ A) lawful = few_names capacity A lawful.1
 
 -- and so has the history of all but its last record, with that one opened
-pub few_names_opened : (limit : ℕ) (accepted earlier : List Record) (x : Record) (h : List Event) → IsLawful limit accepted → accepted ≡ x ∷ earlier → h ≡ history earlier
+pub few_names_opened : (capacity : ℕ) (accepted earlier : List Record) (x : Record) (h : List Event) → IsLawful capacity accepted → accepted ≡ x ∷ earlier → h ≡ history earlier
     → length (names (x ∷ records h)) ≤ 16384
-few_names_opened limit accepted earlier x h lawful last is =
+few_names_opened capacity accepted earlier x h lawful last is =
     let same : accepted ≡ x ∷ records h = last ∙ ap (λ (older : List Record). x ∷ older) (sym (ap records is ∙ records-history earlier)) in
-    subst (λ (newer : List Record). length (names newer) ≤ 16384) same (few_names limit accepted lawful)
+    subst (λ (newer : List Record). length (names newer) ≤ 16384) same (few_names capacity accepted lawful)

@@ -24,30 +24,30 @@ numbered-append n [] b = ap (λ (k : ℕ). numbered k b) (omega arith)
 numbered-append n (m ∷ a) b =
     ap (λ later. Numbered (n + 1) m ∷ later) (numbered-append (n + 1) a b ∙ ap (λ (k : ℕ). numbered (n + 1) a ++ numbered k b) (omega arith))
 
-pub accepted_of-append : (limit : ℕ) (held : List Record) (a b : List (List ℕ)) → accepted_of limit held (a ++ b) ≡ accepted_of limit (accepted_of limit held a) b
-accepted_of-append limit held [] b = refl
-accepted_of-append limit held (body ∷ a) b = accepted_of-append limit (with_record held (judged limit held body)) a b
+pub accepted_of-append : (capacity : ℕ) (held : List Record) (a b : List (List ℕ)) → accepted_of capacity held (a ++ b) ≡ accepted_of capacity (accepted_of capacity held a) b
+accepted_of-append capacity held [] b = refl
+accepted_of-append capacity held (body ∷ a) b = accepted_of-append capacity (with_record held (judged capacity held body)) a b
 
-pub replies-append : (limit place : ℕ) (held : List Record) (a b : List (List ℕ))
-    → replies limit place held (a ++ b) ≡ replies limit place held a ++ replies limit (place + length a) (accepted_of limit held a) b
-replies-append limit place held [] b = ap (λ (k : ℕ). replies limit k held b) (omega arith)
-replies-append limit place held (body ∷ a) b =
-    let next = with_record held (judged limit held body) in
-    ap (λ later. reply place held (judged limit held body) ++ later)
-    (replies-append limit (place + 1) next a b ∙ ap (λ (k : ℕ). replies limit (place + 1) next a ++ replies limit k (accepted_of limit next a) b) (omega arith))
-    ∙ sym (append_assoc (reply place held (judged limit held body)) (replies limit (place + 1) next a) (replies limit (place + length (body ∷ a)) (accepted_of limit next a) b))
+pub replies-append : (capacity place : ℕ) (held : List Record) (a b : List (List ℕ))
+    → replies capacity place held (a ++ b) ≡ replies capacity place held a ++ replies capacity (place + length a) (accepted_of capacity held a) b
+replies-append capacity place held [] b = ap (λ (k : ℕ). replies capacity k held b) (omega arith)
+replies-append capacity place held (body ∷ a) b =
+    let next = with_record held (judged capacity held body) in
+    ap (λ later. reply place held (judged capacity held body) ++ later)
+    (replies-append capacity (place + 1) next a b ∙ ap (λ (k : ℕ). replies capacity (place + 1) next a ++ replies capacity k (accepted_of capacity next a) b) (omega arith))
+    ∙ sym (append_assoc (reply place held (judged capacity held body)) (replies capacity (place + 1) next a) (replies capacity (place + length (body ∷ a)) (accepted_of capacity next a) b))
 
 -- all that a session sends, and what further frames add
-pub session_frames-append : (limit : ℕ) (from : Option ℕ) (held : List Record) (a b : List (List ℕ))
-    → session_frames limit from held (a ++ b) ≡ session_frames limit from held a ++ replies limit (length a + 1) (accepted_of limit held a) b
-session_frames-append limit from held a b =
-    ap (λ later. sent_again from held ++ hello held ∷ later) (replies-append limit 1 held a b ∙ ap (λ (k : ℕ). replies limit 1 held a ++ replies limit k (accepted_of limit held a) b) (omega arith))
-    ∙ sym (append_assoc (sent_again from held) (hello held ∷ replies limit 1 held a) (replies limit (length a + 1) (accepted_of limit held a) b))
+pub session_frames-append : (capacity : ℕ) (from : Option ℕ) (held : List Record) (a b : List (List ℕ))
+    → session_frames capacity from held (a ++ b) ≡ session_frames capacity from held a ++ replies capacity (length a + 1) (accepted_of capacity held a) b
+session_frames-append capacity from held a b =
+    ap (λ later. sent_again from held ++ hello held ∷ later) (replies-append capacity 1 held a b ∙ ap (λ (k : ℕ). replies capacity 1 held a ++ replies capacity k (accepted_of capacity held a) b) (omega arith))
+    ∙ sym (append_assoc (sent_again from held) (hello held ∷ replies capacity 1 held a) (replies capacity (length a + 1) (accepted_of capacity held a) b))
 
-pub session_spelled-append : (limit : ℕ) (from : Option ℕ) (held : List Record) (a b : List (List ℕ))
-    → spelled (session_frames limit from held (a ++ b)) ≡ spelled (session_frames limit from held a) ++ spelled (replies limit (length a + 1) (accepted_of limit held a) b)
-session_spelled-append limit from held a b =
-    ap spelled (session_frames-append limit from held a b) ∙ spelled-append (session_frames limit from held a) (replies limit (length a + 1) (accepted_of limit held a) b)
+pub session_spelled-append : (capacity : ℕ) (from : Option ℕ) (held : List Record) (a b : List (List ℕ))
+    → spelled (session_frames capacity from held (a ++ b)) ≡ spelled (session_frames capacity from held a) ++ spelled (replies capacity (length a + 1) (accepted_of capacity held a) b)
+session_spelled-append capacity from held a b =
+    ap spelled (session_frames-append capacity from held a b) ∙ spelled-append (session_frames capacity from held a) (replies capacity (length a + 1) (accepted_of capacity held a) b)
 
 -- Frames without acknowledgements.
 
@@ -63,12 +63,12 @@ pub unacknowledged-step : (n number : ℕ) (ms : List Stamped) → unacknowledge
 unacknowledged-step n number ms = unacknowledged-append (numbered n ms) (Ack number ∷ []) ∙ append-nil (unacknowledged (numbered n ms)) ∙ unacknowledged-numbered n ms
 
 -- what a replay sends, and what further frames add
-pub replayed_spelled-append : (limit : ℕ) (a b : List (List ℕ))
-    → spelled (replayed_frames limit (a ++ b)) ≡ spelled (replayed_frames limit a) ++ spelled (unacknowledged (replies limit (length a + 1) (accepted_of limit [] a) b))
-replayed_spelled-append limit a b =
-    ap (λ frames. spelled (unacknowledged frames)) (replies-append limit 1 [] a b ∙ ap (λ (k : ℕ). replies limit 1 [] a ++ replies limit k (accepted_of limit [] a) b) (omega arith))
-    ∙ ap spelled (unacknowledged-append (replies limit 1 [] a) (replies limit (length a + 1) (accepted_of limit [] a) b))
-    ∙ spelled-append (unacknowledged (replies limit 1 [] a)) (unacknowledged (replies limit (length a + 1) (accepted_of limit [] a) b))
+pub replayed_spelled-append : (capacity : ℕ) (a b : List (List ℕ))
+    → spelled (replayed_frames capacity (a ++ b)) ≡ spelled (replayed_frames capacity a) ++ spelled (unacknowledged (replies capacity (length a + 1) (accepted_of capacity [] a) b))
+replayed_spelled-append capacity a b =
+    ap (λ frames. spelled (unacknowledged frames)) (replies-append capacity 1 [] a b ∙ ap (λ (k : ℕ). replies capacity 1 [] a ++ replies capacity k (accepted_of capacity [] a) b) (omega arith))
+    ∙ ap spelled (unacknowledged-append (replies capacity 1 [] a) (replies capacity (length a + 1) (accepted_of capacity [] a) b))
+    ∙ spelled-append (unacknowledged (replies capacity 1 [] a)) (unacknowledged (replies capacity (length a + 1) (accepted_of capacity [] a) b))
 
 -- Messages that are sent again.
 

@@ -29,7 +29,7 @@ use Rattle.rulebook.specs.declared.symbol.Banded.{Banded}
 use Rattle.rulebook.specs.Auction.{is_paused, last_round}
 use Rattle.rulebook.specs.Book.{Named, context, obeyed, all_obeyed, symbol_rules, announced, named, ids_below}
 use Rattle.rulebook.specs.History.{today, records, publish}
-use Rattle.rulebook.specs.Market.{day_record, halt_in, market_halt, greatest_in, greatest_declared, is_stopped, resume_at, declare_at, declare_on, breaks}
+use Rattle.rulebook.specs.Market.{day_record, halt_in, market_halt, greatest_in, greatest_declared, is_market_halted, resume_at, declare_at, declare_on, breaks}
 use Rattle.rulebook.specs.Rules as rules
 use Rattle.rulebook.specs.Rules.{Context, is_carried, phase_now, becomes}
 use Rattle.rulebook.specs.Symbol.{phase, last_band, terms, was_straddling}

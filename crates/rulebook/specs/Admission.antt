@@ -65,23 +65,23 @@ abbrev pub finds_no_id : List Record → Record → Bool
 finds_no_id accepted (in_.Listing t name k l c) = not (is_among (names accepted) name) && nat_le 16384 (length (names accepted))
 finds_no_id accepted x = false
 
--- the first refusal that applies after these records, under this limit of records
+-- the first refusal that applies after these records, under this capacity of records
 abbrev pub verdict : ℕ → List Record → Record → Option Refusal
-verdict limit accepted x =
+verdict capacity accepted x =
     if not (is_day x) && is_none (last_day accepted) then Some NoDay
     else if is_early accepted x then Some OutOfOrder
     else if is_unknown accepted x then Some UnknownSymbol
     else if lists_again accepted x then Some AlreadyListed
     else if finds_no_id accepted x then Some DirectoryFull
-    else if nat_le limit (length accepted) then Some JournalFull
+    else if nat_le capacity (length accepted) then Some JournalFull
     else None
 
 -- the accepted records after these further records were tried in order
 abbrev pub accepted : ℕ → List Record → List Record → List Record
-accepted limit held [] = held
-accepted limit held (x ∷ later) = accepted limit (if is_none (verdict limit held x) then x ∷ held else held) later
+accepted capacity held [] = held
+accepted capacity held (x ∷ later) = accepted capacity (if is_none (verdict capacity held x) then x ∷ held else held) later
 
 -- each record is admissible after those before it
 abbrev pub IsLawful : ℕ → List Record → Type 0
-IsLawful limit [] = Unit {0}
-IsLawful limit (x ∷ earlier) = (verdict limit earlier x ≡ None) × IsLawful limit earlier
+IsLawful capacity [] = Unit {0}
+IsLawful capacity (x ∷ earlier) = (verdict capacity earlier x ≡ None) × IsLawful capacity earlier

@@ -5,5 +5,5 @@ pub mod Symbol
 pub mod Auction
 pub mod Rules
 pub mod Book
-pub mod Alone
+pub mod Isolation
 pub mod Sent

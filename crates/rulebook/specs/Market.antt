@@ -31,8 +31,8 @@ halt_in (e ∷ h) = halt_in h
 abbrev pub market_halt : List Event → Option Halt
 market_halt h = halt_in (today h)
 
-abbrev pub is_stopped : List Event → Bool
-is_stopped h = is_some (market_halt h)
+abbrev pub is_market_halted : List Event → Bool
+is_market_halted h = is_some (market_halt h)
 
 -- The market resumes at the first clock or index tick that finds a halt of Level 1 or 2 over, after 15 minutes.
 

@@ -41,8 +41,8 @@ use Rattle.rulebook.specs.declared.event.Event.{Event}
 use Rattle.rulebook.specs.declared.event.Event.TheVariants.{Accepted, Published}
 use Rattle.rulebook.specs.Auction.{last_round, is_paused, origin_of, origin, indication}
 use Rattle.rulebook.specs.History.{Found, before_step, records, open_step, last}
-use Rattle.rulebook.specs.Market.{is_stopped, day_record}
-use Rattle.rulebook.specs.Symbol.{terms, terms_in, close_of, prior_close, state_of, phase, since, begun, quote, last_band, adopted, bands_of, traded_price, opening_price, mean, was_straddling, is_halted}
+use Rattle.rulebook.specs.Market.{is_market_halted, day_record}
+use Rattle.rulebook.specs.Symbol.{terms, terms_in, close_of, prior_close, state_of, phase, since, begun, quote, last_band, adopted, bands_of, traded_price, opening_price, mean, was_straddling, is_under_regulatory_halt}
 
 -- What a rule may read: the open history, the symbol and the test of its name, and of the open step the record, its moment
 -- and the day.
@@ -66,8 +66,8 @@ abbrev pub brakes : Context → Brakes
 brakes c = record {
   closed = is_closed c.moment c.day;
   in_session = in_session c.moment c.day;
-  stopped = is_stopped c.history;
-  halted = is_halted c.history c.symbol;
+  stopped = is_market_halted c.history;
+  halted = is_under_regulatory_halt c.history c.symbol;
 }
 
 -- the phase that such a rule brings, or none

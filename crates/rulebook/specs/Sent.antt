@@ -19,12 +19,12 @@ passed x None = Ok x
 passed x (Some refusal) = Err refusal
 
 abbrev pub admitted : ℕ → List Record → Result Record Refusal → Result Record Refusal
-admitted limit held (Ok x) = passed x (verdict limit held x)
-admitted limit held (Err refusal) = Err refusal
+admitted capacity held (Ok x) = passed x (verdict capacity held x)
+admitted capacity held (Err refusal) = Err refusal
 
 -- the record of a frame's body that is accepted after these, or the first refusal that applies
 abbrev pub judged : ℕ → List Record → List ℕ → Result Record Refusal
-judged limit held body = admitted limit held (record_of body)
+judged capacity held body = admitted capacity held (record_of body)
 
 abbrev pub with_record : List Record → Result Record Refusal → List Record
 with_record held (Ok x) = x ∷ held
@@ -32,8 +32,8 @@ with_record held (Err refusal) = held
 
 -- the accepted records after the frames of these bodies
 abbrev pub accepted_of : ℕ → List Record → List (List ℕ) → List Record
-accepted_of limit held [] = held
-accepted_of limit held (body ∷ later) = accepted_of limit (with_record held (judged limit held body)) later
+accepted_of capacity held [] = held
+accepted_of capacity held (body ∷ later) = accepted_of capacity (with_record held (judged capacity held body)) later
 
 -- messages, numbered on from n
 abbrev pub numbered : ℕ → List Stamped → List Frame
@@ -55,9 +55,9 @@ reply place held (Err refusal) = refused place refusal
 
 -- what is sent for the frames from a place on, after these records
 abbrev pub replies : ℕ → ℕ → List Record → List (List ℕ) → List Frame
-replies limit place held [] = []
-replies limit place held (body ∷ later) =
-    reply place held (judged limit held body) ++ replies limit (place + 1) (with_record held (judged limit held body)) later
+replies capacity place held [] = []
+replies capacity place held (body ∷ later) =
+    reply place held (judged capacity held body) ++ replies capacity (place + 1) (with_record held (judged capacity held body)) later
 
 -- a session's first frame: how many records are held, and how many messages they gave
 abbrev pub hello : List Record → Frame
@@ -76,7 +76,7 @@ passed_over (Some from) before count = min (from - 1 - before) count
 -- all that a session sends for these frames, after the records that it holds at its start: the messages asked for again,
 -- its first frame, and the replies
 abbrev pub session_frames : ℕ → Option ℕ → List Record → List (List ℕ) → List Frame
-session_frames limit from held bodies = sent_again from held ++ hello held ∷ replies limit 1 held bodies
+session_frames capacity from held bodies = sent_again from held ++ hello held ∷ replies capacity 1 held bodies
 
 abbrev pub is_ack : Frame → Bool
 is_ack (Ack number) = true
@@ -87,7 +87,7 @@ unacknowledged frames = filter (λ frame. not (is_ack frame)) frames
 
 -- all that a replay of these frames sends: the replies over no records, without their acknowledgements
 abbrev pub replayed_frames : ℕ → List (List ℕ) → List Frame
-replayed_frames limit bodies = unacknowledged (replies limit 1 [] bodies)
+replayed_frames capacity bodies = unacknowledged (replies capacity 1 [] bodies)
 
 -- frames, spelled one after the other
 abbrev pub spelled : List Frame → List ℕ

@@ -16,7 +16,7 @@ use Rattle.wire_in.specs.declared.record.Record.TheVariants as in_
 use Rattle.wire_in.specs.Records.{moment_of}
 use Rattle.wire_out.specs.declared.message.Message.{Message}
 use Rattle.wire_out.specs.declared.message.Message.TheVariants as out
-use Rattle.eligible_core.specs.Conditions.{is_eligible, is_opening}
+use Rattle.eligible_core.specs.Conditions.{is_eligible, is_opening_trade}
 use Rattle.percent_core.specs.Percentages.{category_of, span_at, percent_of}
 use Rattle.percent_core.specs.PriceBands.{bands_at}
 use Rattle.window_core.specs.declared.window.Deal.{Deal}
@@ -146,7 +146,7 @@ traded_price day s x = None
 -- the price of a record that is an eligible opening trade of s
 abbrev pub opening_price : Day → ℕ → Record → Option ℕ
 opening_price day s (in_.Trade t symbol number price size flags) =
-    if (symbol == s) && is_eligible flags t day && is_opening flags then Some price else None
+    if (symbol == s) && is_eligible flags t day && is_opening_trade flags then Some price else None
 opening_price day s x = None
 
 abbrev pub opens_before : Day → ℕ → ℕ → Record → Bool
@@ -199,12 +199,12 @@ straddle_of s m = None
 abbrev pub was_straddling : List Event → ℕ → Bool
 was_straddling h s = option_map_or (λ straddle. straddle.value) (last (straddle_of s) (today h)) false
 
-abbrev pub is_halted_in : ℕ → List Record → Bool
-is_halted_in s [] = false
-is_halted_in s (in_.Notice t symbol notice.Halt ∷ earlier) = if symbol == s then true else is_halted_in s earlier
-is_halted_in s (in_.Notice t symbol notice.Resume ∷ earlier) = if symbol == s then false else is_halted_in s earlier
-is_halted_in s (x ∷ earlier) = is_halted_in s earlier
+abbrev pub is_under_halt_in : ℕ → List Record → Bool
+is_under_halt_in s [] = false
+is_under_halt_in s (in_.Notice t symbol notice.Halt ∷ earlier) = if symbol == s then true else is_under_halt_in s earlier
+is_under_halt_in s (in_.Notice t symbol notice.Resume ∷ earlier) = if symbol == s then false else is_under_halt_in s earlier
+is_under_halt_in s (x ∷ earlier) = is_under_halt_in s earlier
 
 -- a regulatory halt is in effect
-abbrev pub is_halted : List Event → ℕ → Bool
-is_halted h s = is_halted_in s (records (today h))
+abbrev pub is_under_regulatory_halt : List Event → ℕ → Bool
+is_under_regulatory_halt h s = is_under_halt_in s (records (today h))

@@ -1,2 +1,2 @@
 pub mod Restriction
-pub mod Kept
+pub mod ShortState

@@ -22,9 +22,9 @@ pub struct Short {
 }
 
 impl Model for Short {
-    ghost use Rattle.short_core.specs.Kept.{Kept};
+    ghost use Rattle.short_core.specs.ShortState.{ShortState};
 
-    ghost Value = { Kept };
+    ghost Value = { ShortState };
 
     ghost view = { λ s. record { close = s.close; triggered = s.triggered; carried = s.carried } };
 
@@ -32,14 +32,14 @@ impl Model for Short {
 }
 
 impl Short {
-    ghost use Rattle.short_core.specs.Kept.{listed, with_trade, triggers_first, Stands};
+    ghost use Rattle.short_core.specs.ShortState.{listed, with_trade, triggers_first, Represents};
 
     /// A day without a trade yet, with the prior close in ten-thousandths of a dollar, where there is one, and whether
     /// the day before carries the restriction over.
     pub fn listed(close: Option<Price>, carried: bool) -> Short
         ensures value { result ≡ listed close carried }
         ensures stands { (earlier : List Trades) → carried ≡ is_carried earlier
-            → Stands result (record { close = close; prices = [] }) earlier }
+            → Represents result (record { close = close; prices = [] }) earlier }
     {
         Short {
             close,
@@ -53,9 +53,9 @@ impl Short {
     pub fn trade(&mut self, p: Price) -> bool
         ensures first { result ≡ triggers_first p self.old }
         ensures value { self.new ≡ with_trade p self.old }
-        ensures answer { (day : Trades) (earlier : List Trades) → Stands self.old day earlier
+        ensures answer { (day : Trades) (earlier : List Trades) → Represents self.old day earlier
             → result ≡ triggers day.close p && not (has_triggered day) }
-        ensures stands { (day : Trades) (earlier : List Trades) → Stands self.old day earlier → Stands self.new (traded p day) earlier }
+        ensures stands { (day : Trades) (earlier : List Trades) → Represents self.old day earlier → Represents self.new (traded p day) earlier }
     {
         let first = !self.triggered && triggers(self.close, p);
         self.triggered |= first;
@@ -65,7 +65,7 @@ impl Short {
     /// Whether short sales are restricted: a trade of today triggered it, or it is carried over.
     pub fn restricted(&self) -> bool
         ensures value { result ≡ self.now.triggered || self.now.carried }
-        ensures answer { (day : Trades) (earlier : List Trades) → Stands self.now day earlier → result ≡ is_restricted day earlier }
+        ensures answer { (day : Trades) (earlier : List Trades) → Represents self.now day earlier → result ≡ is_restricted day earlier }
     {
         self.triggered || self.carried
     }
@@ -73,7 +73,7 @@ impl Short {
     /// Whether the following day carries the restriction: a trade of today triggered it.
     pub fn next_day(&self) -> bool
         ensures value { result ≡ self.now.triggered }
-        ensures answer { (day : Trades) (earlier : List Trades) → Stands self.now day earlier → result ≡ is_carried (day ∷ earlier) }
+        ensures answer { (day : Trades) (earlier : List Trades) → Represents self.now day earlier → result ≡ is_carried (day ∷ earlier) }
     {
         self.triggered
     }

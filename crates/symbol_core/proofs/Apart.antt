@@ -9,7 +9,7 @@ use Rattle.rulebook.specs.declared.symbol.Banded.{Banded}
 use Rattle.rulebook.specs.declared.event.Event.{Event}
 use Rattle.rulebook.specs.declared.event.Event.TheVariants.{Published}
 use Rattle.rulebook.specs.History.{Found, now, newest, step_record, open_step, publish, today, last}
-use Rattle.rulebook.specs.Market.{is_stopped}
+use Rattle.rulebook.specs.Market.{is_market_halted}
 use Rattle.session_core.specs.Moments.{seconds}
 use Rattle.rulebook.specs.Symbol.{begins_run, counted_in, is_times, phase_in, deals_in}
 use Rattle.pause_core.specs.Phases.{is_trading, is_limit}
@@ -28,7 +28,7 @@ use Rattle.rulebook.specs.Rules as rules
 use Rattle.rulebook.specs.Symbol as of
 
 pub stands-apart : (mine : List ℕ → Bool) (k : Kept) (deals : List Deal) (step : Step) (m : Message) (h : List Event) → IsSilent k.id m → Stands mine k deals step h
-    → Stands mine k deals (record step { stopped = is_stopped (Published m ∷ h) }) (Published m ∷ h)
+    → Stands mine k deals (record step { stopped = is_market_halted (Published m ∷ h) }) (Published m ∷ h)
 stands-apart mine k deals step m h q s =
     record {
       moment = s.moment;
@@ -73,9 +73,9 @@ stands-apart mine k deals step m h q s =
     run = run_stays step.day k.id m step.input h s.input none_begins (λ r. last-other (of.band_of k.id) m r q.band) (λ r. last-other (of.adoption_of k.id) m r none_adopts) counts
 
 pub stands-others : (mine : List ℕ → Bool) (k : Kept) (deals : List Deal) (step : Step) (ms : List Message) (h : List Event) → AllSilent k.id ms → Stands mine k deals step h
-    → Stands mine k deals (record step { stopped = is_stopped (publish ms h) }) (publish ms h)
+    → Stands mine k deals (record step { stopped = is_market_halted (publish ms h) }) (publish ms h)
 stands-others mine k deals step [] h q s = subst (λ (b : Bool). Stands mine k deals (record step { stopped = b }) h) s.stopped s
-stands-others mine k deals step (m ∷ ms) h q s = stands-others mine k deals (record step { stopped = is_stopped (Published m ∷ h) }) ms (Published m ∷ h) q.1 (stands-apart mine k deals step m h q.0 s)
+stands-others mine k deals step (m ∷ ms) h q s = stands-others mine k deals (record step { stopped = is_market_halted (Published m ∷ h) }) ms (Published m ∷ h) q.1 (stands-apart mine k deals step m h q.0 s)
 
 -- that it is listed leaves a symbol as it is
 pub stands-listed : (mine : List ℕ → Bool) (k : Kept) (deals : List Deal) (step : Step) (name : List ℕ) (h : List Event) → Stands mine k deals step h → Stands mine k deals step (Published (out.Listed k.id name) ∷ h)

@@ -15,7 +15,7 @@ use Rattle.rulebook.specs.declared.event.Event.{Event}
 use Rattle.rulebook.specs.Auction as auction
 use Rattle.rulebook.specs.Book.{announced, context}
 use Rattle.rulebook.specs.History.{now, today}
-use Rattle.rulebook.specs.Market.{is_stopped}
+use Rattle.rulebook.specs.Market.{is_market_halted}
 use Rattle.rulebook.specs.Rules as rules
 use Rattle.rulebook.specs.Symbol as of
 use Rattle.symbol_core.specs.declared.kept.Kept.{Kept}
@@ -39,7 +39,7 @@ told mine k step h =
       band = of.last_band h s;
       adopted = of.adopted h s;
       straddling = of.was_straddling h s;
-      halted = of.is_halted h s;
+      halted = of.is_under_regulatory_halt h s;
       round = auction.last_round h s;
       origin = auction.origin h s;
       indication = auction.indication h s;
@@ -56,9 +56,9 @@ stands-told mine k step deals h s = rw (← s.terms, ← s.phase, ← s.since, �
 
 -- a rule that reads the kept state, the moment and the market's halt
 pub by_kept : (rule : Kept → Step → List Message) (mine : List ℕ → Bool) (k : Kept) (step : Step) (deals : List Deal) (h : List Event) → Stands mine k deals step h
-    → rule (told mine k step h) (record step { moment = now h; stopped = is_stopped h }) ≡ rule k step
+    → rule (told mine k step h) (record step { moment = now h; stopped = is_market_halted h }) ≡ rule k step
 by_kept rule mine k step deals h s =
-    ap (λ (t : ℕ). rule (told mine k step h) (record step { moment = t; stopped = is_stopped h })) (sym s.moment)
+    ap (λ (t : ℕ). rule (told mine k step h) (record step { moment = t; stopped = is_market_halted h })) (sym s.moment)
     ∙ ap (λ (b : Bool). rule (told mine k step h) (record step { stopped = b })) (sym s.stopped)
     ∙ ap (λ (l : Kept). rule l step) (sym (stands-told mine k step deals h s))
 

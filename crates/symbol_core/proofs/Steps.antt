@@ -11,7 +11,7 @@ use Rattle.rulebook.specs.declared.event.Event.{Event}
 use Rattle.rulebook.specs.declared.event.Event.TheVariants.{Accepted}
 use Rattle.rulebook.specs.Book.{all_obeyed, announced, symbol_rules}
 use Rattle.rulebook.specs.History.{now, publish, records}
-use Rattle.rulebook.specs.Market.{day_record, is_stopped}
+use Rattle.rulebook.specs.Market.{day_record, is_market_halted}
 use Rattle.rulebook.specs.Symbol.{deals_in, deals_of}
 use Rattle.rulebook.proofs.Histories.{records-publish}
 use Rattle.symbol_core.specs.declared.kept.Kept.{Kept}
@@ -45,7 +45,7 @@ pub stands-opened : (mine : List ℕ → Bool) (step : Step) (k : Kept) (kept : 
     → Stands mine (taken k step) (filter (leaves k.id step.input) kept) step (open_history step.input others h)
 stands-opened mine step k kept others h p =
     let dropped = filter (leaves k.id step.input) kept in
-    let first = record step { stopped = is_stopped (Accepted step.input ∷ h) } in
+    let first = record step { stopped = is_market_halted (Accepted step.input ∷ h) } in
     subst (λ (b : Bool). Stands mine (taken k step) dropped (record step { stopped = b }) (open_history step.input others h)) (sym p.stopped)
     (stands-others mine (taken k step) dropped first others (Accepted step.input ∷ h) p.silent
     (stands-taken mine k kept first p.index h p.no_day p.name p.day p.rests p.moment refl p.later))

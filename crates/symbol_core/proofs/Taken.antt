@@ -11,11 +11,11 @@ use Rattle.rulebook.specs.Auction.{indicated_by}
 use Rattle.rulebook.specs.declared.event.Event.{Event}
 use Rattle.rulebook.specs.declared.event.Event.TheVariants.{Accepted}
 use Rattle.rulebook.specs.History.{now, today, records, last}
-use Rattle.rulebook.specs.Market.{is_stopped, day_record}
+use Rattle.rulebook.specs.Market.{is_market_halted, day_record}
 use Rattle.session_core.specs.Moments.{seconds}
 use Rattle.wire_in.specs.Records.{is_day, moment_of, name_of}
 use Rattle.rulebook.specs.Rules.{or_else}
-use Rattle.rulebook.specs.Symbol.{cancels, counted_in, is_halted_in, quote_in, terms_in, deals_in, deals_of}
+use Rattle.rulebook.specs.Symbol.{cancels, counted_in, is_under_halt_in, quote_in, terms_in, deals_in, deals_of}
 use Rattle.eligible_core.specs.Conditions.{is_eligible}
 use Rattle.window_core.specs.declared.window.Deal.{Deal}
 use Rattle.symbol_core.specs.declared.kept.Kept.{Kept}
@@ -57,7 +57,7 @@ quote-taken s (in_.Clock t) r = refl
 quote-taken s (in_.Notice t i k) r = refl
 quote-taken s (in_.Indication t i p u) r = refl
 
-pub halted-taken : (s : ℕ) (x : Record) (r : List Record) → is_halted_in s (x ∷ r) ≡ halted_by s x (is_halted_in s r)
+pub halted-taken : (s : ℕ) (x : Record) (r : List Record) → is_under_halt_in s (x ∷ r) ≡ halted_by s x (is_under_halt_in s r)
 halted-taken s (in_.Day t d c) r = refl
 halted-taken s (in_.Listing t n k l c) r = refl
 halted-taken s (in_.Trade t i n p q f) r = refl
@@ -112,7 +112,7 @@ window_taken day s x t u end kept own (Some r) le e same =
     }
 
 pub stands-taken : (mine : List ℕ → Bool) (k : Kept) (kept : List Deal) (step : Step) (index : ℕ) (h : List Event) → is_day step.input ≡ false → option_map_or mine (name_of step.input) true ≡ true
-    → day_record (records h) ≡ Some (step.day, index) → Rests mine (record { kept = k; deals = kept }) h → step.moment ≡ moment_of step.input → step.stopped ≡ is_stopped (Accepted step.input ∷ h) → now h ≤ step.moment
+    → day_record (records h) ≡ Some (step.day, index) → Rests mine (record { kept = k; deals = kept }) h → step.moment ≡ moment_of step.input → step.stopped ≡ is_market_halted (Accepted step.input ∷ h) → now h ≤ step.moment
     → Stands mine (taken k step) (filter (leaves k.id step.input) kept) step (Accepted step.input ∷ h)
 stands-taken mine k kept step index h not_day name day s at stopped later =
     record {
@@ -127,7 +127,7 @@ stands-taken mine k kept step index h not_day name day s at stopped later =
       band = along (λ t. k.band ≡ option_map (λ b. b.value) (last (of.band_of k.id) (unwrap_or (of.run_in k.id t) []))) (s.band ∙ sym (run_taken (λ r. option_map (λ b. b.value) (last (of.band_of k.id) r)) x (of.run_in k.id (today h)) (λ r. refl)));
       adopted = along (λ t. k.adopted ≡ option_map_or (λ b. b.moment) (last (of.adoption_of k.id) (unwrap_or (of.run_in k.id t) [])) 0) (s.adopted ∙ sym (run_taken (λ r. option_map_or (λ b. b.moment) (last (of.adoption_of k.id) r) 0) x (of.run_in k.id (today h)) (λ r. refl)));
       straddling = along (λ t. k.straddling ≡ option_map_or (λ straddle. straddle.value) (last (of.straddle_of k.id) t) false) s.straddling;
-      halted = along (λ t. halted_by k.id x k.halted ≡ is_halted_in k.id (records t)) (ap (λ (b : Bool). halted_by k.id x b) s.halted ∙ sym (halted-taken k.id x (records (today h))));
+      halted = along (λ t. halted_by k.id x k.halted ≡ is_under_halt_in k.id (records t)) (ap (λ (b : Bool). halted_by k.id x b) s.halted ∙ sym (halted-taken k.id x (records (today h))));
       round = along (λ t. k.round ≡ option_map auction.round_of (last (auction.collar_of k.id) t)) s.round;
       origin = along (λ t. k.origin ≡ auction.origin_in k.id t) s.origin;
       indication = along (λ t. or_else (indicated_by k.id x) k.indication ≡ auction.indication_in k.id t) (indicated (indicated_by k.id x) s.indication);

@@ -5,7 +5,7 @@ use Rattle.std.specs.Option.{option_map_or}
 use Rattle.std.proofs.lemmas.List.{append-nil}
 use Rattle.price_core.specs.Moves.{has_moved_one_percent}
 use Rattle.price_core.specs.declared.quote.Cause.TheVariants.{First, Moved, Times}
-use Rattle.refprice_core.specs.Prices.{because, forced, has_stood, is_opening}
+use Rattle.refprice_core.specs.Prices.{because, forced, has_stood, is_in_opening_period}
 use Rattle.session_core.specs.declared.day.Day.{Day}
 use Rattle.session_core.specs.declared.state.Phase.{Phase}
 use Rattle.session_core.specs.declared.state.Phase.TheVariants as Phase
@@ -242,7 +242,7 @@ reference_by_mean k step mean r tick =
 
     by : (o : Option Banded) → later_price k step mean o ≡ by_mean (awaits_after k step.moment o) mean o
     by (Some b) = refl
-    by None = (λ i. because First (or_else (r.released i) (if is_opening (unwrap_or k.begun 0) step.moment then offered k step else mean))) ∙ ap (λ (o : Option ℕ). because First o) (opening (is_opening (unwrap_or k.begun 0) step.moment))
+    by None = (λ i. because First (or_else (r.released i) (if is_in_opening_period (unwrap_or k.begun 0) step.moment then offered k step else mean))) ∙ ap (λ (o : Option ℕ). because First o) (opening (is_in_opening_period (unwrap_or k.begun 0) step.moment))
 
 -- so a tick at which a mean is awaited as before finds the price as before
 pub reference_stays : (k : Kept) (a b : Step) (mean : Option ℕ) → IsRested k → is_tick a.input ≡ true → is_tick b.input ≡ true → awaits_mean k b.moment ≡ awaits_mean k a.moment → reference k a mean ≡ None → reference k b mean ≡ None

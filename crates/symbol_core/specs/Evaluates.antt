@@ -9,7 +9,7 @@ use Rattle.rulebook.specs.declared.event.Event.{Event}
 use Rattle.rulebook.specs.declared.event.Event.TheVariants.{Accepted}
 use Rattle.rulebook.specs.Book.{Named, all_obeyed, announced, symbol_rules}
 use Rattle.rulebook.specs.History.{now, publish, records}
-use Rattle.rulebook.specs.Market.{day_record, is_stopped}
+use Rattle.rulebook.specs.Market.{day_record, is_market_halted}
 use Rattle.rulebook.specs.Symbol.{terms}
 use Rattle.symbol_core.specs.declared.symbol.MarketView.{MarketView}
 use Rattle.symbol_core.specs.Rests.{Held, Rests}
@@ -36,7 +36,7 @@ pub record Opens (own : List ℕ → Bool) (held : Held) (market : MarketView) (
   pub name : option_map_or own (name_of x) true ≡ true
   pub index : ℕ
   pub day : day_record (records h) ≡ Some (market.day, index)
-  pub stopped : market.stopped ≡ is_stopped (open_history x others h)
+  pub stopped : market.stopped ≡ is_market_halted (open_history x others h)
   pub later : now h ≤ moment_of x
 
 -- A record is evaluated: what the symbol says is its part of the step, and it then rests on the history with that. A day

@@ -8,7 +8,7 @@ use Rattle.session_core.specs.Times.{in_session, is_closed}
 use Rattle.wire_in.specs.Records.{is_tick}
 use Rattle.pause_core.specs.Phases.{can_start, is_trading}
 use Rattle.percent_core.specs.Percentages.{span_at}
-use Rattle.refprice_core.specs.Prices.{has_stood, is_opening}
+use Rattle.refprice_core.specs.Prices.{has_stood, is_in_opening_period}
 use Rattle.window_core.specs.declared.window.Deal.{Deal}
 use Rattle.window_core.specs.Deals.{mean_of}
 use Rattle.rulebook.specs.declared.symbol.Banded.{Banded}
@@ -50,7 +50,7 @@ pub record Lasts (k : Kept) (day : Day) (from until : ℕ) : Type 0 where
 
 -- whether a new mean would be taken, 30 seconds after the last reference price and five minutes after the run's begin
 abbrev pub awaits_after : Kept → ℕ → Option Banded → Bool
-awaits_after k t None = not (is_opening (unwrap_or k.begun 0) t)
+awaits_after k t None = not (is_in_opening_period (unwrap_or k.begun 0) t)
 awaits_after k t (Some b) = has_stood (adoption k b) t
 
 abbrev pub awaits_mean : Kept → ℕ → Bool

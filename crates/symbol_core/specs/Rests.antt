@@ -36,7 +36,7 @@ pub record Rests (own : List ℕ → Bool) (held : Held) (h : List Event) : Type
   pub band : held.kept.band ≡ of.last_band h held.kept.id
   pub adopted : held.kept.adopted ≡ of.adopted h held.kept.id
   pub straddling : held.kept.straddling ≡ of.was_straddling h held.kept.id
-  pub halted : held.kept.halted ≡ of.is_halted h held.kept.id
+  pub halted : held.kept.halted ≡ of.is_under_regulatory_halt h held.kept.id
   pub round : held.kept.round ≡ auction.last_round h held.kept.id
   pub origin : held.kept.origin ≡ auction.origin h held.kept.id
   pub indication : held.kept.indication ≡ auction.indication h held.kept.id

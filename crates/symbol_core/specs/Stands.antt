@@ -7,7 +7,7 @@ use Rattle.rulebook.specs.declared.event.Event.TheVariants.{Accepted}
 use Rattle.rulebook.specs.Auction as auction
 use Rattle.rulebook.specs.Book.{Named, context, obeyed, all_obeyed}
 use Rattle.rulebook.specs.History.{now, newest, today, publish}
-use Rattle.rulebook.specs.Market.{is_stopped}
+use Rattle.rulebook.specs.Market.{is_market_halted}
 use Rattle.rulebook.specs.Rules as rules
 use Rattle.rulebook.specs.Rules.{Context}
 use Rattle.rulebook.specs.Symbol as of
@@ -23,7 +23,7 @@ named own s = record { symbol = s; own = own }
 -- the kept state, the kept deals and the step are what the open history says of the symbol
 pub record Stands (own : List ℕ → Bool) (k : Kept) (deals : List Deal) (step : Step) (h : List Event) : Type 0 where
   pub moment : step.moment ≡ now h
-  pub stopped : step.stopped ≡ is_stopped h
+  pub stopped : step.stopped ≡ is_market_halted h
   pub input : newest h ≡ Some step.input
   pub terms : k.terms ≡ of.terms h own
   pub phase : k.phase ≡ of.phase h k.id
@@ -33,7 +33,7 @@ pub record Stands (own : List ℕ → Bool) (k : Kept) (deals : List Deal) (step
   pub band : k.band ≡ of.last_band h k.id
   pub adopted : k.adopted ≡ of.adopted h k.id
   pub straddling : k.straddling ≡ of.was_straddling h k.id
-  pub halted : k.halted ≡ of.is_halted h k.id
+  pub halted : k.halted ≡ of.is_under_regulatory_halt h k.id
   pub round : k.round ≡ auction.last_round h k.id
   pub origin : k.origin ≡ auction.origin h k.id
   pub indication : k.indication ≡ auction.indication h k.id

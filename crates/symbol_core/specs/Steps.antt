@@ -6,7 +6,7 @@ use Rattle.wire_out.specs.declared.message.Message.{Message}
 use Rattle.window_core.specs.declared.window.Deal.{Deal}
 use Rattle.rulebook.specs.declared.event.Event.{Event}
 use Rattle.rulebook.specs.History.{now, publish, records}
-use Rattle.rulebook.specs.Market.{day_record, is_stopped}
+use Rattle.rulebook.specs.Market.{day_record, is_market_halted}
 use Rattle.symbol_core.specs.declared.kept.Kept.{Kept}
 use Rattle.symbol_core.specs.declared.kept.Step.{Step}
 use Rattle.symbol_core.specs.Evaluates.{open_history, step_of}
@@ -23,7 +23,7 @@ pub record Starts (own : List ℕ → Bool) (k : Kept) (kept : List Deal) (step 
   pub index : ℕ
   pub day : day_record (records h) ≡ Some (step.day, index)
   pub moment : step.moment ≡ moment_of step.input
-  pub stopped : step.stopped ≡ is_stopped (open_history step.input others h)
+  pub stopped : step.stopped ≡ is_market_halted (open_history step.input others h)
   pub later : now h ≤ step.moment
 
 -- A record is taken in and the rules are obeyed: what they publish is said, and the symbol rests on the history with both.

@@ -15,7 +15,7 @@ use crate::says::midnight;
 use pause_core::{is_done, is_trading};
 use percent_core::{bands, category, percent, span};
 use price_core::{Bands, Cause, Price};
-use refprice_core::{Adoption, Priced, because, forced, is_opening};
+use refprice_core::{Adoption, Priced, because, forced, is_in_opening_period};
 use rulebook::{Banded, Terms};
 use session_core::{Day, Moment};
 use window_core::{SummedDeals, live_mean};
@@ -94,7 +94,7 @@ impl Kept {
         if self.released.is_some() {
             return self.released;
         }
-        if is_opening(self.begun_at(), step.moment) {
+        if is_in_opening_period(self.begun_at(), step.moment) {
             self.offered(step)
         } else {
             self.mean(step.moment, deals)

@@ -11,7 +11,7 @@ use crate::kept::{Kept, Step};
 use crate::records::is_tick;
 use crate::symbol::MarketView;
 use crate::turns::at_band;
-use refprice_core::is_opening;
+use refprice_core::is_in_opening_period;
 use session_core::{Day, Moment, Phase, close_moment};
 use window_core::SummedDeals;
 
@@ -118,7 +118,7 @@ impl Kept {
         match self.band {
             Some(last) if self.adoption(&last).has_stood(t) => u64::MAX,
             Some(_) => self.adopted.nanos() + THIRTY_SECONDS,
-            None if is_opening(self.begun_at(), t) => self.begun_at().nanos() + FIVE_MINUTES,
+            None if is_in_opening_period(self.begun_at(), t) => self.begun_at().nanos() + FIVE_MINUTES,
             None => u64::MAX,
         }
     }

@@ -11,7 +11,7 @@ ghost use Rattle.symbol_core.specs.Taken.{cancelled_by, deal_of, halted_by, list
 use crate::kept::Step;
 use eligible_core::{eligible, opening};
 use price_core::{Price, Quotation};
-use refprice_core::is_opening;
+use refprice_core::is_in_opening_period;
 use reopen_core::Indication;
 use rulebook::Terms;
 use session_core::Moment;
@@ -188,7 +188,7 @@ pub fn opens_early(id: u16, begun: Moment, step: &Step) -> bool
             symbol == id
                 && eligible(flags, moment, &step.day)
                 && opening(flags)
-                && is_opening(begun, moment)
+                && is_in_opening_period(begun, moment)
         }
         _ => false,
     }

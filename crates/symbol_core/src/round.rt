@@ -14,7 +14,7 @@ pub struct TimedRound {
 
 impl Model for TimedRound {
     ghost use Rattle.reopen_core.specs.declared.auction.Round.{Round as AuctionRound};
-    ghost use Rattle.reopen_core.specs.Kept.{IsTimely};
+    ghost use Rattle.reopen_core.specs.AuctionState.{IsTimely};
 
     ghost Value = { AuctionRound };
 

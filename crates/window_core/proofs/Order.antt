@@ -7,7 +7,7 @@ use Rattle.std.proofs.lemmas.List.Elements.{All-filter, All-weaker}
 use Rattle.std.proofs.lemmas.List.Kept.{IsNonDecreasingBy-filter}
 use Rattle.window_core.specs.declared.window.Deal.{Deal}
 use Rattle.window_core.specs.Deals.{least_moment}
-use Rattle.window_core.specs.Held.{IsOrdered}
+use Rattle.window_core.specs.WindowState.{IsOrdered}
 
 -- at a later moment, some of them
 pub IsOrdered-filter : (t u : ℕ) (test : Deal → Bool) (deals : List Deal) → t ≤ u → IsOrdered t deals → IsOrdered u (filter test deals)

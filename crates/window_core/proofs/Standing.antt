@@ -1,19 +1,19 @@
--- A window stands for one more call.
+-- A window represents one more call.
 use Rattle.std.proofs.Common.{◌≡◌, ℕ, ◌≤◌, List, [], ◌∷◌, filter, sym, ap, ◌∙◌, subst}
 use Rattle.window_core.specs.Deals.{live, stays}
 use Rattle.window_core.specs.Calls.{Call, Advance, Cancel, moment_in, deals_in}
-use Rattle.window_core.specs.Held.{Held, Stands}
+use Rattle.window_core.specs.WindowState.{WindowState, Represents}
 use Rattle.window_core.proofs.Deals.{live-live, live-cancelled}
 
-pub stands-advanced : (held next : Held) (t : ℕ) (calls : List Call) → held.moment ≤ t → next.moment ≡ t → next.deals ≡ live t held.deals → Stands held calls
-    → Stands next (Advance t ∷ calls)
+pub stands-advanced : (held next : WindowState) (t : ℕ) (calls : List Call) → held.moment ≤ t → next.moment ≡ t → next.deals ≡ live t held.deals → Represents held calls
+    → Represents next (Advance t ∷ calls)
 stands-advanced held next t calls later is items s = record {
   moment = is;
   deals = items ∙ ap (live t) s.deals ∙ live-live (moment_in calls) t (subst (λ (n : ℕ). n ≤ t) s.moment later) (deals_in [] calls);
 }
 
-pub stands-cancelled : (held next : Held) (number : ℕ) (calls : List Call) → next.moment ≡ held.moment → next.deals ≡ filter (stays number) held.deals → Stands held calls
-    → Stands next (Cancel number ∷ calls)
+pub stands-cancelled : (held next : WindowState) (number : ℕ) (calls : List Call) → next.moment ≡ held.moment → next.deals ≡ filter (stays number) held.deals → Represents held calls
+    → Represents next (Cancel number ∷ calls)
 stands-cancelled held next number calls is items s = record {
   moment = is ∙ s.moment;
   deals = items ∙ ap (filter (stays number)) s.deals ∙ sym (live-cancelled (moment_in calls) number calls);

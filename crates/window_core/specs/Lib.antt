@@ -1,5 +1,5 @@
 pub mod Deals
 pub mod Calls
-pub mod Held
+pub mod WindowState
 pub mod Tallies
 pub mod Summed

@@ -5,7 +5,7 @@ use Rattle.window_core.specs.declared.window.Deal.{Deal}
 use Rattle.window_core.specs.Tallies.{Tallies}
 
 -- the deals, and how many can be added before room is taken again
-pub record Holding : Type 0 where
+pub record SummedState : Type 0 where
   pub deals : List Deal
   pub spare : ℕ
 

@@ -103,9 +103,9 @@ pub struct SummedDeals {
 impl Model for SummedDeals {
     ghost use Rattle.std.specs.Prelude.{◌-◌};
     ghost use Rattle.std.specs.VecDeque.{deque_len, deque_capacity};
-    ghost use Rattle.window_core.specs.Summed.{Holding, IsSummed};
+    ghost use Rattle.window_core.specs.Summed.{SummedState, IsSummed};
 
-    ghost Value = { Holding };
+    ghost Value = { SummedState };
 
     ghost view = { λ s. record { deals = s.items.items; spare = deque_capacity s.items - deque_len s.items } };
 

@@ -120,9 +120,9 @@ pub struct Window {
 }
 
 impl Model for Window {
-    ghost use Rattle.window_core.specs.Held.{Held, IsOrdered};
+    ghost use Rattle.window_core.specs.WindowState.{WindowState, IsOrdered};
 
-    ghost Value = { Held };
+    ghost Value = { WindowState };
 
     ghost view = { λ w. record { moment = w.moment; deals = w.deals.deals; spare = w.deals.spare } };
 
@@ -130,12 +130,12 @@ impl Model for Window {
 }
 
 impl Window {
-    ghost use Rattle.window_core.specs.Held.{IsEmpty, Stands};
+    ghost use Rattle.window_core.specs.WindowState.{IsEmpty, Represents};
 
     /// A window without deals, at moment 0.
     pub fn new(alloc: Global) -> Result<Window, NoMemory>
         ensures empty { IfOk result IsEmpty }
-        ensures stands { IfOk result (λ w. Stands w []) }
+        ensures stands { IfOk result (λ w. Represents w []) }
     {
         Ok(Window {
             moment: midnight(),
@@ -149,7 +149,7 @@ impl Window {
         ensures moment { self.new.moment ≡ t }
         ensures deals { self.new.deals ≡ live t self.old.deals }
         ensures spare { self.old.spare ≤ self.new.spare }
-        ensures stands { (calls : List Call) → Stands self.old calls → Stands self.new (Advance t ∷ calls) }
+        ensures stands { (calls : List Call) → Represents self.old calls → Represents self.new (Advance t ∷ calls) }
     {
         self.moment = t;
         self.deals.keep_live(t);
@@ -162,7 +162,7 @@ impl Window {
         ensures moment { self.new.moment ≡ self.old.moment }
         ensures deals { self.new.deals ≡ self.old.deals }
         ensures spare { self.old.spare ≤ self.new.spare }
-        ensures stands { (calls : List Call) → Stands self.old calls → Stands self.new calls }
+        ensures stands { (calls : List Call) → Represents self.old calls → Represents self.new calls }
     {
         self.deals.reserve(1)
     }
@@ -174,7 +174,7 @@ impl Window {
         ensures moment { self.new.moment ≡ self.old.moment }
         ensures deals { self.new.deals ≡ self.old.deals ++ d ∷ [] }
         ensures spare { self.old.spare ≤ self.new.spare + 1 }
-        ensures stands { (calls : List Call) → Stands self.old calls → Stands self.new (Add d ∷ calls) }
+        ensures stands { (calls : List Call) → Represents self.old calls → Represents self.new (Add d ∷ calls) }
     {
         self.deals.push(d);
     }
@@ -184,7 +184,7 @@ impl Window {
         ensures moment { self.new.moment ≡ self.old.moment }
         ensures deals { self.new.deals ≡ filter (stays number) self.old.deals }
         ensures spare { self.old.spare ≤ self.new.spare }
-        ensures stands { (calls : List Call) → Stands self.old calls → Stands self.new (Cancel number ∷ calls) }
+        ensures stands { (calls : List Call) → Represents self.old calls → Represents self.new (Cancel number ∷ calls) }
     {
         self.deals.take_away(number);
     }
@@ -193,7 +193,7 @@ impl Window {
     pub fn restart(&mut self)
         ensures empty { IsEmpty self.new }
         ensures spare { self.old.spare ≤ self.new.spare }
-        ensures stands { (calls : List Call) → Stands self.old calls → Stands self.new (Restart ∷ calls) }
+        ensures stands { (calls : List Call) → Represents self.old calls → Represents self.new (Restart ∷ calls) }
     {
         self.deals.clear();
         self.moment = midnight();
@@ -203,7 +203,7 @@ impl Window {
     /// five minutes old (LULD Plan, Section V).
     pub fn mean(&self) -> Option<Price>
         ensures value { result ≡ mean_of self.now.deals }
-        ensures answer { (calls : List Call) → Stands self.now calls → result ≡ mean_of (window calls) }
+        ensures answer { (calls : List Call) → Represents self.now calls → result ≡ mean_of (window calls) }
     {
         self.deals.mean()
     }
@@ -211,7 +211,7 @@ impl Window {
     /// The least moment of the deals that the mean counts, None exactly where the mean is None.
     pub fn oldest(&self) -> Option<Moment>
         ensures value { result ≡ least_moment self.now.deals }
-        ensures answer { (calls : List Call) → Stands self.now calls → result ≡ least_moment (window calls) }
+        ensures answer { (calls : List Call) → Represents self.now calls → result ≡ least_moment (window calls) }
     {
         self.deals.first_moment()
     }

@@ -8,11 +8,11 @@ framed body = length body ∷ body
 -- bytes were put at a place; what stands before and behind them is kept
 pub record Puts (bytes : List ℕ) (at : ℕ) (old : List ℕ) (next : ℕ) (new : List ℕ) : Type 0 where
   pub behind : next ≡ at + length bytes
-  pub front : take next new ≡ take at old ++ bytes
+  pub prefix : take next new ≡ take at old ++ bytes
   pub rest : (k : ℕ) → next ≤ k → drop k new ≡ drop k old
 
--- a frame was put at the front; what stands behind it is kept
+-- a frame was put at the prefix; what stands behind it is kept
 pub record Frames (frame old : List ℕ) (len : ℕ) (new : List ℕ) : Type 0 where
   pub whole : len ≡ length frame
-  pub front : take len new ≡ frame
+  pub prefix : take len new ≡ frame
   pub rest : drop len new ≡ drop len old

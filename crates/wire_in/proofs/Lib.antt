@@ -1,5 +1,5 @@
 pub mod Values
-pub mod Found
-pub mod Again
+pub mod DecodesOnly
+pub mod RoundTrip
 pub mod Cuts
 pub mod Streams

@@ -5,15 +5,15 @@ use Rattle.std.proofs.lemmas.Bool.Decides.{leb_tells, eqb_tells}
 use Rattle.std.proofs.lemmas.List.{length-take, length-drop, take-append-drop, take_at, drop_at}
 use Rattle.wire_core.specs.Frames.{framed}
 use Rattle.wire_core.proofs.Steps.{ok_is}
-use Rattle.wire_in.specs.Cutting.{GoesOn, IsCut, IsFront, IsPartial, bodies_of, cut_within, found, pending, rest_of}
-use Rattle.wire_in.specs.Laws.{CutsAlone, FramesDiffer, RecordsDiffer}
+use Rattle.wire_in.specs.Cutting.{GoesOn, IsCut, IsPrefix, IsPartial, bodies_of, cut_within, found, pending, rest_of}
+use Rattle.wire_in.specs.Laws.{CutIsUnique, FramesDiffer, RecordsDiffer}
 use Rattle.wire_in.specs.Reading.{record_of}
 use Rattle.wire_in.specs.Spelling.{body_of}
-use Rattle.wire_in.proofs.Again.{body_again}
+use Rattle.wire_in.proofs.RoundTrip.{body_again}
 use Rattle.wire_in.proofs.Cuts.{Cutting, bodies_of-append, rest_of-append, cut_partial, cut_framed, whole_case, partial_case}
 
 -- what is cut of at most a whole frame
-pub cut_front : (held : List ℕ) → IsFront held → (bodies_of held ≡ found held) × (rest_of held ≡ pending held)
+pub cut_front : (held : List ℕ) → IsPrefix held → (bodies_of held ≡ found held) × (rest_of held ≡ pending held)
 cut_front [] h = (refl, refl)
 cut_front (n ∷ body) h =
     elim (eqb_tells (length (n ∷ body)) (n + 1)) [
@@ -24,7 +24,7 @@ cut_front (n ∷ body) h =
     ]
 
 -- a cutter that goes on behind the bytes that were read
-pub take_on : (read old taken new : List ℕ) → new ≡ pending old ++ taken → IsFront new → pending old ≡ rest_of read → GoesOn read taken new
+pub take_on : (read old taken new : List ℕ) → new ≡ pending old ++ taken → IsPrefix new → pending old ≡ rest_of read → GoesOn read taken new
 take_on read old taken new bytes front behind =
     let joined : rest_of read ++ taken ≡ new = cc in
     let cut = cut_front new front in
@@ -88,7 +88,7 @@ cut_is (x ∷ fuel) (n ∷ bytes) le =
 same_cut : (bytes : List ℕ) (bodies bodies' : List (List ℕ)) (rest rest' : List ℕ) → IsCut bytes bodies rest → bodies' ≡ bodies → rest' ≡ rest → IsCut bytes bodies' rest'
 same_cut bytes bodies bodies' rest rest' cut e f = rw (e, f) cut
 
-pub cuts_alone : CutsAlone
+pub cuts_alone : CutIsUnique
 cuts_alone bytes bodies rest = (
   λ cut.
       let parts = cut_frames bodies rest cut.partial in

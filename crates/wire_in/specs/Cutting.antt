@@ -12,8 +12,8 @@ abbrev pub IsPartial : List ℕ → Type 0
 IsPartial rest = length rest < need rest
 
 -- at most a whole frame
-abbrev pub IsFront : List ℕ → Type 0
-IsFront held = length held ≤ need held
+abbrev pub IsPrefix : List ℕ → Type 0
+IsPrefix held = length held ≤ need held
 
 abbrev pub is_frame : List ℕ → Bool
 is_frame held = length held == need held

@@ -6,15 +6,15 @@ use Rattle.wire_in.specs.Cutting.{IsCut, IsPartial, bodies_of, rest_of}
 use Rattle.wire_in.specs.Spelling.{HasTypes, InRange, body_of}
 
 -- cutting goes on where it left off
-pub record CutsOn : Type 0 where
+pub record CutContinues : Type 0 where
   pub bodies : (bytes more : List ℕ) → bodies_of (bytes ++ more) ≡ bodies_of bytes ++ bodies_of (rest_of bytes ++ more)
   pub rest : (bytes more : List ℕ) → rest_of (bytes ++ more) ≡ rest_of (rest_of bytes ++ more)
   pub partial : (bytes : List ℕ) → IsPartial bytes → (bodies_of bytes ≡ []) × (rest_of bytes ≡ bytes)
   pub whole : (body : List ℕ) → (bodies_of (framed body) ≡ body ∷ []) × (rest_of (framed body) ≡ [])
 
 -- there is one way to cut a stream
-abbrev pub CutsAlone : Type 0
-CutsAlone = (bytes : List ℕ) (bodies : List (List ℕ)) (rest : List ℕ)
+abbrev pub CutIsUnique : Type 0
+CutIsUnique = (bytes : List ℕ) (bodies : List (List ℕ)) (rest : List ℕ)
     → IsCut bytes bodies rest ↔ ((bodies ≡ bodies_of bytes) × (rest ≡ rest_of bytes))
 
 -- no frame is the beginning of another

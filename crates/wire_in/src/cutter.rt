@@ -2,7 +2,7 @@
 
 ghost use Rattle.std.specs.Prelude.{◌≡◌, ◌≢◌, ◌↔◌, ◌⊎◌, ◌+◌, ◌-◌, ◌<◌, ◌≤◌, ◌++◌, [], min, IsTrue, List, ℕ, length, take};
 ghost use Rattle.wire_core.specs.Frames.{framed};
-ghost use Rattle.wire_in.specs.Cutting.{IsPartial, IsFront, need, is_frame, pending, rest_of, GoesOn};
+ghost use Rattle.wire_in.specs.Cutting.{IsPartial, IsPrefix, need, is_frame, pending, rest_of, GoesOn};
 
 use std::marker::Model;
 
@@ -23,13 +23,13 @@ pub struct Cutter {
 
 impl Model for Cutter {
     ghost use Rattle.std.specs.Prelude.{ℕ, ◌≤◌, List, take};
-    ghost use Rattle.wire_in.specs.Cutting.{IsFront};
+    ghost use Rattle.wire_in.specs.Cutting.{IsPrefix};
 
     ghost Value = { List ℕ };
 
     ghost view = { λ c. take c.len c.bytes };
 
-    ghost invariant = { λ c. (c.len ≤ 256) × IsFront (take c.len c.bytes) };
+    ghost invariant = { λ c. (c.len ≤ 256) × IsPrefix (take c.len c.bytes) };
 }
 
 impl Cutter {
@@ -46,7 +46,7 @@ impl Cutter {
     /// How long the frame is that is held or begun, with its length byte.
     fn need(&self) -> usize
         ensures need { result ≡ need self.now }
-        ensures front { IsFront self.now }
+        ensures front { IsPrefix self.now }
         ensures bound { result ≤ 256 }
     {
         if self.len == 0 {
@@ -58,7 +58,7 @@ impl Cutter {
 
     fn is_frame(&self) -> bool
         ensures value { result ≡ is_frame self.now }
-        ensures front { IsFront self.now }
+        ensures front { IsPrefix self.now }
     {
         self.len == self.need()
     }
@@ -86,7 +86,7 @@ impl Cutter {
         ensures used { result.used ≤ length piece.now }
         ensures some { 0 < length piece.now → 0 < result.used }
         ensures whole { result.whole ≡ is_frame self.new }
-        ensures front { IsFront self.new }
+        ensures front { IsPrefix self.new }
         ensures all { IsTrue result.whole ⊎ (result.used ≡ length piece.now) }
 
         // Whatever bytes were read before: with those taken now they have one frame more if one is whole, and what
@@ -117,7 +117,7 @@ impl Cutter {
     fn fill(&mut self, piece: &[u8]) -> usize
         ensures used { result ≡ min (need self.old - length self.old) (length piece.now) }
         ensures bytes { self.new ≡ self.old ++ take result piece.now }
-        ensures front { IsFront self.old }
+        ensures front { IsPrefix self.old }
     {
         let count = self.missing().min(piece.len());
         self.len = put(&mut self.bytes, self.len, &piece[..count]);
@@ -127,7 +127,7 @@ impl Cutter {
     /// How many bytes are known to be missing: the length byte, or the rest of the body.
     fn missing(&self) -> usize
         ensures missing { result ≡ need self.now - length self.now }
-        ensures front { IsFront self.now }
+        ensures front { IsPrefix self.now }
         ensures bound { need self.now ≤ 256 }
     {
         self.need() - self.len

@@ -1,15 +1,15 @@
 //! Laws of streams of frames.
 
-ghost use Rattle.wire_in.specs.Laws.{CutsOn, CutsAlone, FramesDiffer, RecordsDiffer};
+ghost use Rattle.wire_in.specs.Laws.{CutContinues, CutIsUnique, FramesDiffer, RecordsDiffer};
 
 /// Cutting goes on where it left off, so the frames of a stream do not depend on its pieces.
 pub fn cutting_goes_on()
-    ensures { CutsOn }
+    ensures { CutContinues }
 {}
 
 /// There is one way to cut a stream into frames and less than a whole one.
 pub fn there_is_one_cut()
-    ensures { CutsAlone }
+    ensures { CutIsUnique }
 {}
 
 /// No frame is the beginning of another, and frames of different records differ.

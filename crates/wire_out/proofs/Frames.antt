@@ -8,7 +8,7 @@ use Rattle.wire_out.specs.Spelling.{IsSayable, body_of, numbered_body, spelling}
 use Rattle.wire_out.specs.declared.message.Message.{Message}
 use Rattle.wire_out.specs.declared.message.Message.TheVariants.{Listed}
 use Rattle.wire_out.specs.declared.message.Frame.TheVariants.{Numbered}
-use Rattle.wire_out.proofs.Again.{body_again}
+use Rattle.wire_out.proofs.RoundTrip.{body_again}
 use Rattle.wire_out.proofs.Values.{some_is}
 
 message_fits : (n t : ℕ) (m : Message) → IsSayable m → IsBetween 10 45 (length (framed (numbered_body n t m)))

@@ -1,4 +1,4 @@
 pub mod Values
-pub mod Found
-pub mod Again
+pub mod DecodesOnly
+pub mod RoundTrip
 pub mod Frames

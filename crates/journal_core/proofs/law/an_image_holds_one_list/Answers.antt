@@ -1,4 +1,4 @@
-use Rattle.journal_core.proofs.Alone.{alone}
+use Rattle.journal_core.proofs.OneList.{alone}
 use Rattle.journal_core.proofs.law.an_image_holds_one_list.Goals as goal
 
 pub returns : goal.returns

@@ -66,13 +66,13 @@ returns-clause-moments g c = λ begin input reads.
     turns_on begin input c.loop-read.read c.args.most c.loop-read.invariant.within (c.loop-read.invariant.moments begin input reads)
     (c.finish.ensures.moments begin input c.loop-read.read (c.loop-read.invariant.reads begin input reads))
 
-pub returns-in-Ok-eq0-clause-limit : goal.returns-in-Ok-eq0-clause-limit
-returns-in-Ok-eq0-clause-limit g c =
+pub returns-in-Ok-eq0-clause-capacity : goal.returns-in-Ok-eq0-clause-capacity
+returns-in-Ok-eq0-clause-capacity g c =
     takes_on c.loop-read.read c.in-Ok-eq0.field-0 c.args.most _ _ _ (omega (arith, c.loop-read-test.true, c.in-Ok-eq0.field-0-test)) c.loop-read.invariant.taken (c.in-Ok-eq0.ensures).taken
 
-pub returns-in-Err-clause-limit : goal.returns-in-Err-clause-limit
-returns-in-Err-clause-limit g c =
+pub returns-in-Err-clause-capacity : goal.returns-in-Err-clause-capacity
+returns-in-Err-clause-capacity g c =
     takes_on c.loop-read.read c.min-room.result c.args.most _ _ _ (omega (arith, c.loop-read.invariant.within, c.min-room.ensures)) c.loop-read.invariant.taken (c.in-Err.ensures).taken_most
 
-pub returns-clause-limit : goal.returns-clause-limit
-returns-clause-limit g c = takes_fewer c.loop-read.read c.args.most _ _ c.loop-read.invariant.within (takes_between c.loop-read.read _ _ _ _ refl c.finish.ensures.input c.loop-read.invariant.taken)
+pub returns-clause-capacity : goal.returns-clause-capacity
+returns-clause-capacity g c = takes_fewer c.loop-read.read c.args.most _ _ c.loop-read.invariant.within (takes_between c.loop-read.read _ _ _ _ refl c.finish.ensures.input c.loop-read.invariant.taken)

@@ -13,13 +13,13 @@ pub returns-in-Err-clause-no_journal : goal.returns-in-Err-clause-no_journal
 returns-in-Err-clause-no_journal g c = λ is. c.begin_scan.ensures.no_journal (c.in-Err.is ∙ ap (λ s. Err s) (one_status _ c.in-Err.status _ refl is))
 
 pub returns-in-Ok-begin_engine-clause-recovers : goal.returns-in-Ok-begin_engine-clause-recovers
-returns-in-Ok-begin_engine-clause-recovers g c = λ from disk told. record {
-  disk_told = told;
+returns-in-Ok-begin_engine-clause-recovers g c = λ from disk known. record {
+  disk_known = known;
   settled = (c.in-Ok.ensures).settled;
   batches = [];
-  read = (c.in-Ok.ensures).read disk told;
+  read = (c.in-Ok.ensures).read disk known;
   resumes = record {
-    engine_of = subst (λ (l : ℕ). IsOf c.in-Ok-begin_engine.engine l []) c.limit.ensures.limit (c.in-Ok-begin_engine.ensures).stands;
+    engine_of = subst (λ (l : ℕ). IsOf c.in-Ok-begin_engine.engine l []) c.capacity.ensures.capacity (c.in-Ok-begin_engine.ensures).stands;
     lawful = tt;
     owes = nothing_again from (g.H.Host.outside c.begin_scan.new.host).sent c.args.outbox c.requires;
   };

@@ -8,9 +8,9 @@ pub loop-x-init : goal.loop-x-init
 loop-x-init g c = record {
   small = c.requires.small;
   count = omega arith;
-  limit = refl;
-  resumes = λ limit held begin resumes. resumes;
-  moments = λ limit held begin resumes. batch_none c.args.from limit held c.args.records.now c.args.engine.now c.args.outbox.now (g.H.Host.outside c.args.host.now) (g.met.H.Host.sent_now c.args.host.now) resumes;
+  capacity = refl;
+  resumes = λ capacity held begin resumes. resumes;
+  moments = λ capacity held begin resumes. batch_none c.args.from capacity held c.args.records.now c.args.engine.now c.args.outbox.now (g.H.Host.outside c.args.host.now) (g.met.H.Host.sent_now c.args.host.now) resumes;
   keeps = idle _;
 }
 
@@ -18,26 +18,26 @@ pub loop-x-preserved : goal.loop-x-preserved
 loop-x-preserved g c = record {
   small = (c.in-Ok.ensures).small;
   count = omega (arith, (c.in-Ok.ensures).count, c.loop-x.invariant.count);
-  limit = (c.in-Ok.ensures).limit ∙ c.loop-x.invariant.limit;
-  resumes = λ limit held begin resumes.
-      resumes_next c.args.from limit held c.args.records.now c.loop-x.x-index c.x-item.result c.loop-x-test.true c.x-item.is begin _ _ _
-      ((c.in-Ok.ensures).resumes limit (with_batch held (take c.loop-x.x-index c.args.records.now)) begin (c.loop-x.invariant.resumes limit held begin resumes));
-  moments = λ limit held begin resumes.
-      again_next c.args.from held c.args.records.now c.loop-x.x-index c.x-item.result c.loop-x-test.true c.x-item.is (c.loop-x.invariant.moments limit held begin resumes)
-      (c.resume_record.ensures.moments limit (with_batch held (take c.loop-x.x-index c.args.records.now)) begin (c.loop-x.invariant.resumes limit held begin resumes));
+  capacity = (c.in-Ok.ensures).capacity ∙ c.loop-x.invariant.capacity;
+  resumes = λ capacity held begin resumes.
+      resumes_next c.args.from capacity held c.args.records.now c.loop-x.x-index c.x-item.result c.loop-x-test.true c.x-item.is begin _ _ _
+      ((c.in-Ok.ensures).resumes capacity (with_batch held (take c.loop-x.x-index c.args.records.now)) begin (c.loop-x.invariant.resumes capacity held begin resumes));
+  moments = λ capacity held begin resumes.
+      again_next c.args.from held c.args.records.now c.loop-x.x-index c.x-item.result c.loop-x-test.true c.x-item.is (c.loop-x.invariant.moments capacity held begin resumes)
+      (c.resume_record.ensures.moments capacity (with_batch held (take c.loop-x.x-index c.args.records.now)) begin (c.loop-x.invariant.resumes capacity held begin resumes));
   keeps = onward c.loop-x.invariant.keeps c.resume_record.ensures.keeps;
 }
 
 pub returns-in-Err-clause-moments : goal.returns-in-Err-clause-moments
-returns-in-Err-clause-moments g c = λ limit held begin resumes.
-    again_next c.args.from held c.args.records.now c.loop-x.x-index c.x-item.result c.loop-x-test.true c.x-item.is (c.loop-x.invariant.moments limit held begin resumes)
-    (c.resume_record.ensures.moments limit (with_batch held (take c.loop-x.x-index c.args.records.now)) begin (c.loop-x.invariant.resumes limit held begin resumes))
+returns-in-Err-clause-moments g c = λ capacity held begin resumes.
+    again_next c.args.from held c.args.records.now c.loop-x.x-index c.x-item.result c.loop-x-test.true c.x-item.is (c.loop-x.invariant.moments capacity held begin resumes)
+    (c.resume_record.ensures.moments capacity (with_batch held (take c.loop-x.x-index c.args.records.now)) begin (c.loop-x.invariant.resumes capacity held begin resumes))
 
 pub returns-in-Err-clause-refused : goal.returns-in-Err-clause-refused
-returns-in-Err-clause-refused g c = λ is limit held begin resumes.
-    refused_at c.args.from limit held c.args.records.now c.loop-x.x-index c.x-item.result c.loop-x-test.true c.x-item.is begin _ _ _
-    (c.resume_record.ensures.refused (c.in-Err.is ∙ is) limit (with_batch held (take c.loop-x.x-index c.args.records.now)) begin (c.loop-x.invariant.resumes limit held begin resumes))
+returns-in-Err-clause-refused g c = λ is capacity held begin resumes.
+    refused_at c.args.from capacity held c.args.records.now c.loop-x.x-index c.x-item.result c.loop-x-test.true c.x-item.is begin _ _ _
+    (c.resume_record.ensures.refused (c.in-Err.is ∙ is) capacity (with_batch held (take c.loop-x.x-index c.args.records.now)) begin (c.loop-x.invariant.resumes capacity held begin resumes))
 
 pub returns-clause-resumes : goal.returns-clause-resumes
-returns-clause-resumes g c = λ limit held begin resumes.
-    resumes_all c.args.from limit held c.args.records.now c.loop-x.x-index c.loop-x-test.false begin _ _ _ (c.loop-x.invariant.resumes limit held begin resumes)
+returns-clause-resumes g c = λ capacity held begin resumes.
+    resumes_all c.args.from capacity held c.args.records.now c.loop-x.x-index c.loop-x-test.false begin _ _ _ (c.loop-x.invariant.resumes capacity held begin resumes)

@@ -13,10 +13,10 @@ abbrev pub invariant-loop-x : goal.invariant-loop-x
 invariant-loop-x g l = record {
   small : IsSmall l.engine;
   count : l.engine.admission.count ≡ l.initial.engine.admission.count + l.x-index;
-  limit : l.engine.admission.limit ≡ l.initial.engine.admission.limit;
-  resumes : (limit : ℕ) (held : List Record) (begin : Option (List ℕ)) → Resumes l.from limit held begin l.initial.engine l.initial.outbox (g.H.Host.outside l.initial.host)
-      → Resumes l.from limit (with_batch held (take l.x-index l.records)) begin l.engine l.outbox (g.H.Host.outside l.host);
-  moments : (limit : ℕ) (held : List Record) (begin : Option (List ℕ)) → Resumes l.from limit held begin l.initial.engine l.initial.outbox (g.H.Host.outside l.initial.host)
+  capacity : l.engine.admission.capacity ≡ l.initial.engine.admission.capacity;
+  resumes : (capacity : ℕ) (held : List Record) (begin : Option (List ℕ)) → Resumes l.from capacity held begin l.initial.engine l.initial.outbox (g.H.Host.outside l.initial.host)
+      → Resumes l.from capacity (with_batch held (take l.x-index l.records)) begin l.engine l.outbox (g.H.Host.outside l.host);
+  moments : (capacity : ℕ) (held : List Record) (begin : Option (List ℕ)) → Resumes l.from capacity held begin l.initial.engine l.initial.outbox (g.H.Host.outside l.initial.host)
       → Elapses (g.H.Host.outside l.initial.host) (g.H.Host.outside l.host) (SendsFront begin (spelled (sent_again l.from (with_batch held l.records))) (g.H.Host.outside l.initial.host));
   keeps : OnlySends (g.H.Host.outside l.initial.host) (g.H.Host.outside l.host);
 }

@@ -42,12 +42,12 @@ returns-in-Err-clause-settled g c = λ begin input same begins settled. settles 
 pub returns-in-Ok-clause-at_return : goal.returns-in-Ok-clause-at_return
 returns-in-Ok-clause-at_return g c = λ begin input same begins.
     returned (returns-in-Ok-clause-moments g c begin input same begins) (further c.restore.ensures.continues c.answer_input.ensures.continues)
-    (g.met.H.Host.sent_now c.answer_input.new.host) (g.met.H.Host.read_passes c.answer_input.new.host) begins.disk begin.sent begins.disk_told begins.sent_told
+    (g.met.H.Host.sent_now c.answer_input.new.host) (g.met.H.Host.read_passes c.answer_input.new.host) begins.disk begin.sent begins.disk_known begins.sent_known
 
 pub returns-in-Err-clause-at_return : goal.returns-in-Err-clause-at_return
 returns-in-Err-clause-at_return g c = λ begin input same begins.
     returned (returns-in-Err-clause-moments g c begin input same begins) c.restore.ensures.continues
-    (g.met.H.Host.sent_now c.restore.new.host) (g.met.H.Host.read_passes c.restore.new.host) begins.disk begin.sent begins.disk_told begins.sent_told
+    (g.met.H.Host.sent_now c.restore.new.host) (g.met.H.Host.read_passes c.restore.new.host) begins.disk begin.sent begins.disk_known begins.sent_known
 
 pub returns-in-Ok-clause-part : goal.returns-in-Ok-clause-part
 returns-in-Ok-clause-part g c = λ begin input same begins.
@@ -80,13 +80,13 @@ pub returns-in-Err-clause-no_journal : goal.returns-in-Err-clause-no_journal
 returns-in-Err-clause-no_journal g c = λ is. c.restore.ensures.no_journal (c.in-Err.is ∙ ap (λ s. Err s) is)
 
 pub returns-in-Ok-clause-no_header : goal.returns-in-Ok-clause-no_header
-returns-in-Ok-clause-no_header g c = λ disk told none.
-    let header = begun c.restore.result c.in-Ok.live _ c.in-Ok.is c.restore.ensures.header disk told in
+returns-in-Ok-clause-no_header g c = λ disk known none.
+    let header = begun c.restore.result c.in-Ok.live _ c.in-Ok.is c.restore.ensures.header disk known in
     absurd (header_stands disk header.0 header.1 none)
 
 pub returns-in-Err-clause-no_header : goal.returns-in-Err-clause-no_header
-returns-in-Err-clause-no_header g c = λ disk told none.
-    headless c.restore.result c.in-Err.status _ c.in-Err.is c.restore.ensures.header (λ all. header_stands disk (all disk told).0 (all disk told).1 none)
+returns-in-Err-clause-no_header g c = λ disk known none.
+    headless c.restore.result c.in-Err.status _ c.in-Err.is c.restore.ensures.header (λ all. header_stands disk (all disk known).0 (all disk known).1 none)
 
 pub returns-in-Ok-clause-unsent : goal.returns-in-Ok-clause-unsent
 returns-in-Ok-clause-unsent g c = λ is. absurd (subst IsLive is c.answer_input.ensures.kind)
@@ -95,12 +95,12 @@ pub returns-in-Err-clause-unsent : goal.returns-in-Err-clause-unsent
 returns-in-Err-clause-unsent g c = λ is. c.restore.ensures.unsent (c.in-Err.is ∙ ap (λ s. Err s) is)
 
 pub returns-in-Ok-clause-left_alone : goal.returns-in-Ok-clause-left_alone
-returns-in-Ok-clause-left_alone g c = λ disk told none.
-    let header = begun c.restore.result c.in-Ok.live _ c.in-Ok.is c.restore.ensures.header disk told in
+returns-in-Ok-clause-left_alone g c = λ disk known none.
+    let header = begun c.restore.result c.in-Ok.live _ c.in-Ok.is c.restore.ensures.header disk known in
     absurd (header_stands disk header.0 header.1 none)
 
 pub returns-in-Err-clause-left_alone : goal.returns-in-Err-clause-left_alone
-returns-in-Err-clause-left_alone g c = λ disk told none. record { input = c.restore.ensures.input; sent = c.restore.ensures.no_header_unsent disk told none; disk = c.restore.ensures.disk }
+returns-in-Err-clause-left_alone g c = λ disk known none. record { input = c.restore.ensures.input; sent = c.restore.ensures.no_header_unsent disk known none; disk = c.restore.ensures.disk }
 
 pub returns-in-Ok-clause-damaged : goal.returns-in-Ok-clause-damaged
 returns-in-Ok-clause-damaged g c = λ at is. absurd (subst IsLive is c.answer_input.ensures.kind)
@@ -113,34 +113,34 @@ returns-in-Ok-clause-undamaged g c = λ begin input begins at is. subst IsLive i
 
 pub returns-in-Err-clause-undamaged : goal.returns-in-Err-clause-undamaged
 returns-in-Err-clause-undamaged g c = λ begin input begins at is.
-    has_no_damage begin input (g.H.Host.outside c.args.host.now) (g.H.Host.outside c.restore.new.host) _ _ at begins (returns-in-Err-clause-damaged g c at is begins.disk begins.disk_told)
+    has_no_damage begin input (g.H.Host.outside c.args.host.now) (g.H.Host.outside c.restore.new.host) _ _ at begins (returns-in-Err-clause-damaged g c at is begins.disk begins.disk_known)
 
 pub returns-in-Ok-clause-damage_is_told : goal.returns-in-Ok-clause-damage_is_told
-returns-in-Ok-clause-damage_is_told g c = λ limit at before disk told damaged has.
-    let all = (c.in-Ok.ensures).lawful disk told in
-    absurd (lawful_undamaged limit at before disk all.0 all.1 damaged all.2 all.3)
+returns-in-Ok-clause-damage_is_told g c = λ capacity at before disk known damaged has.
+    let all = (c.in-Ok.ensures).lawful disk known in
+    absurd (lawful_undamaged capacity at before disk all.0 all.1 damaged all.2 all.3)
 
 pub returns-in-Err-clause-damage_is_told : goal.returns-in-Err-clause-damage_is_told
-returns-in-Err-clause-damage_is_told g c = λ limit at before disk told damaged has.
-    tells_damage c.in-Err.status limit at before disk _ _ _ (c.in-Err.ensures).kind damaged has
-    (λ is. returns-in-Err-clause-no_journal g c is disk told)
-    (λ other is. returns-in-Err-clause-damaged g c other is disk told)
+returns-in-Err-clause-damage_is_told g c = λ capacity at before disk known damaged has.
+    tells_damage c.in-Err.status capacity at before disk _ _ _ (c.in-Err.ensures).kind damaged has
+    (λ is. returns-in-Err-clause-no_journal g c is disk known)
+    (λ other is. returns-in-Err-clause-damaged g c other is disk known)
 
 pub returns-in-Ok-clause-damage_is_left : goal.returns-in-Ok-clause-damage_is_left
-returns-in-Ok-clause-damage_is_left g c = λ limit at before disk told damaged.
-    let all = (c.in-Ok.ensures).lawful disk told in
-    absurd (lawful_undamaged limit at before disk all.0 all.1 damaged all.2 all.3)
+returns-in-Ok-clause-damage_is_left g c = λ capacity at before disk known damaged.
+    let all = (c.in-Ok.ensures).lawful disk known in
+    absurd (lawful_undamaged capacity at before disk all.0 all.1 damaged all.2 all.3)
 
 pub returns-in-Err-clause-damage_is_left : goal.returns-in-Err-clause-damage_is_left
-returns-in-Err-clause-damage_is_left g c = λ limit at before disk told damaged. c.restore.ensures.disk
+returns-in-Err-clause-damage_is_left g c = λ capacity at before disk known damaged. c.restore.ensures.disk
 
 pub returns-in-Ok-clause-damage_is_unserved : goal.returns-in-Ok-clause-damage_is_unserved
-returns-in-Ok-clause-damage_is_unserved g c = λ limit at before disk told damaged.
-    let all = (c.in-Ok.ensures).lawful disk told in
-    absurd (lawful_undamaged limit at before disk all.0 all.1 damaged all.2 all.3)
+returns-in-Ok-clause-damage_is_unserved g c = λ capacity at before disk known damaged.
+    let all = (c.in-Ok.ensures).lawful disk known in
+    absurd (lawful_undamaged capacity at before disk all.0 all.1 damaged all.2 all.3)
 
 pub returns-in-Err-clause-damage_is_unserved : goal.returns-in-Err-clause-damage_is_unserved
-returns-in-Err-clause-damage_is_unserved g c = λ limit at before disk told damaged. c.restore.ensures.input
+returns-in-Err-clause-damage_is_unserved g c = λ capacity at before disk known damaged. c.restore.ensures.input
 
 pub returns-in-Ok-clause-untouched : goal.returns-in-Ok-clause-untouched
 returns-in-Ok-clause-untouched g c = λ un. absurd (live_served c.answer_input.result c.answer_input.ensures.kind un)
@@ -148,11 +148,11 @@ returns-in-Ok-clause-untouched g c = λ un. absurd (live_served c.answer_input.r
 pub returns-in-Ok-clause-input_is_left : goal.returns-in-Ok-clause-input_is_left
 returns-in-Ok-clause-input_is_left g c = λ un. absurd (live_served c.answer_input.result c.answer_input.ensures.kind un)
 
-pub returns-in-Ok-clause-limit : goal.returns-in-Ok-clause-limit
-returns-in-Ok-clause-limit g c = takes_between c.args.options.now.bytes _ _ _ _ c.restore.ensures.input refl c.answer_input.ensures.limit
+pub returns-in-Ok-clause-capacity : goal.returns-in-Ok-clause-capacity
+returns-in-Ok-clause-capacity g c = takes_between c.args.options.now.bytes _ _ _ _ c.restore.ensures.input refl c.answer_input.ensures.capacity
 
-pub returns-in-Err-clause-limit : goal.returns-in-Err-clause-limit
-returns-in-Err-clause-limit g c = takes_none c.args.options.now.bytes _ _ c.restore.ensures.input
+pub returns-in-Err-clause-capacity : goal.returns-in-Err-clause-capacity
+returns-in-Err-clause-capacity g c = takes_none c.args.options.now.bytes _ _ c.restore.ensures.input
 
 pub returns-in-Ok-clause-kind : goal.returns-in-Ok-clause-kind
 returns-in-Ok-clause-kind g c = live_answer c.answer_input.result c.answer_input.ensures.kind

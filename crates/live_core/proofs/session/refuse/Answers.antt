@@ -4,7 +4,7 @@ use Rattle.live_core.proofs.Leaving.{sent_leaves, at_rest_sends, owes_waiting}
 use Rattle.live_core.proofs.session.refuse.Goals as goal
 
 pub returns-in-Ok-clause-stands : goal.returns-in-Ok-clause-stands
-returns-in-Ok-clause-stands g c = λ limit held stands. record {
+returns-in-Ok-clause-stands g c = λ capacity held stands. record {
   engine = stands.engine;
   limited = stands.limited;
   at_rest = at_rest_sends c.args.live.now.journal held (g.H.Host.outside c.args.host.now) (g.H.Host.outside c.put_refusal.new.host) _ _ stands.at_rest
@@ -12,7 +12,7 @@ returns-in-Ok-clause-stands g c = λ limit held stands. record {
 }
 
 pub returns-in-Err-clause-stands : goal.returns-in-Err-clause-stands
-returns-in-Err-clause-stands g c = λ limit held stands. record {
+returns-in-Err-clause-stands g c = λ capacity held stands. record {
   engine = stands.engine;
   limited = stands.limited;
   at_rest = at_rest_sends c.args.live.now.journal held (g.H.Host.outside c.args.host.now) (g.H.Host.outside c.put_refusal.new.host) _ _ stands.at_rest
@@ -20,11 +20,11 @@ returns-in-Err-clause-stands g c = λ limit held stands. record {
 }
 
 pub returns-in-Ok-clause-moments : goal.returns-in-Ok-clause-moments
-returns-in-Ok-clause-moments g c = λ limit held before text stands owes.
+returns-in-Ok-clause-moments g c = λ capacity held before text stands owes.
     widened (c.put_refusal.ensures.moments _ text owes) _
-    (λ image bytes stop. inl (sent_leaves c.args.live.now.journal limit held (g.H.Host.outside c.args.host.now) stands.limited stands.at_rest before text image bytes stop))
+    (λ image bytes stop. inl (sent_leaves c.args.live.now.journal capacity held (g.H.Host.outside c.args.host.now) stands.limited stands.at_rest before text image bytes stop))
 
 pub returns-in-Err-clause-moments : goal.returns-in-Err-clause-moments
-returns-in-Err-clause-moments g c = λ limit held before text stands owes.
+returns-in-Err-clause-moments g c = λ capacity held before text stands owes.
     widened (c.put_refusal.ensures.moments _ text owes) _
-    (λ image bytes stop. inl (sent_leaves c.args.live.now.journal limit held (g.H.Host.outside c.args.host.now) stands.limited stands.at_rest before text image bytes stop))
+    (λ image bytes stop. inl (sent_leaves c.args.live.now.journal capacity held (g.H.Host.outside c.args.host.now) stands.limited stands.at_rest before text image bytes stop))

@@ -20,8 +20,8 @@ returns-in-Ok-vec-clause-part g c = λ input left.
 pub returns-in-Ok-vec-clause-complete : goal.returns-in-Ok-vec-clause-complete
 returns-in-Ok-vec-clause-complete g c memory no_reads no_sends = completes _ _ _ c.answer_input.ensures.kind memory c.answer_input.ensures.read_cause c.answer_input.ensures.send_cause no_reads no_sends
 
-pub returns-in-Err-clause-limit : goal.returns-in-Err-clause-limit
-returns-in-Err-clause-limit g c = takes_none c.args.options.now.bytes _ _ refl
+pub returns-in-Err-clause-capacity : goal.returns-in-Err-clause-capacity
+returns-in-Err-clause-capacity g c = takes_none c.args.options.now.bytes _ _ refl
 
 pub returns-in-Ok-vec-clause-moments : goal.returns-in-Ok-vec-clause-moments
 returns-in-Ok-vec-clause-moments g c = λ input left.

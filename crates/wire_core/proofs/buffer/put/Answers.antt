@@ -8,7 +8,7 @@ returns c =
     let piece = c.copy_from_slice.new.self in
     record {
       behind = refl;
-      front = take-put_mid c.args.at _ old piece _ (omega arith) (omega arith)
+      prefix = take-put_mid c.args.at _ old piece _ (omega arith) (omega arith)
           ∙ ap (λ (t : List ℕ). take c.args.at old ++ t) c.copy_from_slice.ensures.after;
       rest = λ k le. drop-put_mid c.args.at _ old piece k (omega arith) (omega arith) (omega arith);
     }

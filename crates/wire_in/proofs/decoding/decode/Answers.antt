@@ -1,6 +1,6 @@
 use Rattle.std.proofs.Common.{◌∙◌, arith}
-use Rattle.wire_in.proofs.Found.{is_found}
-use Rattle.wire_in.proofs.Again.{record_again}
+use Rattle.wire_in.proofs.DecodesOnly.{is_found}
+use Rattle.wire_in.proofs.RoundTrip.{record_again}
 use Rattle.wire_in.proofs.decoding.decode.Goals as goal
 
 pub returns-clause-found : goal.returns-clause-found

@@ -1,4 +1,4 @@
-use Rattle.wire_in.proofs.Again.{parts_again}
+use Rattle.wire_in.proofs.RoundTrip.{parts_again}
 use Rattle.wire_in.proofs.encoding.encode.Goals as goal
 
 pub returns-in-Day-clause-decodes : goal.returns-in-Day-clause-decodes

@@ -1,6 +1,6 @@
 use Rattle.std.proofs.Common.{◌∙◌, sym, arith}
-use Rattle.wire_out.proofs.Again.{frame_again}
-use Rattle.wire_out.proofs.Found.{frame_found}
+use Rattle.wire_out.proofs.RoundTrip.{frame_again}
+use Rattle.wire_out.proofs.DecodesOnly.{frame_found}
 use Rattle.wire_out.proofs.decoding.get_frame.Goals as goal
 
 pub returns-in-Some-clause-found : goal.returns-in-Some-clause-found

@@ -1,5 +1,5 @@
 use Rattle.std.proofs.Common.{◌∙◌, sym, arith}
-use Rattle.wire_out.proofs.Found.{message_found}
+use Rattle.wire_out.proofs.DecodesOnly.{message_found}
 use Rattle.wire_out.proofs.decoding.numbered.Goals as goal
 
 pub count_at-requires : goal.count_at-requires

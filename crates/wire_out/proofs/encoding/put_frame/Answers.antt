@@ -1,4 +1,4 @@
-use Rattle.wire_out.proofs.Again.{body_again}
+use Rattle.wire_out.proofs.RoundTrip.{body_again}
 use Rattle.wire_out.proofs.encoding.put_frame.Goals as goal
 
 pub returns-clause-read : goal.returns-clause-read

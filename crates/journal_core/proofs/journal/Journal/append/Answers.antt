@@ -1,6 +1,6 @@
 use Rattle.std.proofs.Common.{◌≡◌, ◌+◌, length, ap, arith}
 use Rattle.host_core.proofs.Moments.{nothing, widened, ended}
-use Rattle.journal_core.specs.Journal.{Kept}
+use Rattle.journal_core.specs.Journal.{JournalState}
 use Rattle.journal_core.proofs.Appended.{settled_at, grown_by, rest_with, of_disk_with, before_steps}
 use Rattle.journal_core.proofs.journal.Journal.append.Goals as goal
 
@@ -9,29 +9,29 @@ pub returns-then-len-saturating_sub-clause-moments :
 returns-then-len-saturating_sub-clause-moments g c records rest =
     let journal = c.args.self.now in
     widened (nothing (g.H.Host.outside c.args.host.now) (g.met.H.Host.sent_now c.args.host.now)) _
-    (before_steps _ journal.limit journal.gate records c.args.batch.now (settled_at journal _ (λ _. journal.gate) rest))
+    (before_steps _ journal.capacity journal.gate records c.args.batch.now (settled_at journal _ (λ _. journal.gate) rest))
 
 pub returns-in_err-self-inside-clause-moments : goal.returns-in_err-self-inside-clause-moments
 returns-in_err-self-inside-clause-moments g c records rest =
-    rw (← c.list.ensures.records) (c.add.ensures.moments c.args.self.now.limit records (settled_at c.args.self.now _ (ap (λ (k : Kept). k.gate) c.self.view_is) rest))
+    rw (← c.list.ensures.records) (c.add.ensures.moments c.args.self.now.capacity records (settled_at c.args.self.now _ (ap (λ (k : JournalState). k.gate) c.self.view_is) rest))
 
 pub returns-clause-moments : goal.returns-clause-moments
 returns-clause-moments g c records rest =
-    rw (← c.list.ensures.records) (c.add.ensures.moments c.args.self.now.limit records (settled_at c.args.self.now _ (ap (λ (k : Kept). k.gate) c.self.view_is) rest))
+    rw (← c.list.ensures.records) (c.add.ensures.moments c.args.self.now.capacity records (settled_at c.args.self.now _ (ap (λ (k : JournalState). k.gate) c.self.view_is) rest))
 
 pub returns-clause-stored : goal.returns-clause-stored
 returns-clause-stored g c =
     let batch = c.args.batch.now in
-    let counts : c.self.inside.count + c.len-2.result ≡ c.args.self.now.count + length batch = omega (arith, ap (λ (k : Kept). k.count) c.self.view_is, c.len-2.ensures.len) in
-    rest_with c.args.self.now _ batch c.self.inside.gate (ap (λ (k : Kept). k.gate) c.self.view_is) (ap (λ (k : Kept). k.limit) c.self.view_is) counts
-    (g.H.Host.outside c.args.host.now) (g.H.Host.outside c.add.new.host) (λ disk told. grown_by c.list.ensures.records (c.in_ok-self-inside.ensures.grown disk told)) c.in_ok-self-inside.ensures.settled
+    let counts : c.self.inside.count + c.len-2.result ≡ c.args.self.now.count + length batch = omega (arith, ap (λ (k : JournalState). k.count) c.self.view_is, c.len-2.ensures.len) in
+    rest_with c.args.self.now _ batch c.self.inside.gate (ap (λ (k : JournalState). k.gate) c.self.view_is) (ap (λ (k : JournalState). k.capacity) c.self.view_is) counts
+    (g.H.Host.outside c.args.host.now) (g.H.Host.outside c.add.new.host) (λ disk known. grown_by c.list.ensures.records (c.in_ok-self-inside.ensures.grown disk known)) c.in_ok-self-inside.ensures.settled
 
 pub returns-clause-of_disk : goal.returns-clause-of_disk
 returns-clause-of_disk g c =
     let batch = c.args.batch.now in
-    let counts : c.self.inside.count + c.len-2.result ≡ c.args.self.now.count + length batch = omega (arith, ap (λ (k : Kept). k.count) c.self.view_is, c.len-2.ensures.len) in
-    of_disk_with c.args.self.now _ batch c.self.inside.gate (ap (λ (k : Kept). k.gate) c.self.view_is) (ap (λ (k : Kept). k.limit) c.self.view_is) counts
-    (g.H.Host.outside c.args.host.now) (g.H.Host.outside c.add.new.host) (λ disk told. grown_by c.list.ensures.records (c.in_ok-self-inside.ensures.grown disk told)) c.requires.of_disk
+    let counts : c.self.inside.count + c.len-2.result ≡ c.args.self.now.count + length batch = omega (arith, ap (λ (k : JournalState). k.count) c.self.view_is, c.len-2.ensures.len) in
+    of_disk_with c.args.self.now _ batch c.self.inside.gate (ap (λ (k : JournalState). k.gate) c.self.view_is) (ap (λ (k : JournalState). k.capacity) c.self.view_is) counts
+    (g.H.Host.outside c.args.host.now) (g.H.Host.outside c.add.new.host) (λ disk known. grown_by c.list.ensures.records (c.in_ok-self-inside.ensures.grown disk known)) c.requires.of_disk
 
 pub returns-then-len-saturating_sub-clause-left : goal.returns-then-len-saturating_sub-clause-left
 returns-then-len-saturating_sub-clause-left g c records image rest left = (ended (returns-then-len-saturating_sub-clause-moments g c records rest) left).holds

@@ -9,7 +9,7 @@ pub returns-in_err-ahead-clause-moments : goal.returns-in_err-ahead-clause-momen
 returns-in_err-ahead-clause-moments g c = nothing (g.H.Host.outside c.args.host.now) (g.met.H.Host.sent_now c.args.host.now)
 
 pub returns-clause-of_disk : goal.returns-clause-of_disk
-returns-clause-of_disk g c = IfOk-weaker c.open.result _ _ (λ scan read disk told. ([], read disk told)) c.open.ensures.read
+returns-clause-of_disk g c = IfOk-weaker c.open.result _ _ (λ scan read disk known. ([], read disk known)) c.open.ensures.read
 
 pub returns-clause-settled : goal.returns-clause-settled
 returns-clause-settled g c =

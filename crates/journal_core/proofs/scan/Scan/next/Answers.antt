@@ -10,24 +10,24 @@ pub returns-clause-settled : goal.returns-clause-settled
 returns-clause-settled g c = still_settled c.fill.ensures.moments c.fill.ensures.disk
 
 pub returns-clause-batch : goal.returns-clause-batch
-returns-clause-batch g c is batches disk told read =
-    let took = c.take_front.ensures.batch is in
-    took_batch c.fill.new.self c.take_front.new.self c.take_front.new.into took.0 took.1 took.2 c.take_front.ensures.limit c.take_front.ensures.size took.4 batches disk (c.fill.ensures.reads batches disk told read)
+returns-clause-batch g c is batches disk known read =
+    let took = c.take_at_gate.ensures.batch is in
+    took_batch c.fill.new.self c.take_at_gate.new.self c.take_at_gate.new.into took.0 took.1 took.2 c.take_at_gate.ensures.capacity c.take_at_gate.ensures.size took.4 batches disk (c.fill.ensures.reads batches disk known read)
 
 pub returns-clause-same : goal.returns-clause-same
-returns-clause-same g c other batches disk told read =
-    ⊎_elim (λ is. absurd (other is)) (λ reads. reads batches disk (c.fill.ensures.reads batches disk told read)) c.take_front.ensures.reads
+returns-clause-same g c other batches disk known read =
+    ⊎_elim (λ is. absurd (other is)) (λ reads. reads batches disk (c.fill.ensures.reads batches disk known read)) c.take_at_gate.ensures.reads
 
 pub returns-clause-damaged : goal.returns-clause-damaged
-returns-clause-damaged g c at is batches disk told read =
-    let damage = c.take_front.ensures.damaged at is in
-    rw damage.0 (damaged_disk c.fill.new.self batches disk (c.fill.ensures.reads batches disk told read) c.in_ok-fill.ensures.enough damage.2)
+returns-clause-damaged g c at is batches disk known read =
+    let damage = c.take_at_gate.ensures.damaged at is in
+    rw damage.0 (damaged_disk c.fill.new.self batches disk (c.fill.ensures.reads batches disk known read) c.in_ok-fill.ensures.enough damage.2)
 
 pub returns-clause-of_disk : goal.returns-clause-of_disk
-returns-clause-of_disk g c disk told =
-    let before = c.requires disk (sym c.fill.ensures.disk ∙ told) in
-    let read = c.fill.ensures.reads before.0 disk (sym c.fill.ensures.disk ∙ told) before.1 in
+returns-clause-of_disk g c disk known =
+    let before = c.requires disk (sym c.fill.ensures.disk ∙ known) in
+    let read = c.fill.ensures.reads before.0 disk (sym c.fill.ensures.disk ∙ known) before.1 in
     ⊎_elim (λ is.
-    let took = c.take_front.ensures.batch is in
-    (before.0 ++ c.take_front.new.into ∷ [], took_batch c.fill.new.self c.take_front.new.self c.take_front.new.into took.0 took.1 took.2 c.take_front.ensures.limit c.take_front.ensures.size took.4 before.0 disk read))
-    (λ reads. (before.0, reads before.0 disk read)) c.take_front.ensures.reads
+    let took = c.take_at_gate.ensures.batch is in
+    (before.0 ++ c.take_at_gate.new.into ∷ [], took_batch c.fill.new.self c.take_at_gate.new.self c.take_at_gate.new.into took.0 took.1 took.2 c.take_at_gate.ensures.capacity c.take_at_gate.ensures.size took.4 before.0 disk read))
+    (λ reads. (before.0, reads before.0 disk read)) c.take_at_gate.ensures.reads

@@ -12,8 +12,8 @@ abbrev pub invariant-batches : goal.invariant-batches
 invariant-batches g l = record {
   reading : IsReading l.self (g.H.Host.outside l.host).disk;
   recovers : (begin : Option (List ℕ)) (disk : List ℕ) → Recovers l.from begin disk l.initial.self (g.H.Host.outside l.initial.host) → Recovers l.from begin disk l.self (g.H.Host.outside l.host);
-  moments : (before disk : List ℕ) (limit : ℕ) (held : List Record) → Recovers l.from (Some before) disk l.initial.self (g.H.Host.outside l.initial.host) → Holds disk limit held
-      → Elapses (g.H.Host.outside l.initial.host) (g.H.Host.outside l.host) (Leaves limit held before (spelled (sent_again l.from held)));
+  moments : (before disk : List ℕ) (capacity : ℕ) (held : List Record) → Recovers l.from (Some before) disk l.initial.self (g.H.Host.outside l.initial.host) → Holds disk capacity held
+      → Elapses (g.H.Host.outside l.initial.host) (g.H.Host.outside l.host) (Leaves capacity held before (spelled (sent_again l.from held)));
   input : (g.H.Host.outside l.host).input ≡ (g.H.Host.outside l.initial.host).input;
   disk : (g.H.Host.outside l.host).disk ≡ (g.H.Host.outside l.initial.host).disk;
   continues : Continues (g.H.Host.outside l.initial.host) (g.H.Host.outside l.host);

@@ -17,19 +17,19 @@ returns-in-Ok-clause-serves g c = λ begin read serves.
     serves_one begin read _ _ _ _ c.args.self.now.place c.judge-outcome.result (c.take-cut.ensures.goes_on read serves.cutter) c.take-cut.ensures.whole c.if-not-cut.false c.body.ensures.frame serves.place
     (found_by begin read _ c.args.self.now (g.H.Host.outside c.args.host.now) c.judge-outcome.result serves c.judge-outcome.ensures.exact)
     c.answer.new.live (g.H.Host.outside c.answer.new.host) c.answer.ensures.cutter c.answer.ensures.place
-    ((c.in-Ok.ensures).stands begin.limit held (record { engine = serves.stands.engine; limited = serves.stands.limited; at_rest = serves.stands.at_rest }))
-    ((c.in-Ok.ensures).owes begin.limit held begin.sent (due begin (bodies_of read)) (record { engine = serves.stands.engine; limited = serves.stands.limited; at_rest = serves.stands.at_rest }) serves.owes)
+    ((c.in-Ok.ensures).stands begin.capacity held (record { engine = serves.stands.engine; limited = serves.stands.limited; at_rest = serves.stands.at_rest }))
+    ((c.in-Ok.ensures).owes begin.capacity held begin.sent (due begin (bodies_of read)) (record { engine = serves.stands.engine; limited = serves.stands.limited; at_rest = serves.stands.at_rest }) serves.owes)
 
 pub returns-in-Ok-clause-moments : goal.returns-in-Ok-clause-moments
 returns-in-Ok-clause-moments g c = λ begin read serves.
     let held = held_after begin (bodies_of read) in
     runs_one begin read c.args.piece.now _ _ c.take-cut.result.used _ c.args.self.now.place c.judge-outcome.result (c.take-cut.ensures.goes_on read serves.cutter) c.take-cut.ensures.whole c.if-not-cut.false c.body.ensures.frame serves.place
     (found_by begin read _ c.args.self.now (g.H.Host.outside c.args.host.now) c.judge-outcome.result serves c.judge-outcome.ensures.exact)
-    (c.answer.ensures.moments begin.limit held begin.sent (due begin (bodies_of read)) (record { engine = serves.stands.engine; limited = serves.stands.limited; at_rest = serves.stands.at_rest }) serves.owes)
+    (c.answer.ensures.moments begin.capacity held begin.sent (due begin (bodies_of read)) (record { engine = serves.stands.engine; limited = serves.stands.limited; at_rest = serves.stands.at_rest }) serves.owes)
 
 pub returns-in-Err-clause-moments : goal.returns-in-Err-clause-moments
 returns-in-Err-clause-moments g c = λ begin read serves.
     let held = held_after begin (bodies_of read) in
     runs_one begin read c.args.piece.now _ _ c.take-cut.result.used _ c.args.self.now.place c.judge-outcome.result (c.take-cut.ensures.goes_on read serves.cutter) c.take-cut.ensures.whole c.if-not-cut.false c.body.ensures.frame serves.place
     (found_by begin read _ c.args.self.now (g.H.Host.outside c.args.host.now) c.judge-outcome.result serves c.judge-outcome.ensures.exact)
-    (c.answer.ensures.moments begin.limit held begin.sent (due begin (bodies_of read)) (record { engine = serves.stands.engine; limited = serves.stands.limited; at_rest = serves.stands.at_rest }) serves.owes)
+    (c.answer.ensures.moments begin.capacity held begin.sent (due begin (bodies_of read)) (record { engine = serves.stands.engine; limited = serves.stands.limited; at_rest = serves.stands.at_rest }) serves.owes)

@@ -1,5 +1,5 @@
 use Rattle.std.proofs.Common.{arith}
-use Rattle.market_core.proofs.Telling.{one_evaluated}
+use Rattle.market_core.proofs.Appending.{one_evaluated}
 use Rattle.market_core.proofs.market.Market.evaluate.Goals as goal
 
 pub returns-clause-ok : goal.returns-clause-ok

@@ -1,6 +1,6 @@
 use Rattle.std.proofs.Common.{◌≡◌, ℕ, Some, rules, ap, sym, ◌∙◌}
 use Rattle.wire_in.specs.Records.{is_tick, symbol_of}
-use Rattle.market_core.proofs.Telling.{own_applies, tick_applies}
+use Rattle.market_core.proofs.Appending.{own_applies, tick_applies}
 use Rattle.market_core.proofs.market.Market.keep.Goals as goal
 use Rattle.market_core.proofs.market.Market.keep.Goals.{in-Trade, in-Trade-2, in-Trade-3, in-Trade-4, in-Trade-5}
 

@@ -1,4 +1,4 @@
-use Rattle.market_core.proofs.Telling.{lists}
+use Rattle.market_core.proofs.Appending.{lists}
 use Rattle.market_core.proofs.market.Market.list.Goals as goal
 
 pub returns-clause-ok : goal.returns-clause-ok

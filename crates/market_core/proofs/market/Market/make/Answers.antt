@@ -1,5 +1,5 @@
 use Rattle.std.proofs.Common.{arith}
-use Rattle.market_core.proofs.Telling.{makes}
+use Rattle.market_core.proofs.Appending.{makes}
 use Rattle.market_core.proofs.market.Market.make.Goals as goal
 
 pub returns-clause-ok : goal.returns-clause-ok

@@ -2,7 +2,7 @@ use Rattle.std.proofs.Common.{◌≡◌, ◌≤◌, ◌++◌, length}
 use Rattle.std.specs.Prelude.{All}
 use Rattle.wire_in.specs.Laws.{IsSound}
 use Rattle.journal_core.specs.Layout.{frames_of}
-use Rattle.journal_core.proofs.front.read_frames.Given as goal
+use Rattle.journal_core.proofs.at_gate.read_frames.Given as goal
 
 abbrev pub invariant-loop-rest : goal.invariant-loop-rest
 invariant-loop-rest l = record {

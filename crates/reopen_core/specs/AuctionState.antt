@@ -12,27 +12,27 @@ use Rattle.reopen_core.specs.Trials.{first_round, round_after}
 use Rattle.reopen_core.specs.Calls.{Call, reference_in, indication_in, last_round}
 
 -- the auction reference, the last indication, and the last round
-pub record Kept : Type 0 where
+pub record AuctionState : Type 0 where
   pub reference : ℕ
   pub indication : Option Indication
   pub round : Round
 
-abbrev pub begun : ℕ → Origin → Bands → ℕ → Kept
+abbrev pub begun : ℕ → Origin → Bands → ℕ → AuctionState
 begun t origin bands reference =
     record { reference = auction_reference origin bands reference; indication = None; round = first_round t origin bands reference }
 
-abbrev pub with_indication : ℕ → Unmatched → Kept → Kept
+abbrev pub with_indication : ℕ → Unmatched → AuctionState → AuctionState
 with_indication price unmatched kept = record kept { indication = Some (record { price = price; unmatched = unmatched }) }
 
-abbrev pub with_trial : ℕ → Trial → Kept → Kept
+abbrev pub with_trial : ℕ → Trial → AuctionState → AuctionState
 with_trial t trial kept = record kept { round = round_after t trial kept.round }
 
 -- each round before the last took five minutes
 pub record IsTimely (round : Round) : Type 0 where
   pub rounds : round.number * seconds 300 ≤ round.moment
 
--- an auction stands for the calls so far
-pub record Stands (kept : Kept) (calls : List Call) : Type 0 where
+-- an auction represents the calls so far
+pub record Represents (kept : AuctionState) (calls : List Call) : Type 0 where
   pub reference : kept.reference ≡ reference_in calls
   pub indication : kept.indication ≡ indication_in calls
   pub round : Some kept.round ≡ last_round calls

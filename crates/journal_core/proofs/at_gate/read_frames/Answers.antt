@@ -3,8 +3,8 @@ use Rattle.std.proofs.lemmas.List.Elements.{All-push}
 use Rattle.std.proofs.lemmas.Grind.{common_steps}
 use Rattle.std.proofs.lemmas.Bool.Decides.{nat_tests}
 use Rattle.wire_in.specs.Laws.{IsSound}
-use Rattle.journal_core.proofs.FrontLemmas.{more_frames, not_full, read_on, no_frames, no_not, nothing_read}
-use Rattle.journal_core.proofs.front.read_frames.Goals as goal
+use Rattle.journal_core.proofs.AtGateLemmas.{more_frames, not_full, read_on, no_frames, no_not, nothing_read}
+use Rattle.journal_core.proofs.at_gate.read_frames.Goals as goal
 
 pub returns-then-is_full-clause-refused : goal.returns-then-is_full-clause-refused
 returns-then-is_full-clause-refused c fails batch valid is =

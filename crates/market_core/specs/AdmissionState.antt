@@ -12,10 +12,10 @@ use Rattle.wire_in.specs.Records.{moment_of, is_day, symbol_of}
 use Rattle.rulebook.specs.Admission.{last_day, names, is_listed_name}
 use Rattle.market_core.specs.Dated.{is_on, are_up_to}
 
--- The limit of records, how many were admitted, the last day, the moment of the last record, the names ever listed,
+-- The capacity of records, how many were admitted, the last day, the moment of the last record, the names ever listed,
 -- and for each of them the date on which it was last listed.
-pub record Admitted : Type 0 where
-  pub limit : ℕ
+pub record AdmissionState : Type 0 where
+  pub capacity : ℕ
   pub count : ℕ
   pub day : Option Day
   pub last : ℕ
@@ -28,7 +28,7 @@ last_moment [] = 0
 last_moment (x ∷ earlier) = moment_of x
 
 -- each kept value is the one that the list of admitted records gives
-pub record StandsFor (a : Admitted) (admitted : List Record) : Type 0 where
+pub record Represents (a : AdmissionState) (admitted : List Record) : Type 0 where
   pub count : a.count ≡ length admitted
   pub day : a.day ≡ last_day admitted
   pub last : a.last ≡ last_moment admitted
@@ -66,14 +66,14 @@ lacks_room directory (in_.Listing t name k l c) = is_full_for directory name
 lacks_room directory x = false
 
 -- the first refusal that applies
-abbrev pub refusal_of : Admitted → Record → Option Refusal
+abbrev pub refusal_of : AdmissionState → Record → Option Refusal
 refusal_of a x =
     if is_before_day a.day x then Some NoDay
     else if is_out_of_order a.day a.last x then Some OutOfOrder
     else if names_unlisted a.day a.dates x then Some UnknownSymbol
     else if lists_twice a.day a.dates a.directory x then Some AlreadyListed
     else if lacks_room a.directory x then Some DirectoryFull
-    else if nat_le a.limit a.count then Some JournalFull
+    else if nat_le a.capacity a.count then Some JournalFull
     else None
 
 -- What is kept after one more record.
@@ -100,13 +100,13 @@ directory_after directory x = directory
 abbrev pub dates_listed : Day → List Civil → Option ℕ → List Civil
 dates_listed day dates place = put_at dates place day.date
 
-abbrev pub dates_after : Admitted → Record → List Civil
+abbrev pub dates_after : AdmissionState → Record → List Civil
 dates_after a (in_.Listing t name k l c) = option_map_or (λ day. dates_listed day a.dates (position (bytes_eq name) a.directory)) a.day a.dates
 dates_after a x = a.dates
 
-abbrev pub admitted_with : Admitted → Record → Admitted
+abbrev pub admitted_with : AdmissionState → Record → AdmissionState
 admitted_with a x = record {
-  limit = a.limit;
+  capacity = a.capacity;
   count = a.count + 1;
   day = day_after a.day x;
   last = moment_of x;

@@ -1,5 +1,5 @@
-use Rattle.market_core.proofs.Alone.{each_step_alone, hears_its_view, speaks_alone}
-use Rattle.market_core.proofs.law.a_symbol_speaks_alone.Goals as goal
+use Rattle.market_core.proofs.Isolation.{each_step_alone, hears_its_view, speaks_alone}
+use Rattle.market_core.proofs.law.a_symbol_is_isolated.Goals as goal
 
 pub returns-clause-steps : goal.returns-clause-steps
 returns-clause-steps c = each_step_alone

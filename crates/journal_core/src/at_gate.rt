@@ -9,28 +9,28 @@ use crate::batch::Batch;
 use wire_core::u32_at;
 use wire_in::{Record, decode};
 
-/// What stands at the front of some bytes: a closed gate, a batch of so many bytes with its gate, or neither.
+/// What stands at the prefix of some bytes: a closed gate, a batch of so many bytes with its gate, or neither.
 #[derive(Clone, Copy, Debug, PartialEq, Eq)]
-pub enum Front {
+pub enum AtGate {
     Closed,
     Batch { len: usize },
     Damaged,
 }
 
-impl Front {
-    ghost use Rattle.journal_core.specs.Front.{IsFront};
+impl AtGate {
+    ghost use Rattle.journal_core.specs.AtGate.{IsAtGate};
 
-    /// Reads the front of some bytes. The records of a batch go into an empty one.
-    pub fn read(bytes: &[u8], into: &mut Batch) -> Front
+    /// Reads the prefix of some bytes. The records of a batch go into an empty one.
+    pub fn read(bytes: &[u8], into: &mut Batch) -> AtGate
         requires { into.old ≡ [] }
-        ensures { IsFront result bytes.now into.new }
+        ensures { IsAtGate result bytes.now into.new }
     {
         match bytes {
-            [] => Front::Damaged,
-            [0, ..] => Front::Closed,
+            [] => AtGate::Damaged,
+            [0, ..] => AtGate::Closed,
             [_, after @ ..] => match read_content(after, into) {
-                Some(len) => Front::Batch { len: len + 1 },
-                None => Front::Damaged,
+                Some(len) => AtGate::Batch { len: len + 1 },
+                None => AtGate::Damaged,
             },
         }
     }
@@ -74,7 +74,7 @@ fn read_frames(frames: &[u8], into: &mut Batch) -> bool
     !into.is_empty()
 }
 
-/// The record of the frame at the front, and what follows it; none exactly where no frame of a record stands there.
+/// The record of the frame at the prefix, and what follows it; none exactly where no frame of a record stands there.
 fn read_frame(frames: &[u8]) -> Option<(Record, &[u8])>
     requires { 0 < length frames.now }
     ensures { MatchOption result

@@ -22,25 +22,25 @@ abbrev pub view : List Record → ℕ → List Record
 view accepted s = filter (concerns accepted s) accepted
 
 -- in a view each listing is of the symbol
-abbrev pub alone : ℕ → Named
-alone s = record { symbol = s; own = λ name. true }
+abbrev pub isolated : ℕ → Named
+isolated s = record { symbol = s; own = λ name. true }
 
 abbrev pub is_listing : Record → Bool
 is_listing x = option_map_or (λ name. true) (name_of x) false
 
-abbrev pub is_listed_alone : List Record → Bool
-is_listed_alone v = list_any is_listing (since_day v)
+abbrev pub is_listed_in_view : List Record → Bool
+is_listed_in_view v = list_any is_listing (since_day v)
 
-abbrev pub step_alone : ℕ → Record → List Event → List Event
-step_alone s x h =
+abbrev pub isolated_step : ℕ → Record → List Event → List Event
+isolated_step s x h =
     if is_day x then h
-    else if is_tick x then (if is_listed_alone (records h) then evaluate x (alone s) (evaluate_market x h) else evaluate_market x h)
-    else evaluate_own x (alone s) h
+    else if is_tick x then (if is_listed_in_view (records h) then evaluate x (isolated s) (evaluate_market x h) else evaluate_market x h)
+    else evaluate_own x (isolated s) h
 
 -- the history of a view, with the market's messages and those of s
-abbrev pub history_alone : ℕ → List Record → List Event
-history_alone s [] = []
-history_alone s (x ∷ earlier) = step_alone s x (Accepted x ∷ history_alone s earlier)
+abbrev pub isolated_history : ℕ → List Record → List Event
+isolated_history s [] = []
+isolated_history s (x ∷ earlier) = isolated_step s x (Accepted x ∷ isolated_history s earlier)
 
 -- whether a message is the market's or of s
 abbrev pub is_for : ℕ → Message → Bool

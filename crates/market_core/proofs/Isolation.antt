@@ -18,10 +18,10 @@ use Rattle.breaker_core.specs.Levels.{ends, declares, percent_of}
 use Rattle.rulebook.specs.declared.event.Event.{Event}
 use Rattle.rulebook.specs.declared.event.Event.TheVariants.{Accepted, Published}
 use Rattle.rulebook.specs.Admission.{IsLawful, is_listed, names, verdict}
-use Rattle.rulebook.specs.Alone.{alone, concerns, for_symbol, history_alone, is_for, is_listed_alone, view}
+use Rattle.rulebook.specs.Isolation.{isolated, concerns, for_symbol, isolated_history, is_for, is_listed_in_view, view}
 use Rattle.rulebook.specs.Book.{all_obeyed, announced, evaluate, evaluate_all, evaluate_market, evaluate_own, history, ids_below, listed_ids, messages_of, named, newest_messages, symbol_rules, target}
 use Rattle.rulebook.specs.History.{messages, now, publish, records, step_messages, today}
-use Rattle.rulebook.specs.Market.{breaks, day_record, greatest_declared, greatest_in, halt_in, is_stopped, market_halt}
+use Rattle.rulebook.specs.Market.{breaks, day_record, greatest_declared, greatest_in, halt_in, is_market_halted, market_halt}
 use Rattle.rulebook.specs.Symbol.{terms, terms_in}
 use Rattle.rulebook.proofs.Histories.{evaluate-part, evaluate_market-part, evaluate_own-part, in_order, market_part, messages-publish, now-publish, now-today, own_part, part, publish-append, records-history, records-publish, step_messages-publish}
 use Rattle.rulebook.proofs.Ids.{listed-below, same_id}
@@ -33,15 +33,15 @@ use Rattle.symbol_core.specs.Silent.{IsOfOthers}
 use Rattle.symbol_core.proofs.Resting.{rests-new}
 use Rattle.symbol_core.proofs.Twins.{Alike, Twins, twins-day, twins-step}
 use Rattle.symbol_core.specs.Taken.{renewed}
-use Rattle.market_core.specs.Alone.{EachStepAlone, HearsItsView, SpeaksAlone, newest_alone}
+use Rattle.market_core.specs.Isolation.{EachStepIsIsolated, DependsOnItsView, IsIsolated, newest_isolated}
 use Rattle.market_core.specs.Applied.{Applies}
-use Rattle.market_core.specs.Kept.{Kept, StandsFor}
+use Rattle.market_core.specs.MarketState.{MarketState, Represents}
 use Rattle.market_core.specs.Ruled.{stamped}
 use Rattle.market_core.proofs.Applying.{declared, goes, not_early, open_day, step_tick}
 use Rattle.market_core.proofs.Resting.{rests-on, rests-publish, silent}
 use Rattle.market_core.proofs.Stepping.{agree-before, apart_ids, day-kept, opened, own_listing, own_said, own_step, ready}
 use Rattle.market_core.proofs.Ticking.{Ticked, before_id, history-before, history_to, listed-open, part_of-tick, parts-more, parts_to, ruled_history, said_if, said_if-own, tick_day, tick_name}
-use Rattle.market_core.proofs.Views.{NotFor, NotFor-append, filter-all, filter-none, for-stamped, market_for, none_by, not_for, others_for, own_for, records-alone, terms-alone, view-more}
+use Rattle.market_core.proofs.Views.{NotFor, NotFor-append, filter-all, filter-none, for-stamped, market_for, none_by, not_for, others_for, own_for, records-isolated, terms-isolated, view-more}
 
 -- alone, every name is the symbol's
 abbrev every : List ℕ → Bool
@@ -60,7 +60,7 @@ every_name (in_.Indication t i p u) = refl
 
 -- the symbol's own history
 abbrev solo : ℕ → List Record → List Event
-solo s A = history_alone s (view A s)
+solo s A = isolated_history s (view A s)
 
 abbrev opened_alone : Record → ℕ → List Record → List Event
 opened_alone x s A = Accepted x ∷ solo s A
@@ -77,7 +77,7 @@ record InStep (s : ℕ) (A : List Record) : Type 0 where
 -- and at one more record, what it publishes
 record Goes (s : ℕ) (x : Record) (A : List Record) : Type 0 where
   pub speaks : InStep s (x ∷ A)
-  pub newest : for_symbol s (newest_messages (x ∷ A)) ≡ newest_alone s (x ∷ A)
+  pub newest : for_symbol s (newest_messages (x ∷ A)) ≡ newest_isolated s (x ∷ A)
 
 on_both : {X Y : Type 0} (P : X → Y → Type 0) (a b : X) (c d : Y) → a ≡ b → c ≡ d → P b d → P a c
 on_both P a b c d one two p = subst (λ x. P x c) (sym one) (subst (P b) (sym two) p)
@@ -86,7 +86,7 @@ on_both P a b c d one two p = subst (λ x. P x c) (sym one) (subst (P b) (sym tw
 
 record Both (s : ℕ) (x : Record) (A : List Record) (ms ns : List Message) : Type 0 where
   pub whole : history (x ∷ A) ≡ publish ms (opened x A)
-  pub alone : history_alone s (x ∷ view A s) ≡ publish ns (opened_alone x s A)
+  pub isolated : isolated_history s (x ∷ view A s) ≡ publish ns (opened_alone x s A)
   pub same : filter (is_for s) ms ≡ ns
   pub twins : Twins (named (x ∷ A) s).own every s (publish ms (opened x A)) (publish ns (opened_alone x s A))
   pub halt : market_halt (publish ms (opened x A)) ≡ market_halt (publish ns (opened_alone x s A))
@@ -129,7 +129,7 @@ both_go s x A ms ns e so b =
     view_is = view-more x A s true e
 
     alone_is : solo s (x ∷ A) ≡ publish ns G
-    alone_is = ap (history_alone s) view_is ∙ b.alone
+    alone_is = ap (isolated_history s) view_is ∙ b.isolated
 
 -- What both have of the market at a record that isn't a day.
 
@@ -170,17 +170,17 @@ greatest-more (m ∷ ms) h g e = greatest-more ms (Published m ∷ h) (Published
 record MarketOf (s : ℕ) (x : Record) (A : List Record) (d : Day × ℕ) : Type 0 where
   pub no_day : is_day x ≡ false
   pub on : day_record A ≡ Some d
-  pub alone : day_record (records (solo s A)) ≡ Some d
+  pub isolated : day_record (records (solo s A)) ≡ Some d
   pub halt : market_halt (opened x A) ≡ market_halt (opened_alone x s A)
   pub greatest : greatest_declared (opened x A) ≡ greatest_declared (opened_alone x s A)
   pub later : now (history A) ≤ moment_of x
   pub later_alone : now (solo s A) ≤ moment_of x
   pub day : day_record (x ∷ A) ≡ day_record (x ∷ view A s)
 
-market_of : (limit s : ℕ) (x : Record) (A : List Record) → is_day x ≡ false → verdict limit A x ≡ None → InStep s A → (d : Day × ℕ) × MarketOf s x A d
-market_of limit s x A no_day passed so = by (open_day limit A x no_day passed) where
+market_of : (capacity s : ℕ) (x : Record) (A : List Record) → is_day x ≡ false → verdict capacity A x ≡ None → InStep s A → (d : Day × ℕ) × MarketOf s x A d
+market_of capacity s x A no_day passed so = by (open_day capacity A x no_day passed) where
   later : now (history A) ≤ moment_of x
-  later = in_order A x no_day (not_early limit A x passed)
+  later = in_order A x no_day (not_early capacity A x passed)
 
   by : (d : Day × ℕ) × (day_record A ≡ Some d) → (d : Day × ℕ) × MarketOf s x A d
   by (d, on) = (
@@ -188,7 +188,7 @@ market_of limit s x A no_day passed so = by (open_day limit A x no_day passed) w
     record {
       no_day = no_day;
       on = on;
-      alone = ap day_record (records-alone s (view A s)) ∙ sym so.day ∙ on;
+      isolated = ap day_record (records-isolated s (view A s)) ∙ sym so.day ∙ on;
       halt = halt-record x (history A) no_day ∙ so.halt ∙ sym (halt-record x (solo s A) no_day);
       greatest = greatest-record x (history A) no_day ∙ so.greatest ∙ sym (greatest-record x (solo s A) no_day);
       later = later;
@@ -198,36 +198,36 @@ market_of limit s x A no_day passed so = by (open_day limit A x no_day passed) w
   )
 
 -- the rules of the symbol alone, on a known day
-part-alone : (s : ℕ) (x : Record) (A : List Record) (d : Day × ℕ) (ms : List Message) → MarketOf s x A d
-    → part x (alone s) (publish ms (opened_alone x s A)) ≡ all_obeyed d.0 (alone s) x symbol_rules (publish ms (opened_alone x s A))
-part-alone s x A d ms k =
+part-isolated : (s : ℕ) (x : Record) (A : List Record) (d : Day × ℕ) (ms : List Message) → MarketOf s x A d
+    → part x (isolated s) (publish ms (opened_alone x s A)) ≡ all_obeyed d.0 (isolated s) x symbol_rules (publish ms (opened_alone x s A))
+part-isolated s x A d ms k =
     let h = publish ms (opened_alone x s A) in
-    ap (λ (o : Option (Day × ℕ)). option_map_or (λ day. all_obeyed day.0 (alone s) x symbol_rules h) o [])
-    (ap day_record (records-publish ms (opened_alone x s A)) ∙ day-kept x (records (solo s A)) k.no_day ∙ k.alone)
+    ap (λ (o : Option (Day × ℕ)). option_map_or (λ day. all_obeyed day.0 (isolated s) x symbol_rules h) o [])
+    (ap day_record (records-publish ms (opened_alone x s A)) ∙ day-kept x (records (solo s A)) k.no_day ∙ k.isolated)
 
 -- the kept state is ready for the record in both
 record Ready (s : ℕ) (x : Record) (A : List Record) (d : Day × ℕ) (others more : List Message) (held : Held) : Type 0 where
   pub market : MarketView
   pub day : market.day ≡ d.0
   pub whole : Opens (named (x ∷ A) s).own held market x others (history A)
-  pub alone : Opens every held market x more (solo s A)
+  pub isolated : Opens every held market x more (solo s A)
 
 both_ready : (s : ℕ) (x : Record) (A : List Record) (d : Day × ℕ) (others more : List Message) (t : Twins (named A s).own every s (history A) (solo s A)) → MarketOf s x A d → NoneBy s others → NoneBy s more
     → option_map_or (named (x ∷ A) s).own (name_of x) true ≡ true → market_halt (publish others (opened x A)) ≡ market_halt (publish more (opened_alone x s A))
     → Ready s x A d others more t.held
 both_ready s x A d others more t k none none_more name halt =
-    let market : MarketView = record { day = d.0; stopped = is_stopped (publish others (opened x A)) } in
+    let market : MarketView = record { day = d.0; stopped = is_market_halted (publish others (opened x A)) } in
     record {
       market = market;
       day = refl;
       whole = ready x A d market s t.held others (record { no_day = k.no_day; on = k.on; day = refl; stopped = refl; later = k.later }) none t.id name t.one;
-      alone = record {
+      isolated = record {
         rests = t.two;
         silent = silent t.held.kept.id more (subst (λ (i : ℕ). NoneBy i more) (sym t.id) none_more);
         no_day = k.no_day;
         name = every_name x;
         index = d.1;
-        day = k.alone;
+        day = k.isolated;
         stopped = ap is_some halt;
         later = k.later_alone;
       };
@@ -236,17 +236,17 @@ both_ready s x A d others more t k none none_more name halt =
 -- A record of the symbol.
 
 own_both : (s : ℕ) (x : Record) (A : List Record) (d : Day × ℕ) → is_tick x ≡ false → target (x ∷ A) x ≡ Some s → InStep s A → MarketOf s x A d
-    → Both s x A (own_part x (named (x ∷ A) s) (opened x A)) (own_part x (alone s) (opened_alone x s A))
+    → Both s x A (own_part x (named (x ∷ A) s) (opened x A)) (own_part x (isolated s) (opened_alone x s A))
 own_both s x A d no_tick own so k =
     record {
       whole = own_step x A s k.no_day no_tick own;
-      alone =
-          (λ i. cond (k.no_day i) G (cond (no_tick i) (cond (is_listed_alone (records G)) (evaluate x (alone s) (evaluate_market x G)) (evaluate_market x G)) (evaluate_own x (alone s) G)))
-          ∙ evaluate_own-part x (alone s) G;
+      isolated =
+          (λ i. cond (k.no_day i) G (cond (no_tick i) (cond (is_listed_in_view (records G)) (evaluate x (isolated s) (evaluate_market x G)) (evaluate_market x G)) (evaluate_own x (isolated s) G)))
+          ∙ evaluate_own-part x (isolated s) G;
       same = filter-all s ms (own_for s ms (own_part-by x (named (x ∷ A) s) H)) ∙ sym whole_is ∙ alike.same ∙ alone_is;
       twins = on_both (Twins (named (x ∷ A) s).own every s) (publish ms H) (publish whole_part H) (publish ns G) (publish alone_part G) (ap (λ (q : List Message). publish q H) (sym whole_is)) (ap (λ (q : List Message). publish q G) (sym alone_is)) alike.twins;
-      halt = market_halt-publish ms H (of_symbol s ms (own_part-by x (named (x ∷ A) s) H)) ∙ k.halt ∙ sym (market_halt-publish ns G (of_symbol s ns (own_part-by x (alone s) G)));
-      greatest = greatest-publish ms H (of_symbol s ms (own_part-by x (named (x ∷ A) s) H)) ∙ k.greatest ∙ sym (greatest-publish ns G (of_symbol s ns (own_part-by x (alone s) G)));
+      halt = market_halt-publish ms H (of_symbol s ms (own_part-by x (named (x ∷ A) s) H)) ∙ k.halt ∙ sym (market_halt-publish ns G (of_symbol s ns (own_part-by x (isolated s) G)));
+      greatest = greatest-publish ms H (of_symbol s ms (own_part-by x (named (x ∷ A) s) H)) ∙ k.greatest ∙ sym (greatest-publish ns G (of_symbol s ns (own_part-by x (isolated s) G)));
       day = k.day;
     }
   where
@@ -260,7 +260,7 @@ own_both s x A d no_tick own so k =
     ms = own_part x (named (x ∷ A) s) H
 
     ns : List Message
-    ns = own_part x (alone s) G
+    ns = own_part x (isolated s) G
 
     at : Ready s x A d [] [] so.twins.held
     at = both_ready s x A d [] [] so.twins k tt tt (own_listing x A s own) k.halt
@@ -269,19 +269,19 @@ own_both s x A d no_tick own so k =
     whole_part = part_of at.market.day (named (x ∷ A) s) x H
 
     alone_part : List Message
-    alone_part = part_of at.market.day (alone s) x G
+    alone_part = part_of at.market.day (isolated s) x G
 
     alike : Alike (named (x ∷ A) s).own every s whole_part alone_part H G
-    alike = twins-step (named (x ∷ A) s).own every at.market x s so.twins.held [] [] (history A) (solo s A) so.twins.id at.whole at.alone
+    alike = twins-step (named (x ∷ A) s).own every at.market x s so.twins.held [] [] (history A) (solo s A) so.twins.id at.whole at.isolated
 
     whole_is : whole_part ≡ ms
     whole_is = own_said x A d at.market s s (record { no_day = k.no_day; on = k.on; day = at.day; stopped = at.whole.stopped; later = k.later }) no_tick refl
 
     alone_is : alone_part ≡ ns
     alone_is =
-        (λ i. part_of (at.day i) (alone s) x G)
-        ∙ ap (λ (t : Bool). cond (t && not (is_some (terms G every))) [] (step_of d.0 (alone s) x G)) no_tick
-        ∙ ap (λ (q : List Message). announced (alone s) x G ++ q) (sym (part-alone s x A d (announced (alone s) x G) k))
+        (λ i. part_of (at.day i) (isolated s) x G)
+        ∙ ap (λ (t : Bool). cond (t && not (is_some (terms G every))) [] (step_of d.0 (isolated s) x G)) no_tick
+        ∙ ap (λ (q : List Message). announced (isolated s) x G ++ q) (sym (part-isolated s x A d (announced (isolated s) x G) k))
 
 -- A record of another symbol.
 
@@ -362,7 +362,7 @@ another_goes s x A d no_tick apart e so k a =
     view_is = view-more x A s false e
 
     alone_is : solo s (x ∷ A) ≡ solo s A
-    alone_is = ap (history_alone s) view_is
+    alone_is = ap (isolated_history s) view_is
 
 -- A clock or an index tick.
 
@@ -372,7 +372,7 @@ market_same s (in_.Clock t) A d tick so k = ap (λ o. cond (ends t o) (out.Marke
 market_same s (in_.IndexTick t value) A d tick so k =
     ap (λ (ms : List Message). cond (ends t (market_halt (history A))) (out.MarketResume ∷ []) [] ++ ms) (declared (ends t (market_halt (history A))) t value (history A) d (ap day_record (records-history A) ∙ k.on))
     ∙ (λ i. cond (ends t (so.halt i)) (out.MarketResume ∷ []) [] ++ breaks value (declares (cond (ends t (so.halt i)) None (so.halt i)) (so.greatest i) d.1 d.0 t value))
-    ∙ ap (λ (ms : List Message). cond (ends t (market_halt (solo s A))) (out.MarketResume ∷ []) [] ++ ms) (sym (declared (ends t (market_halt (solo s A))) t value (solo s A) d k.alone))
+    ∙ ap (λ (ms : List Message). cond (ends t (market_halt (solo s A))) (out.MarketResume ∷ []) [] ++ ms) (sym (declared (ends t (market_halt (solo s A))) t value (solo s A) d k.isolated))
 market_same s (in_.Day t day c) A d tick so k = absurd cc
 market_same s (in_.Listing t n q l c) A d tick so k = absurd cc
 market_same s (in_.Trade t i n p q f) A d tick so k = absurd cc
@@ -463,12 +463,12 @@ split n s x A d market tick count = by (nat_lt s n) refl where
 -- the symbol is evaluated at a tick in both, the same way
 tick_both : (s : ℕ) (x : Record) (A : List Record) (d : Day × ℕ) (n : ℕ) → n ≡ length (names (x ∷ A)) → is_tick x ≡ true → InStep s A → MarketOf s x A d
     → Split s x A d (parts_to n x A)
-    → Both s x A (before_id n x A) (market_part x (opened_alone x s A) ++ said_if (is_listed_alone (records (opened_alone x s A))) d.0 (alone s) x (publish (market_part x (opened_alone x s A)) (opened_alone x s A)))
+    → Both s x A (before_id n x A) (market_part x (opened_alone x s A) ++ said_if (is_listed_in_view (records (opened_alone x s A))) d.0 (isolated s) x (publish (market_part x (opened_alone x s A)) (opened_alone x s A)))
 tick_both s x A d n count tick so k sp =
     record {
       whole = step_tick x A n k.no_day tick count;
-      alone =
-          (λ i. cond (k.no_day i) G (cond (tick i) (cond listed (evaluate x (alone s) (evaluate_market x G)) (evaluate_market x G)) (evaluate_own x (alone s) G)))
+      isolated =
+          (λ i. cond (k.no_day i) G (cond (tick i) (cond listed (evaluate x (isolated s) (evaluate_market x G)) (evaluate_market x G)) (evaluate_own x (isolated s) G)))
           ∙ alone_step listed;
       same = filter-append (is_for s) mp (parts_to n x A) ∙ (λ i. (filter-all s mp (market_for s mp (market_part-by x H)) ∙ market_is) i ++ (mine_filtered ∙ sym mine_is ∙ alike.same ∙ nine_is) i);
       twins = record {
@@ -527,10 +527,10 @@ tick_both s x A d n count tick so k sp =
     whole_part = part_of at.market.day (named (x ∷ A) s) x (publish others H)
 
     alone_part : List Message
-    alone_part = part_of at.market.day (alone s) x (publish np G)
+    alone_part = part_of at.market.day (isolated s) x (publish np G)
 
     alike : Alike own every s whole_part alone_part (publish others H) (publish np G)
-    alike = twins-step own every at.market x s so.twins.held others np (history A) (solo s A) so.twins.id at.whole at.alone
+    alike = twins-step own every at.market x s so.twins.held others np (history A) (solo s A) so.twins.id at.whole at.isolated
 
     mine : List Message
     mine = mine_after s x A d sp.before
@@ -542,27 +542,27 @@ tick_both s x A d n count tick so k sp =
         ∙ ap (λ (h : List Event). said_if (is_listed (x ∷ A) s) d.0 (named (x ∷ A) s) x h) others_is
 
     listed : Bool
-    listed = is_listed_alone (records G)
+    listed = is_listed_in_view (records G)
 
     nine : List Message
-    nine = said_if listed d.0 (alone s) x (publish np G)
+    nine = said_if listed d.0 (isolated s) x (publish np G)
 
     nine_is : alone_part ≡ nine
     nine_is =
-        (λ i. part_of (at.day i) (alone s) x (publish np G))
-        ∙ part_of-tick d.0 (alone s) x (publish np G) listed tick (ap (λ (v : List Record). is_some (terms_in every v)) (records-publish np G) ∙ terms-alone (records G))
+        (λ i. part_of (at.day i) (isolated s) x (publish np G))
+        ∙ part_of-tick d.0 (isolated s) x (publish np G) listed tick (ap (λ (v : List Record). is_some (terms_in every v)) (records-publish np G) ∙ terms-isolated (records G))
 
     nine_symbols : AllOfSymbols nine
-    nine_symbols = of_symbol s nine (said_if-own listed d.0 (alone s) x (publish np G))
+    nine_symbols = of_symbol s nine (said_if-own listed d.0 (isolated s) x (publish np G))
 
     market_step : evaluate_market x G ≡ publish np G
     market_step = evaluate_market-part x G
 
-    alone_step : (b : Bool) → cond b (evaluate x (alone s) (evaluate_market x G)) (evaluate_market x G) ≡ publish (np ++ said_if b d.0 (alone s) x (publish np G)) G
+    alone_step : (b : Bool) → cond b (evaluate x (isolated s) (evaluate_market x G)) (evaluate_market x G) ≡ publish (np ++ said_if b d.0 (isolated s) x (publish np G)) G
     alone_step true =
-        ap (evaluate x (alone s)) market_step ∙ evaluate-part x (alone s) (publish np G)
-        ∙ ap (λ (ms : List Message). publish ms (publish np G)) (part-alone s x A d np k)
-        ∙ sym (publish-append np (all_obeyed d.0 (alone s) x symbol_rules (publish np G)) G)
+        ap (evaluate x (isolated s)) market_step ∙ evaluate-part x (isolated s) (publish np G)
+        ∙ ap (λ (ms : List Message). publish ms (publish np G)) (part-isolated s x A d np k)
+        ∙ sym (publish-append np (all_obeyed d.0 (isolated s) x symbol_rules (publish np G)) G)
     alone_step false = market_step ∙ ap (λ (ms : List Message). publish ms G) (sym (append-nil np))
 
     mine_filtered : filter (is_for s) (parts_to n x A) ≡ mine
@@ -581,14 +581,14 @@ tick_both s x A d n count tick so k sp =
         ∙ sym (publish-append others (mine ++ sp.after) H)
         ∙ ap (λ (ms : List Message). publish ms H) (append_assoc mp sp.before (mine ++ sp.after) ∙ ap (λ (ms : List Message). mp ++ ms) (sym sp.parts))
 
-tick_goes_alone : (limit s : ℕ) (x : Record) (A : List Record) → is_tick x ≡ true → concerns (x ∷ A) s x ≡ true → verdict limit A x ≡ None → InStep s A → Goes s x A
-tick_goes_alone limit s x A tick e passed so = by (market_of limit s x A (tick_day x tick) passed so) where
+tick_goes_alone : (capacity s : ℕ) (x : Record) (A : List Record) → is_tick x ≡ true → concerns (x ∷ A) s x ≡ true → verdict capacity A x ≡ None → InStep s A → Goes s x A
+tick_goes_alone capacity s x A tick e passed so = by (market_of capacity s x A (tick_day x tick) passed so) where
   n : ℕ
   n = length (names (x ∷ A))
 
   by : (d : Day × ℕ) × MarketOf s x A d → Goes s x A
   by (d, k) =
-      let market : MarketView = record { day = d.0; stopped = is_stopped (ruled_history x A) } in
+      let market : MarketView = record { day = d.0; stopped = is_market_halted (ruled_history x A) } in
       let sp = split n s x A d market (record { tick = tick; on = k.on; day = refl; stopped = refl; later = k.later }) refl in
       both_go s x A (before_id n x A) _ e so (tick_both s x A d n refl tick so k sp)
 
@@ -597,8 +597,8 @@ tick_goes_alone limit s x A tick e passed so = by (market_of limit s x A (tick_d
 own_concerns : (A : List Record) (x : Record) (s : ℕ) (b : Bool) → is_day x ≡ false → is_tick x ≡ false → option_map_or (λ id. id == s) (target (x ∷ A) x) false ≡ b → concerns (x ∷ A) s x ≡ b
 own_concerns A x s b no_day no_tick e = (λ i. no_day i || no_tick i || e i)
 
-own_goes_alone : (limit s : ℕ) (x : Record) (A : List Record) → is_day x ≡ false → is_tick x ≡ false → verdict limit A x ≡ None → InStep s A → Goes s x A
-own_goes_alone limit s x A no_day no_tick passed so = by (market_of limit s x A no_day passed so) where
+own_goes_alone : (capacity s : ℕ) (x : Record) (A : List Record) → is_day x ≡ false → is_tick x ≡ false → verdict capacity A x ≡ None → InStep s A → Goes s x A
+own_goes_alone capacity s x A no_day no_tick passed so = by (market_of capacity s x A no_day passed so) where
   one : (d : Day × ℕ) → MarketOf s x A d → (o : Option ℕ) → target (x ∷ A) x ≡ o → (b : Bool) → option_map_or (λ id. id == s) o false ≡ b → Goes s x A
   one d k o e false apart =
       let test = ap (λ (q : Option ℕ). option_map_or (λ id. id == s) q false) e ∙ apart in
@@ -607,7 +607,7 @@ own_goes_alone limit s x A no_day no_tick passed so = by (market_of limit s x A 
   one d k (Some i) e true is =
       let own = e ∙ ap (λ (j : ℕ). Some j) (same_id i s is) in
       let test = ap (λ (q : Option ℕ). option_map_or (λ id. id == s) q false) e ∙ is in
-      both_go s x A (own_part x (named (x ∷ A) s) (opened x A)) (own_part x (alone s) (opened_alone x s A)) (own_concerns A x s true no_day no_tick test) so (own_both s x A d no_tick own so k)
+      both_go s x A (own_part x (named (x ∷ A) s) (opened x A)) (own_part x (isolated s) (opened_alone x s A)) (own_concerns A x s true no_day no_tick test) so (own_both s x A d no_tick own so k)
 
   by : (d : Day × ℕ) × MarketOf s x A d → Goes s x A
   by (d, k) = one d k (target (x ∷ A) x) refl (option_map_or (λ id. id == s) (target (x ∷ A) x) false) refl
@@ -618,7 +618,7 @@ day_goes_alone s t day c A so =
     both_go s x A [] [] refl so
     (record {
       whole = refl;
-      alone = refl;
+      isolated = refl;
       same = refl;
       twins = twins-day (named A s).own every s x (history A) (solo s A) refl so.twins;
       halt = refl;
@@ -626,19 +626,19 @@ day_goes_alone s t day c A so =
       day = refl;
     })
 
-one_goes : (limit s : ℕ) (x : Record) (A : List Record) → verdict limit A x ≡ None → InStep s A → Goes s x A
-one_goes limit s (in_.Day t day c) A passed so = day_goes_alone s t day c A so
-one_goes limit s (in_.Clock t) A passed so = tick_goes_alone limit s (in_.Clock t) A refl refl passed so
-one_goes limit s (in_.IndexTick t value) A passed so = tick_goes_alone limit s (in_.IndexTick t value) A refl refl passed so
-one_goes limit s (in_.Listing t n k l c) A passed so = own_goes_alone limit s (in_.Listing t n k l c) A refl refl passed so
-one_goes limit s (in_.Trade t i n p q f) A passed so = own_goes_alone limit s (in_.Trade t i n p q f) A refl refl passed so
-one_goes limit s (in_.Cancel t i n) A passed so = own_goes_alone limit s (in_.Cancel t i n) A refl refl passed so
-one_goes limit s (in_.Quote t i b o y z) A passed so = own_goes_alone limit s (in_.Quote t i b o y z) A refl refl passed so
-one_goes limit s (in_.Notice t i k) A passed so = own_goes_alone limit s (in_.Notice t i k) A refl refl passed so
-one_goes limit s (in_.Indication t i p u) A passed so = own_goes_alone limit s (in_.Indication t i p u) A refl refl passed so
+one_goes : (capacity s : ℕ) (x : Record) (A : List Record) → verdict capacity A x ≡ None → InStep s A → Goes s x A
+one_goes capacity s (in_.Day t day c) A passed so = day_goes_alone s t day c A so
+one_goes capacity s (in_.Clock t) A passed so = tick_goes_alone capacity s (in_.Clock t) A refl refl passed so
+one_goes capacity s (in_.IndexTick t value) A passed so = tick_goes_alone capacity s (in_.IndexTick t value) A refl refl passed so
+one_goes capacity s (in_.Listing t n k l c) A passed so = own_goes_alone capacity s (in_.Listing t n k l c) A refl refl passed so
+one_goes capacity s (in_.Trade t i n p q f) A passed so = own_goes_alone capacity s (in_.Trade t i n p q f) A refl refl passed so
+one_goes capacity s (in_.Cancel t i n) A passed so = own_goes_alone capacity s (in_.Cancel t i n) A refl refl passed so
+one_goes capacity s (in_.Quote t i b o y z) A passed so = own_goes_alone capacity s (in_.Quote t i b o y z) A refl refl passed so
+one_goes capacity s (in_.Notice t i k) A passed so = own_goes_alone capacity s (in_.Notice t i k) A refl refl passed so
+one_goes capacity s (in_.Indication t i p u) A passed so = own_goes_alone capacity s (in_.Indication t i p u) A refl refl passed so
 
-all_go : (limit s : ℕ) (A : List Record) → IsLawful limit A → InStep s A
-all_go limit s [] lawful =
+all_go : (capacity s : ℕ) (A : List Record) → IsLawful capacity A → InStep s A
+all_go capacity s [] lawful =
     record {
       twins = record { held = record { kept = renewed s false; deals = [] }; id = refl; one = rests-new (named [] s).own s [] tt; two = rests-new every s [] tt };
       halt = refl;
@@ -647,25 +647,25 @@ all_go limit s [] lawful =
       later = omega arith;
       said = refl;
     }
-all_go limit s (x ∷ A) lawful = (one_goes limit s x A lawful.0 (all_go limit s A lawful.1)).speaks
+all_go capacity s (x ∷ A) lawful = (one_goes capacity s x A lawful.0 (all_go capacity s A lawful.1)).speaks
 
-pub speaks_alone : SpeaksAlone
-speaks_alone limit accepted s lawful = (all_go limit s accepted lawful).said
+pub speaks_alone : IsIsolated
+speaks_alone capacity accepted s lawful = (all_go capacity s accepted lawful).said
 
-pub each_step_alone : EachStepAlone
-each_step_alone limit [] s lawful = refl
-each_step_alone limit (x ∷ A) s lawful = (one_goes limit s x A lawful.0 (all_go limit s A lawful.1)).newest
+pub each_step_alone : EachStepIsIsolated
+each_step_alone capacity [] s lawful = refl
+each_step_alone capacity (x ∷ A) s lawful = (one_goes capacity s x A lawful.0 (all_go capacity s A lawful.1)).newest
 
 -- a symbol's messages depend on its view alone
-pub hears_its_view : HearsItsView
-hears_its_view limit a b s first second same =
-    speaks_alone limit a s first ∙ ap (λ (v : List Record). messages (history_alone s v)) same ∙ sym (speaks_alone limit b s second)
+pub hears_its_view : DependsOnItsView
+hears_its_view capacity a b s first second same =
+    speaks_alone capacity a s first ∙ ap (λ (v : List Record). messages (isolated_history s v)) same ∙ sym (speaks_alone capacity b s second)
 
 -- the same of a call that may have found no memory
-pub call_alone : (r : Result (Unit {0}) NoMemory) (limit : ℕ) (x : Record) (A : List Record) (s : ℕ) (old new : Kept) (before after : List Stamped) → StandsFor old A → IsLawful limit (x ∷ A)
-    → OnOk r (Applies x old new before after) → OnOk r (for_symbol s after ≡ for_symbol s before ++ newest_alone s (x ∷ A))
-call_alone (Ok y) limit x A s old new before after stands lawful a =
-    ap (for_symbol s) (goes limit x A old new before after stands lawful.0 a).0
+pub call_alone : (r : Result (Unit {0}) NoMemory) (capacity : ℕ) (x : Record) (A : List Record) (s : ℕ) (old new : MarketState) (before after : List Stamped) → Represents old A → IsLawful capacity (x ∷ A)
+    → OnOk r (Applies x old new before after) → OnOk r (for_symbol s after ≡ for_symbol s before ++ newest_isolated s (x ∷ A))
+call_alone (Ok y) capacity x A s old new before after stands lawful a =
+    ap (for_symbol s) (goes capacity x A old new before after stands lawful.0 a).0
     ∙ filter-append _ before (newest_messages (x ∷ A))
-    ∙ ap (λ (ms : List Stamped). for_symbol s before ++ ms) (each_step_alone limit (x ∷ A) s lawful)
-call_alone (Err y) limit x A s old new before after stands lawful a = tt
+    ∙ ap (λ (ms : List Stamped). for_symbol s before ++ ms) (each_step_alone capacity (x ∷ A) s lawful)
+call_alone (Err y) capacity x A s old new before after stands lawful a = tt

@@ -1,8 +1,8 @@
 use Rattle.std.proofs.Common.{◌≡◌, ℕ, length, take, drop, refl, sym, ap, ◌∙◌, arith, rules}
 use Rattle.journal_core.specs.Layout.{frames_of}
-use Rattle.journal_core.proofs.FrontLemmas.{content_read, read_content}
-use Rattle.journal_core.proofs.front.read_content.Goals.{then-bytes-end-via-then-bytes-end, then-bytes-end-via-else-bytes-end+then-not-read_frames}
-use Rattle.journal_core.proofs.front.read_content.Goals as goal
+use Rattle.journal_core.proofs.AtGateLemmas.{content_read, read_content}
+use Rattle.journal_core.proofs.at_gate.read_content.Goals.{then-bytes-end-via-then-bytes-end, then-bytes-end-via-else-bytes-end+then-not-read_frames}
+use Rattle.journal_core.proofs.at_gate.read_content.Goals as goal
 
 pub returns-then-bytes-end : goal.returns-then-bytes-end
 returns-then-bytes-end c batch rest valid is =

@@ -1,8 +1,8 @@
 -- What stands at the place of a gate.
 use Rattle.std.specs.Prelude.{◌≡◌, ◌≢◌, ℕ, ◌+◌, ◌≤◌, List, [], ◌∷◌, length, drop}
 use Rattle.wire_in.specs.declared.record.Record.{Record}
-use Rattle.journal_core.specs.declared.front.Front.{Front}
-use Rattle.journal_core.specs.declared.front.Front.TheVariants.{Closed, Batch, Damaged}
+use Rattle.journal_core.specs.declared.at_gate.AtGate.{AtGate}
+use Rattle.journal_core.specs.declared.at_gate.AtGate.TheVariants.{Closed, Batch, Damaged}
 use Rattle.journal_core.specs.Layout.{Opens, frames_of}
 
 -- the bytes begin neither with a closed gate nor with a batch
@@ -11,7 +11,7 @@ pub record IsDamaged (bytes : List ℕ) : Type 0 where
   pub no_batch : (batch : List Record) (rest : List ℕ) → ¬ Opens batch bytes rest
 
 -- the bytes begin with a closed gate, or with a batch of these records and of so many bytes, or with neither
-abbrev pub IsFront : Front → List ℕ → List Record → Type 0
-IsFront Closed bytes records = (records ≡ []) × ((rest : List ℕ) × (bytes ≡ 0 ∷ rest))
-IsFront (Batch len) bytes records = Opens records bytes (drop len bytes) × (len ≡ length (frames_of records) + 5) × (len ≤ length bytes)
-IsFront Damaged bytes records = IsDamaged bytes
+abbrev pub IsAtGate : AtGate → List ℕ → List Record → Type 0
+IsAtGate Closed bytes records = (records ≡ []) × ((rest : List ℕ) × (bytes ≡ 0 ∷ rest))
+IsAtGate (Batch len) bytes records = Opens records bytes (drop len bytes) × (len ≡ length (frames_of records) + 5) × (len ≤ length bytes)
+IsAtGate Damaged bytes records = IsDamaged bytes

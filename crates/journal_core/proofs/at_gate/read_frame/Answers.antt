@@ -1,8 +1,8 @@
 use Rattle.std.proofs.Common.{ℕ, ◌+◌, ◌++◌, List, get_or, sym, ap, ◌∙◌, arith}
 use Rattle.std.proofs.lemmas.List.{take_rest}
 use Rattle.journal_core.specs.Layout.{frame_of}
-use Rattle.journal_core.proofs.FrontLemmas.{frame_read}
-use Rattle.journal_core.proofs.front.read_frame.Goals as goal
+use Rattle.journal_core.proofs.AtGateLemmas.{frame_read}
+use Rattle.journal_core.proofs.at_gate.read_frame.Goals as goal
 
 pub returns : goal.returns
 returns c =

@@ -6,18 +6,18 @@ use Rattle.refprice_core.specs.declared.reference.Priced.{Priced}
 use Rattle.refprice_core.specs.Runs.{Call, events, begun_in, last_in}
 
 -- the moment at which the run began, and its last adoption
-pub record Kept : Type 0 where
+pub record ReferenceState : Type 0 where
   pub begun : ℕ
   pub last : Option Adoption
 
-abbrev pub with_price : ℕ → Kept → Priced → Kept
+abbrev pub with_price : ℕ → ReferenceState → Priced → ReferenceState
 with_price t kept priced = record kept { last = Some (record { moment = t; price = priced.price }) }
 
 -- a new reference price, or none, is adopted at t
-abbrev pub with_adopted : ℕ → Option Priced → Kept → Kept
+abbrev pub with_adopted : ℕ → Option Priced → ReferenceState → ReferenceState
 with_adopted t priced kept = option_map_or (with_price t kept) priced kept
 
--- a reference stands for the calls so far
-pub record Stands (kept : Kept) (calls : List Call) : Type 0 where
+-- a reference represents the calls so far
+pub record Represents (kept : ReferenceState) (calls : List Call) : Type 0 where
   pub begun : kept.begun ≡ begun_in (events calls)
   pub last : kept.last ≡ last_in (events calls)

@@ -1,11 +1,11 @@
--- A host that tells nothing.
+-- A host that exposes nothing.
 use Rattle.std.specs.Prelude.{◌≡◌, ℕ, List, Option, Some, None}
 use Rattle.std.proofs.Common.{subst}
 use Rattle.host_core.specs.Outside.{Outside}
 
 -- nothing but the counts of faults
-abbrev pub silent : ℕ → ℕ → ℕ → Outside
-silent read_faults send_faults disk_faults = record {
+abbrev pub opaque : ℕ → ℕ → ℕ → Outside
+opaque read_faults send_faults disk_faults = record {
   input = None;
   sent = None;
   disk = None;
@@ -20,6 +20,6 @@ abbrev IsUntold : Option (List ℕ) → Type 0
 IsUntold None = Unit {0}
 IsUntold (Some bytes) = ⊥
 
--- what is not told is no bytes
-pub untold : (disk : List ℕ) → None ≡ Some disk → ⊥
-untold disk is = subst IsUntold is tt
+-- what is not known is no bytes
+pub unknown : (disk : List ℕ) → None ≡ Some disk → ⊥
+unknown disk is = subst IsUntold is tt

@@ -15,9 +15,9 @@ use Rattle.rulebook.specs.declared.event.Event.{Event}
 use Rattle.symbol_core.specs.Rests.{Held, Rests}
 use Rattle.symbol_core.specs.Silent.{SaysNothing}
 use Rattle.market_core.specs.declared.market.Today.{Today}
-use Rattle.market_core.specs.Applied.{Tells, TellsBelow, OneEvaluated, Evaluated, Ticks, Applies, Finds, Lists, OnToday}
-use Rattle.market_core.specs.Admitted.{added}
-use Rattle.market_core.specs.Kept.{Kept}
+use Rattle.market_core.specs.Applied.{Appends, AppendsBelow, OneEvaluated, Evaluated, Ticks, Applies, Finds, Lists, OnToday}
+use Rattle.market_core.specs.AdmissionState.{added}
+use Rattle.market_core.specs.MarketState.{MarketState}
 use Rattle.market_core.specs.Ruled.{view_of}
 
 pub get-set_other : {X : Type 0} (xs : List X) (i : ℕ) (v : X) (k : ℕ) → k ≢ i → slice_get (slice_set xs i v) k ≡ slice_get xs k
@@ -33,50 +33,50 @@ get-set_same (x ∷ xs) zero v lt = refl
 get-set_same (x ∷ xs) (suc i) v lt = get-set_same xs i v (omega arith)
 
 below_set : (n : ℕ) (market : MarketView) (x : Record) (old new : List Held) (i : ℕ) (v : Held) (before after : List Stamped) → n ≤ i
-    → TellsBelow n market x old new before after → TellsBelow n market x old (slice_set new i v) before after
+    → AppendsBelow n market x old new before after → AppendsBelow n market x old (slice_set new i v) before after
 below_set zero market x old new i v before after le t = t
 below_set (suc n) market x old new i v before after le (middle, earlier, last) =
-    (middle, below_set n market x old new i v before middle (omega arith) earlier, record { was = last.was; is = last.is; found = last.found; left = get-set_other new i v n (omega arith) ∙ last.left; tells = last.tells })
+    (middle, below_set n market x old new i v before middle (omega arith) earlier, record { was = last.was; is = last.is; found = last.found; left = get-set_other new i v n (omega arith) ∙ last.left; appends = last.appends })
 
 -- the next symbol, where the code has it as the element at its place
 pub one_more : (r : Result (Unit {0}) NoMemory) (y : Unit {0}) (i : ℕ) (market : MarketView) (x : Record) (old new : List Held) (d is : Held) (before middle after : List Stamped) → i < length new
-    → ((k : ℕ) → i ≤ k → slice_get new k ≡ slice_get old k) → TellsBelow i market x old new before middle
-    → r ≡ Ok y → OnOk r (Tells market x (get_or new i d) is middle after) → TellsBelow (i + 1) market x old (slice_set new i is) before after
-one_more (Ok u) y i market x old new d is before middle after lt later earlier e tells =
+    → ((k : ℕ) → i ≤ k → slice_get new k ≡ slice_get old k) → AppendsBelow i market x old new before middle
+    → r ≡ Ok y → OnOk r (Appends market x (get_or new i d) is middle after) → AppendsBelow (i + 1) market x old (slice_set new i is) before after
+one_more (Ok u) y i market x old new d is before middle after lt later earlier e appends =
     let here : slice_get new i ≡ Some (get_or new i d) = slice_get-get_or new i d lt in
-    subst (λ (n : ℕ). TellsBelow n market x old (slice_set new i is) before after) (sym (add-one i))
-    (middle, below_set i market x old new i is before middle (omega arith) earlier, record { was = get_or new i d; is = is; found = sym (later i (omega arith)) ∙ here; left = get-set_same new i is lt; tells = tells })
-one_more (Err u) y i market x old new d is before middle after lt later earlier e tells = absurd cc
+    subst (λ (n : ℕ). AppendsBelow n market x old (slice_set new i is) before after) (sym (add-one i))
+    (middle, below_set i market x old new i is before middle (omega arith) earlier, record { was = get_or new i d; is = is; found = sym (later i (omega arith)) ∙ here; left = get-set_same new i is lt; appends = appends })
+one_more (Err u) y i market x old new d is before middle after lt later earlier e appends = absurd cc
 
 pub later_more : (i : ℕ) (old new : List Held) (is : Held) → ((k : ℕ) → i ≤ k → slice_get new k ≡ slice_get old k) → (k : ℕ) → i + 1 ≤ k → slice_get (slice_set new i is) k ≡ slice_get old k
 later_more i old new is later k le = get-set_other new i is k (omega arith) ∙ later k (omega arith)
 
 -- one symbol of a market is evaluated, and the others are let alone
-pub one_evaluated : (r : Result (Unit {0}) NoMemory) (s : ℕ) (x : Record) (old : Kept) (directory : List (List ℕ)) (on : Option Today) (today : Today) (symbols : List Held) (market : MarketView)
+pub one_evaluated : (r : Result (Unit {0}) NoMemory) (s : ℕ) (x : Record) (old : MarketState) (directory : List (List ℕ)) (on : Option Today) (today : Today) (symbols : List Held) (market : MarketView)
     (was is : Held) (begun before after : List Stamped) → record { directory = directory; today = on; symbols = symbols } ≡ old → on ≡ Some today → market ≡ view_of today → s < length symbols
-    → was ≡ get_or symbols s was → begun ≡ before → OnOk r (Tells market x was is begun after)
+    → was ≡ get_or symbols s was → begun ≡ before → OnOk r (Appends market x was is begun after)
     → OnOk r (Evaluated s x old (record { directory = directory; today = on; symbols = slice_set symbols s is }) before after)
-one_evaluated (Ok u) s x old directory on today symbols market was is begun before after seen day view lt item unsaid tells =
-    subst (λ (k : Kept). Evaluated s x k (record { directory = directory; today = on; symbols = slice_set symbols s is }) before after) seen
+one_evaluated (Ok u) s x old directory on today symbols market was is begun before after seen day view lt item unsaid appends =
+    subst (λ (k : MarketState). Evaluated s x k (record { directory = directory; today = on; symbols = slice_set symbols s is }) before after) seen
     (λ now e within.
     let same : today ≡ now = cc in
     record {
       directory = refl;
       today_is = refl;
       count = length-set symbols s is;
-      tells = record {
+      appends = record {
         was = was;
         is = is;
         found = slice_get_read symbols (length symbols) s was refl lt item;
         left = get-set_same symbols s is lt;
-        tells = subst (λ (m : MarketView). Tells m x was is before after) (view ∙ ap view_of same) (subst (λ (b : List Stamped). Tells market x was is b after) unsaid tells);
+        appends = subst (λ (m : MarketView). Appends m x was is before after) (view ∙ ap view_of same) (subst (λ (b : List Stamped). Appends market x was is b after) unsaid appends);
       };
       others = λ k ne. get-set_other symbols s is k ne;
     })
-one_evaluated (Err u) s x old directory on today symbols market was is begun before after seen day view lt item unsaid tells = tt
+one_evaluated (Err u) s x old directory on today symbols market was is begun before after seen day view lt item unsaid appends = tt
 
 -- a record that names its symbol by an id is applied to that
-pub own_applies : (r : Result (Unit {0}) NoMemory) (s : ℕ) (x : Record) (old new : Kept) (before after : List Stamped) → symbol_of x ≡ Some s
+pub own_applies : (r : Result (Unit {0}) NoMemory) (s : ℕ) (x : Record) (old new : MarketState) (before after : List Stamped) → symbol_of x ≡ Some s
     → OnOk r (Evaluated s x old new before after) → OnOk r (Applies x old new before after)
 own_applies (Err u) s x old new before after e one = tt
 own_applies (Ok u) s (in_.Day t d c) old new before after e one = absurd cc
@@ -89,7 +89,7 @@ own_applies (Ok u) s (in_.Quote t i b o y z) old new before after e one = let sa
 own_applies (Ok u) s (in_.Notice t i k) old new before after e one = let same : s ≡ i = cc in subst (λ (j : ℕ). Evaluated j (in_.Notice t i k) old new before after) same one
 own_applies (Ok u) s (in_.Indication t i p w) old new before after e one = let same : s ≡ i = cc in subst (λ (k : ℕ). Evaluated k (in_.Indication t i p w) old new before after) same one
 
-pub tick_applies : (r : Result (Unit {0}) NoMemory) (x : Record) (old new : Kept) (before after : List Stamped) → is_tick x ≡ true → OnOk r (Ticks x old new before after) → OnOk r (Applies x old new before after)
+pub tick_applies : (r : Result (Unit {0}) NoMemory) (x : Record) (old new : MarketState) (before after : List Stamped) → is_tick x ≡ true → OnOk r (Ticks x old new before after) → OnOk r (Applies x old new before after)
 tick_applies (Err u) x old new before after e ticks = tt
 tick_applies (Ok u) (in_.IndexTick t v) old new before after e ticks = ticks
 tick_applies (Ok u) (in_.Clock t) old new before after e ticks = ticks
@@ -102,14 +102,14 @@ tick_applies (Ok u) (in_.Notice t i k) old new before after e ticks = absurd cc
 tick_applies (Ok u) (in_.Indication t i p w) old new before after e ticks = absurd cc
 
 -- the id that is found for a name is that of a symbol
-pub id_within : (name : List ℕ) (s : ℕ) (old new : Kept) → Finds name s old new → s < length new.symbols
+pub id_within : (name : List ℕ) (s : ℕ) (old new : MarketState) → Finds name s old new → s < length new.symbols
 id_within name s old new f = by (position (bytes_eq name) old.directory) refl f.id (f.count ∙ ap length f.directory) where
   by : (o : Option ℕ) → position (bytes_eq name) old.directory ≡ o → s ≡ unwrap_or o (length old.directory) → length new.symbols ≡ length (added old.directory o name) → s < length new.symbols
   by None e id count = omega (arith, length-append old.directory (name ∷ []))
   by (Some i) e id count = let at = (position-Some (bytes_eq name) old.directory i [] e).0 in omega arith
 
 -- and the symbol of a listed name is evaluated
-pub lists : (r : Result (Unit {0}) NoMemory) (y : Unit {0}) (name : List ℕ) (s : ℕ) (x : Record) (old middle new : Kept) (begun before after : List Stamped) → begun ≡ before → r ≡ Ok y
+pub lists : (r : Result (Unit {0}) NoMemory) (y : Unit {0}) (name : List ℕ) (s : ℕ) (x : Record) (old middle new : MarketState) (begun before after : List Stamped) → begun ≡ before → r ≡ Ok y
     → Finds name s old middle → OnOk r (Evaluated s x middle new begun after) → OnToday old (λ today. Lists name today x old new before after)
 lists (Ok u) y name s x old middle new begun before after unsaid e f one = λ today on. record {
   symbol = s;
@@ -133,20 +133,20 @@ get-last [] y z (suc k) le e = absurd cc
 get-last (x ∷ xs) y z zero le e = absurd (omega arith)
 get-last (x ∷ xs) y z (suc k) le e = let rest = get-last xs y z k (omega arith) e in (ap suc rest.0, rest.1)
 
-pub makes : {E : Type 0} (r : Result (Unit {0}) E) (u : Unit {0}) (name : List ℕ) (id place : ℕ) (old : Kept) (directory with_name : List (List ℕ)) (on : Option Today) (symbols room with_symbol : List Held) (held : Held)
+pub makes : {E : Type 0} (r : Result (Unit {0}) E) (u : Unit {0}) (name : List ℕ) (id place : ℕ) (old : MarketState) (directory with_name : List (List ℕ)) (on : Option Today) (symbols room with_symbol : List Held) (held : Held)
     → record { directory = directory; today = on; symbols = symbols } ≡ old → position (bytes_eq name) old.directory ≡ None → length symbols ≡ length directory → id ≡ length directory → place ≡ length directory
     → held.kept.id ≡ place → ((own : List ℕ → Bool) (h : List Event) → SaysNothing own place h → Rests own held h) → with_name ≡ directory ++ name ∷ [] → room ≡ symbols
     → r ≡ Ok u → with_symbol ≡ cond (is_ok r) (room ++ held ∷ []) room
     → Finds name id old (record { directory = with_name; today = on; symbols = with_symbol })
 makes r u name id place old directory with_name on symbols room with_symbol held seen fresh as_many id_is place_is held_is rests named same done pushed =
     subst (λ (xs : List Held). Finds name id old (record { directory = with_name; today = on; symbols = xs })) (sym last)
-    (subst (λ (k : Kept). Finds name id k (record { directory = with_name; today = on; symbols = symbols ++ held ∷ [] })) seen found)
+    (subst (λ (k : MarketState). Finds name id k (record { directory = with_name; today = on; symbols = symbols ++ held ∷ [] })) seen found)
   where
     last : with_symbol ≡ symbols ++ held ∷ []
     last = pushed ∙ (λ i. cond (is_ok (done i)) (same i ++ held ∷ []) (same i))
 
     new : position (bytes_eq name) directory ≡ None
-    new = ap (λ (k : Kept). position (bytes_eq name) k.directory) seen ∙ fresh
+    new = ap (λ (k : MarketState). position (bytes_eq name) k.directory) seen ∙ fresh
 
     found : Finds name id (record { directory = directory; today = on; symbols = symbols }) (record { directory = with_name; today = on; symbols = symbols ++ held ∷ [] })
     found = record {

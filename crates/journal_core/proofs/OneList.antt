@@ -43,28 +43,28 @@ one_list (a ∷ as_) (b ∷ bs) f g more rest (tail, opens, spelled) (tail', ope
     lengths : length tail ≡ length tail' → length (content a) ≡ length (content b) → length f ≡ length g
     lengths tails contents = omega (arith, ap length opens.whole, ap length opens'.whole, length-append (content a) tail, length-append (content b) tail')
 
-module _ (image : List ℕ) (limit gate : ℕ) (batches : List (List Record)) (rest : List ℕ) (limit' gate' : ℕ) (batches' : List (List Record)) (rest' : List ℕ)
-    (p : LeadsTo limit gate batches image (0 ∷ rest)) (q : LeadsTo limit' gate' batches' image (0 ∷ rest')) where
-  parts : (header limit ≡ header limit') × (p.front ++ 0 ∷ rest ≡ q.front ++ 0 ∷ rest')
-  parts = front_of (header limit) (p.front ++ 0 ∷ rest) (header limit') (q.front ++ 0 ∷ rest')
-      (sym (append_assoc (header limit) p.front (0 ∷ rest)) ∙ sym p.whole ∙ q.whole ∙ append_assoc (header limit') q.front (0 ∷ rest')) refl
+module _ (image : List ℕ) (capacity gate : ℕ) (batches : List (List Record)) (rest : List ℕ) (capacity' gate' : ℕ) (batches' : List (List Record)) (rest' : List ℕ)
+    (p : LeadsTo capacity gate batches image (0 ∷ rest)) (q : LeadsTo capacity' gate' batches' image (0 ∷ rest')) where
+  parts : (header capacity ≡ header capacity') × (p.prefix ++ 0 ∷ rest ≡ q.prefix ++ 0 ∷ rest')
+  parts = front_of (header capacity) (p.prefix ++ 0 ∷ rest) (header capacity') (q.prefix ++ 0 ∷ rest')
+      (sym (append_assoc (header capacity) p.prefix (0 ∷ rest)) ∙ sym p.whole ∙ q.whole ∙ append_assoc (header capacity') q.prefix (0 ∷ rest')) refl
 
-  one_limit : limit ≡ limit'
+  one_limit : capacity ≡ capacity'
   one_limit =
       let read : (n : ℕ) → IsLimit n → from_be_bytes w64 (to_be_bytes w64 n) ≡ n = λ n range. wide64.read n (omega (arith, range.most)) in
-      sym (read limit p.range) ∙ ap (λ (bytes : List ℕ). from_be_bytes w64 (drop 8 bytes)) parts.0 ∙ read limit' q.range
+      sym (read capacity p.range) ∙ ap (λ (bytes : List ℕ). from_be_bytes w64 (drop 8 bytes)) parts.0 ∙ read capacity' q.range
 
-  pub one_way : (limit ≡ limit') × (batches ≡ batches') × (gate ≡ gate')
+  pub one_way : (capacity ≡ capacity') × (batches ≡ batches') × (gate ≡ gate')
   one_way =
-      let list = one_list batches batches' p.front q.front rest rest' p.spelled q.spelled parts.1 in
+      let list = one_list batches batches' p.prefix q.prefix rest rest' p.spelled q.spelled parts.1 in
       (one_limit, list.0, omega (arith, list.1, p.place, q.place))
 
 pub alone : HoldsOneList
 alone = record {
   batches = one_way;
-  records = λ image limit limit' records records' holds holds'.
+  records = λ image capacity capacity' records records' holds holds'.
       let p = holds.held in
       let q = holds'.held in
-      let way = one_way image limit holds.gate p.batches p.rest limit' holds'.gate q.batches q.rest p.leads q.leads in
+      let way = one_way image capacity holds.gate p.batches p.rest capacity' holds'.gate q.batches q.rest p.leads q.leads in
       (way.0, sym p.same ∙ ap records_of way.1 ∙ q.same);
 }

@@ -7,29 +7,29 @@ use Rattle.breaker_core.specs.Levels.{percent_of, ends}
 use Rattle.breaker_core.specs.Days.{Call, answers, halt_in, greatest_declared}
 
 -- the index close, the percentage of the greatest level declared, 0 for none, and the halt in effect
-pub record Kept : Type 0 where
+pub record BreakerState : Type 0 where
   pub close : ℕ
   pub greatest : ℕ
   pub halt : Option Halt
 
 -- no level is declared
-abbrev pub started : ℕ → Kept
+abbrev pub started : ℕ → BreakerState
 started close = record { close = close; greatest = 0; halt = None }
 
 -- a halt that is over at t has ended
-abbrev pub resumed : ℕ → Kept → Kept
+abbrev pub resumed : ℕ → BreakerState → BreakerState
 resumed t kept = record kept { halt = if ends t kept.halt then None else kept.halt }
 
 -- a level is declared at t
-abbrev pub with_level : ℕ → Kept → Level → Kept
+abbrev pub with_level : ℕ → BreakerState → Level → BreakerState
 with_level t kept level =
     record kept { greatest = max (percent_of level) kept.greatest; halt = Some (record { level = level; since = t }) }
 
 -- a level, or none, is declared at t
-abbrev pub with_declared : ℕ → Option Level → Kept → Kept
+abbrev pub with_declared : ℕ → Option Level → BreakerState → BreakerState
 with_declared t level kept = option_map_or (with_level t kept) level kept
 
--- a breaker stands for the calls that it has had today
-pub record Stands (kept : Kept) (calls : List Call) : Type 0 where
+-- a breaker represents the calls that it has had today
+pub record Represents (kept : BreakerState) (calls : List Call) : Type 0 where
   pub greatest : kept.greatest ≡ greatest_declared (answers kept.close calls)
   pub halt : kept.halt ≡ halt_in (answers kept.close calls)

@@ -10,7 +10,7 @@ use Rattle.symbol_core.specs.Silent.{SaysNothing}
 use Rattle.market_core.specs.declared.market.Today.{Today}
 
 -- the names ever listed, the last day with its breakers, and what is kept of each name's symbol, in order of ids
-pub record Kept : Type 0 where
+pub record MarketState : Type 0 where
   pub directory : List (List ℕ)
   pub today : Option Today
   pub symbols : List Held
@@ -23,14 +23,14 @@ day_of applied (day, close) = record {
 }
 
 -- what is kept of each symbol is what the history says of the names with its id
-pub record SymbolsStandFor (symbols : List Held) (applied : List Record) : Type 0 where
+pub record SymbolsRepresent (symbols : List Held) (applied : List Record) : Type 0 where
   pub ids : (s : ℕ) (held : Held) → slice_get symbols s ≡ Some held → held.kept.id ≡ s
   pub rests : (s : ℕ) (held : Held) → slice_get symbols s ≡ Some held → Rests (named applied s).own held (history applied)
 
 -- each kept value is the one that the list of applied records gives, and of an id that no name has there is nothing to keep
-pub record StandsFor (kept : Kept) (applied : List Record) : Type 0 where
+pub record Represents (kept : MarketState) (applied : List Record) : Type 0 where
   pub directory : kept.directory ≡ names applied
   pub today : kept.today ≡ option_map (day_of applied) (day_record applied)
   pub count : length kept.symbols ≡ length (names applied)
-  pub symbols : SymbolsStandFor kept.symbols applied
+  pub symbols : SymbolsRepresent kept.symbols applied
   pub others : (s : ℕ) → length (names applied) ≤ s → SaysNothing (named applied s).own s (history applied)
