@@ -138,10 +138,10 @@ at_publish_band c = by (rules.reference c) where
   by (Some r) = at_band c r.cause r.price
 
 at_rule : (r : Rule) (c : Context) → AreTimely c.history → AllTimely c.moment (rule_of r c)
-at_rule rule.Close c t = at_turn c turns.close
-at_rule rule.Stop c t = at_turn c turns.stop
+at_rule rule.SessionClose c t = at_turn c turns.session_close
+at_rule rule.MarketHalt c t = at_turn c turns.market_halt
 at_rule rule.Start c t = at_turn c turns.start
-at_rule rule.Halt c t = at_turn c turns.halt
+at_rule rule.RegulatoryHalt c t = at_turn c turns.regulatory_halt
 at_rule rule.Pause c t = at_pause c
 at_rule rule.Reopen c t = at_reopen c t
 at_rule rule.LeaveLimit c t = at_choice c.moment (is_limit (rules.phase_now c) && not (rules.is_at_band (rules.phase_now c) c)) (rules.becomes c Trading) [] (tt, tt) tt
@@ -159,7 +159,7 @@ at_rule rule.Straddle c t =
     at_choice c.moment (on && not was) (out.Straddle c.symbol true ∷ []) ends (tt, tt)
     (at_choice c.moment (was && not on) (out.Straddle c.symbol false ∷ []) [] (tt, tt) tt)
 at_rule rule.Restrict c t =
-    at_choice c.moment (rules.triggers c.day c.symbol c.input (terms c.history c.own) && not (rules.has_triggered c)) (out.Short c.symbol Triggered ∷ []) [] (tt, tt) tt
+    at_choice c.moment (rules.triggers c.day c.symbol c.newest (terms c.history c.own) && not (rules.has_triggered c)) (out.Short c.symbol Triggered ∷ []) [] (tt, tt) tt
 
 -- Steps
 
@@ -195,7 +195,7 @@ timely_rules day s x (r ∷ rs) h t =
 
 all_rules : List Rule
 all_rules =
-    rule.Close ∷ rule.Stop ∷ rule.Start ∷ rule.Halt ∷ rule.Pause ∷ rule.Reopen ∷ rule.LeaveLimit ∷ rule.PublishBand ∷ rule.EnterLimit ∷ rule.Straddle ∷ rule.Restrict ∷ []
+    rule.SessionClose ∷ rule.MarketHalt ∷ rule.Start ∷ rule.RegulatoryHalt ∷ rule.Pause ∷ rule.Reopen ∷ rule.LeaveLimit ∷ rule.PublishBand ∷ rule.EnterLimit ∷ rule.Straddle ∷ rule.Restrict ∷ []
 
 pub timely_evaluate : (x : Record) (s : Named) (h : List Event) → AreTimely h → AreTimely (evaluate x s h)
 unfolding all_rules

@@ -8,7 +8,7 @@ context_of c = record {
   history = c.history.now;
   symbol = c.symbol;
   own = own_in c.names.now c.symbol;
-  input = c.input;
+  newest = c.newest;
   moment = c.moment;
   day = c.day;
 }

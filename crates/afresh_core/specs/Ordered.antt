@@ -13,10 +13,10 @@ abbrev pub named_in : code.Named → Named
 named_in s = record { symbol = s.symbol; own = own_in s.names.now s.symbol }
 
 abbrev pub rule_of : Rule → Context → List Message
-rule_of rule.Close = rules.close
-rule_of rule.Stop = rules.stop
+rule_of rule.SessionClose = rules.session_close
+rule_of rule.MarketHalt = rules.market_halt
 rule_of rule.Start = rules.start
-rule_of rule.Halt = rules.halt
+rule_of rule.RegulatoryHalt = rules.regulatory_halt
 rule_of rule.Pause = rules.pause
 rule_of rule.Reopen = rules.reopen
 rule_of rule.LeaveLimit = rules.leave_limit

@@ -26,7 +26,7 @@ use wire_out::Message;
 fn bands_of(listed: &Terms, day: &Day, t: Moment, reference: Price) -> Bands
     ensures { result ≡ bands_of listed.now day.now t reference }
 {
-    let category = category(listed.close);
+    let category = category(listed.prior_close);
     let percent = percent(listed.tier, category, span(t, day), day.profile);
     bands(reference, category, percent, listed.leverage)
 }
@@ -96,10 +96,10 @@ fn opens_on_quotes(symbol: u16, x: &Record) -> bool
 fn offered(c: &Context) -> Option<Price>
     ensures { result ≡ offered (context_of c.now) }
 {
-    match opening_price(&c.day, c.symbol, &c.input) {
+    match opening_price(&c.day, c.symbol, &c.newest) {
         Some(price) => Some(price),
         None => {
-            if opens_on_quotes(c.symbol, &c.input) {
+            if opens_on_quotes(c.symbol, &c.newest) {
                 prior_close(c.history, c.names, c.symbol)
             } else {
                 None

@@ -35,14 +35,14 @@ fn is_brief(level: Level) -> bool
 }
 
 /// The greatest level that an index value reaches.
-fn level_reached(value: Index, close: Index) -> Option<Level>
-    ensures { result ≡ level_reached value close }
+fn level_reached(value: Index, index_close: Index) -> Option<Level>
+    ensures { result ≡ level_reached value index_close }
 {
-    if fell(value, close, 20) {
+    if fell(value, index_close, 20) {
         Some(Level::Three)
-    } else if fell(value, close, 13) {
+    } else if fell(value, index_close, 13) {
         Some(Level::Two)
-    } else if fell(value, close, 7) {
+    } else if fell(value, index_close, 7) {
         Some(Level::One)
     } else {
         None
@@ -64,7 +64,7 @@ impl Halt {
 /// effect.
 #[derive(Debug, Drop)]
 pub struct Breaker {
-    close: Index,
+    index_close: Index,
     greatest: Option<Level>,
     halt: Option<Halt>,
 }
@@ -76,19 +76,19 @@ impl Model for Breaker {
 
     ghost Value = { BreakerState };
 
-    ghost view = { λ b. record { close = b.close; greatest = option_map_or percent_of b.greatest 0; halt = b.halt } };
+    ghost view = { λ b. record { index_close = b.index_close; greatest = option_map_or percent_of b.greatest 0; halt = b.halt } };
 }
 
 impl Breaker {
     ghost use Rattle.breaker_core.specs.BreakerState.{started, resumed, with_declared, Represents};
 
     /// No level declared, with the index close of the day before in hundredths of an index point.
-    pub fn start(close: Index) -> Breaker
-        ensures value { result ≡ started close }
+    pub fn start(index_close: Index) -> Breaker
+        ensures value { result ≡ started index_close }
         ensures stands { Represents result [] }
     {
         Breaker {
-            close,
+            index_close,
             greatest: None,
             halt: None,
         }
@@ -99,7 +99,7 @@ impl Breaker {
     pub fn time(&mut self, t: Moment) -> bool
         ensures ends { result ≡ ends t self.old.halt }
         ensures value { self.new ≡ resumed t self.old }
-        ensures answer { (calls : List Call) → Represents self.old calls → result ≡ ends t (halt_in (answers self.old.close calls)) }
+        ensures answer { (calls : List Call) → Represents self.old calls → result ≡ ends t (halt_in (answers self.old.index_close calls)) }
         ensures stands { (calls : List Call) → Represents self.old calls → Represents self.new (Time t ∷ calls) }
     {
         let ends = match &self.halt {
@@ -115,13 +115,13 @@ impl Breaker {
     /// The level that an index value declares at a moment of the day, None exactly where it declares none
     /// (NYSE Rule 7.12).
     pub fn index(&mut self, t: Moment, now: Index, day: &Day) -> Option<Level>
-        ensures level { result ≡ declares self.old.halt self.old.greatest self.old.close day.now t now }
+        ensures level { result ≡ declares self.old.halt self.old.greatest self.old.index_close day.now t now }
         ensures value { self.new ≡ with_declared t result self.old }
         ensures answer { (calls : List Call) → Represents self.old calls
-            → result ≡ declared_after (answers self.old.close calls) self.old.close day.now t now }
+            → result ≡ declared_after (answers self.old.index_close calls) self.old.index_close day.now t now }
         ensures stands { (calls : List Call) → Represents self.old calls → Represents self.new (Tick t now day.now ∷ calls) }
     {
-        let level = level_reached(now, self.close)?;
+        let level = level_reached(now, self.index_close)?;
         if !self.may_declare(level, t, day) {
             return None;
         }
@@ -133,7 +133,7 @@ impl Breaker {
     /// Whether a halt is in effect.
     pub fn stopped(&self) -> bool
         ensures value { result ≡ is_some self.now.halt }
-        ensures answer { (calls : List Call) → Represents self.now calls → result ≡ is_some (halt_in (answers self.now.close calls)) }
+        ensures answer { (calls : List Call) → Represents self.now calls → result ≡ is_some (halt_in (answers self.now.index_close calls)) }
     {
         self.halt.is_some()
     }

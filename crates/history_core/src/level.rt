@@ -45,14 +45,14 @@ pub fn ends(t: Moment, halt: Option<Halt>) -> bool
 }
 
 /// The greatest level that an index value reaches.
-fn level_reached(value: Index, close: Index) -> Option<Level>
-    ensures { result ≡ level_reached value close }
+fn level_reached(value: Index, index_close: Index) -> Option<Level>
+    ensures { result ≡ level_reached value index_close }
 {
-    if fell(value, close, 20) {
+    if fell(value, index_close, 20) {
         Some(Level::Three)
-    } else if fell(value, close, 13) {
+    } else if fell(value, index_close, 13) {
         Some(Level::Two)
-    } else if fell(value, close, 7) {
+    } else if fell(value, index_close, 7) {
         Some(Level::One)
     } else {
         None
@@ -74,14 +74,14 @@ fn may_declare(halt: Option<Halt>, greatest: u32, day: &Day, t: Moment, level: L
 pub fn declares(
     halt: Option<Halt>,
     greatest: u32,
-    close: Index,
+    index_close: Index,
     day: &Day,
     t: Moment,
     value: Index,
 ) -> Option<Level>
-    ensures { result ≡ declares halt greatest close day.now t value }
+    ensures { result ≡ declares halt greatest index_close day.now t value }
 {
-    let level = level_reached(value, close)?;
+    let level = level_reached(value, index_close)?;
     if may_declare(halt, greatest, day, t, level) {
         Some(level)
     } else {

@@ -3,7 +3,7 @@
 ghost use Rattle.std.specs.Prelude.{◌≡◌, ◌∷◌, ◌++◌, ◌&&◌, ◌==◌, [], false, not, if◌then◌else◌, IfOk};
 ghost use Rattle.std.specs.List.{list_any};
 ghost use Rattle.std.specs.Option.{option_map_or};
-ghost use Rattle.eligible_core.specs.Conditions.{is_eligible};
+ghost use Rattle.eligible_core.specs.Conditions.{eligible};
 ghost use Rattle.window_core.specs.Deals.{live, mean_of};
 ghost use Rattle.rulebook.specs.History.{newest};
 ghost use Rattle.rulebook.specs.Symbol.{traded_price, opening_price, opens_before, is_first_band, counted_in, counted, cancels, deals_in, deals_of, mean};
@@ -144,7 +144,7 @@ fn counts(
     number: u32,
     flags: u16,
 ) -> bool
-    ensures { result ≡ ((of == symbol) && is_eligible flags moment day.now && not (list_any (cancels symbol number) later.now)) }
+    ensures { result ≡ ((of == symbol) && eligible flags moment day.now && not (list_any (cancels symbol number) later.now)) }
 {
     of == symbol && eligible(flags, moment, day) && !is_cancelled(symbol, number, later)
 }

@@ -1,7 +1,7 @@
 -- The reference price of a stock (LULD Plan, Section V).
 use Rattle.std.specs.Prelude.{ℕ, Bool, Option, Some, None, ◌+◌, nat_lt, nat_le, if◌then◌else◌, ◌&&◌, option_map, option_and_then}
 use Rattle.std.specs.Option.{option_map_or}
-use Rattle.price_core.specs.Moves.{has_moved_one_percent}
+use Rattle.price_core.specs.Moves.{moved_one_percent}
 use Rattle.price_core.specs.declared.quote.Cause.{Cause}
 use Rattle.price_core.specs.declared.quote.Cause.TheVariants.{First, Moved, Forced}
 use Rattle.session_core.specs.Moments.{seconds}
@@ -26,7 +26,7 @@ has_stood last t = nat_le (last.moment + seconds 30) t
 
 -- whether a mean is a new reference price: it has moved by one per cent, and 30 seconds have passed
 abbrev pub has_moved : Adoption → ℕ → ℕ → Bool
-has_moved last t mean = has_moved_one_percent mean last.price && has_stood last t
+has_moved last t mean = moved_one_percent mean last.price && has_stood last t
 
 abbrev pub moved_price : Adoption → ℕ → Option ℕ → Option ℕ
 moved_price last t mean = option_and_then (λ m. if has_moved last t m then Some m else None) mean

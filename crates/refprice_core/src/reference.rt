@@ -69,7 +69,11 @@ fn first_price(
 ) -> Option<Price>
     ensures { result ≡ first_price begun t offered mean }
 {
-    if is_in_opening_period(begun, t) { offered } else { mean }
+    if is_in_opening_period(begun, t) {
+        offered
+    } else {
+        mean
+    }
 }
 
 impl Adoption {

@@ -112,7 +112,7 @@ terms_in-agree own other (in_.Day t d c ∷ A) e = refl
 terms_in-agree own other (in_.Listing t n k l c ∷ A) e =
     let rest = terms_in-agree own other A (earlier_agree own other (in_.Listing t n k l c) A e) in
     let here : own n ≡ other n = e.at n (among_own (names A) n) in
-    λ i. cond (here i) (Some (record { tier = k; leverage = l; close = c })) (rest i)
+    λ i. cond (here i) (Some (record { tier = k; leverage = l; prior_close = c })) (rest i)
 terms_in-agree own other (in_.Trade t s n p q f ∷ A) e = terms_in-agree own other A (earlier_agree own other (in_.Trade t s n p q f) A e)
 terms_in-agree own other (in_.Cancel t s n ∷ A) e = terms_in-agree own other A (earlier_agree own other (in_.Cancel t s n) A e)
 terms_in-agree own other (in_.Quote t s b o x y ∷ A) e = terms_in-agree own other A (earlier_agree own other (in_.Quote t s b o x y) A e)
@@ -200,9 +200,9 @@ terms-name : (own : List ℕ → Bool) (n : List ℕ) → ((name : List ℕ) →
 terms-name own n e [] = refl
 terms-name own n e (in_.Day t d c ∷ A) = refl
 terms-name own n e (in_.Listing t name k l c ∷ A) =
-    ap (λ b. is_some (cond b (Some (record { tier = k; leverage = l; close = c })) (terms_in own A))) (e name) ∙ by (bytes_eq name n) (terms-name own n e A)
+    ap (λ b. is_some (cond b (Some (record { tier = k; leverage = l; prior_close = c })) (terms_in own A))) (e name) ∙ by (bytes_eq name n) (terms-name own n e A)
   where
-    by : (b : Bool) → is_some (terms_in own A) ≡ is_listed_name A n → is_some (cond b (Some (record { tier = k; leverage = l; close = c })) (terms_in own A)) ≡ cond b true (is_listed_name A n)
+    by : (b : Bool) → is_some (terms_in own A) ≡ is_listed_name A n → is_some (cond b (Some (record { tier = k; leverage = l; prior_close = c })) (terms_in own A)) ≡ cond b true (is_listed_name A n)
     by true rest = refl
     by false rest = rest
 terms-name own n e (in_.Trade t s m p q f ∷ A) = terms-name own n e A
@@ -216,7 +216,7 @@ terms-name own n e (in_.Indication t s p u ∷ A) = terms-name own n e A
 terms-nameless : (own : List ℕ → Bool) → ((name : List ℕ) → own name ≡ false) → (A : List Record) → terms_in own A ≡ None
 terms-nameless own e [] = refl
 terms-nameless own e (in_.Day t d c ∷ A) = refl
-terms-nameless own e (in_.Listing t name k l c ∷ A) = ap (λ b. cond b (Some (record { tier = k; leverage = l; close = c })) (terms_in own A)) (e name) ∙ terms-nameless own e A
+terms-nameless own e (in_.Listing t name k l c ∷ A) = ap (λ b. cond b (Some (record { tier = k; leverage = l; prior_close = c })) (terms_in own A)) (e name) ∙ terms-nameless own e A
 terms-nameless own e (in_.Trade t s m p q f ∷ A) = terms-nameless own e A
 terms-nameless own e (in_.Cancel t s m ∷ A) = terms-nameless own e A
 terms-nameless own e (in_.Quote t s b o x y ∷ A) = terms-nameless own e A

@@ -28,7 +28,7 @@ pub record Named : Type 0 where
   pub own : List ℕ → Bool
 
 abbrev pub context : Day → Named → Record → List Event → Context
-context day s x h = record { history = h; symbol = s.symbol; own = s.own; input = x; moment = now h; day = day }
+context day s x h = record { history = h; symbol = s.symbol; own = s.own; newest = x; moment = now h; day = day }
 
 -- what a rule publishes in the open step; no rule applies to a closed symbol
 abbrev pub obeyed : Day → Named → Record → (Context → List Message) → List Event → List Message
@@ -41,7 +41,7 @@ all_obeyed day s x (rule ∷ later) h = obeyed day s x rule h ++ all_obeyed day 
 
 abbrev pub symbol_rules : List (Context → List Message)
 symbol_rules =
-    rules.close ∷ rules.stop ∷ rules.start ∷ rules.halt ∷ rules.pause ∷ rules.reopen ∷ rules.leave_limit
+    rules.session_close ∷ rules.market_halt ∷ rules.start ∷ rules.regulatory_halt ∷ rules.pause ∷ rules.reopen ∷ rules.leave_limit
     ∷ rules.publish_band ∷ rules.enter_limit ∷ rules.straddle ∷ rules.restrict ∷ []
 
 -- the rules of s on the open step

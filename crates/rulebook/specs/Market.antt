@@ -17,19 +17,19 @@ use Rattle.rulebook.specs.History.{now, today, records}
 -- the last day record's day, and its index close
 abbrev pub day_record : List Record → Option (Day × ℕ)
 day_record [] = None
-day_record (in_.Day t day close ∷ earlier) = Some (day, close)
+day_record (in_.Day t day index_close ∷ earlier) = Some (day, index_close)
 day_record (x ∷ earlier) = day_record earlier
 
 -- the last breaker that no resumption follows
-abbrev pub halt_in : List Event → Option Halt
-halt_in [] = None
-halt_in (Published (Breaker level index) ∷ h) = Some (record { level = level; since = now h })
-halt_in (Published MarketResume ∷ h) = None
-halt_in (e ∷ h) = halt_in h
+abbrev pub market_halt_in : List Event → Option Halt
+market_halt_in [] = None
+market_halt_in (Published (Breaker level index) ∷ h) = Some (record { level = level; since = now h })
+market_halt_in (Published MarketResume ∷ h) = None
+market_halt_in (e ∷ h) = market_halt_in h
 
 -- the market halt in effect: its level, and the moment at which it was declared
 abbrev pub market_halt : List Event → Option Halt
-market_halt h = halt_in (today h)
+market_halt h = market_halt_in (today h)
 
 abbrev pub is_market_halted : List Event → Bool
 is_market_halted h = is_some (market_halt h)
@@ -54,7 +54,7 @@ abbrev pub breaks : ℕ → Option Level → List Message
 breaks value level = option_map_or (λ level. Breaker level value ∷ []) level []
 
 abbrev pub declare_on : ℕ → List Event → Day × ℕ → List Message
-declare_on value h (day, close) = breaks value (declares (market_halt h) (greatest_declared h) close day (now h) value)
+declare_on value h (day, index_close) = breaks value (declares (market_halt h) (greatest_declared h) index_close day (now h) value)
 
 abbrev pub declare_at : Record → List Event → List Message
 declare_at (in_.IndexTick t value) h = option_map_or (declare_on value h) (day_record (records h)) []

@@ -23,10 +23,10 @@ use Rattle.refprice_core.specs.declared.reference.Adoption.{Adoption}
 use Rattle.refprice_core.specs.declared.reference.Priced.{Priced}
 use Rattle.refprice_core.specs.Prices.{because, forced}
 use Rattle.refprice_core.specs.Prices as prices
-use Rattle.limit_core.specs.Limits.{is_at_lower, is_at_upper, is_straddling}
+use Rattle.limit_core.specs.Limits.{is_at_lower, is_at_upper, straddles}
 use Rattle.limit_core.specs.Timers.{has_lasted}
 use Rattle.pause_core.specs.declared.turning.Brakes.{Brakes}
-use Rattle.pause_core.specs.Pauses.{pause_of}
+use Rattle.pause_core.specs.Pauses as pausing
 use Rattle.pause_core.specs.Phases.{is_limit, is_trading}
 use Rattle.pause_core.specs.Turns as turns
 use Rattle.reopen_core.specs.declared.auction.Round.{Round}
@@ -42,7 +42,7 @@ use Rattle.rulebook.specs.declared.event.Event.TheVariants.{Accepted, Published}
 use Rattle.rulebook.specs.Auction.{last_round, is_paused, origin_of, origin, indication}
 use Rattle.rulebook.specs.History.{Found, before_step, records, open_step, last}
 use Rattle.rulebook.specs.Market.{is_market_halted, day_record}
-use Rattle.rulebook.specs.Symbol.{terms, terms_in, close_of, prior_close, state_of, phase, since, begun, quote, last_band, adopted, bands_of, traded_price, opening_price, mean, was_straddling, is_under_regulatory_halt}
+use Rattle.rulebook.specs.Symbol.{terms, terms_in, prior_close_of, prior_close, state_of, phase, since, begun, quote, last_band, adopted, bands_of, traded_price, opening_price, mean, was_straddling, is_under_regulatory_halt}
 
 -- What a rule may read: the open history, the symbol and the test of its name, and of the open step the record, its moment
 -- and the day.
@@ -50,7 +50,7 @@ pub record Context : Type 0 where
   pub history : List Event
   pub symbol : ℕ
   pub own : List ℕ → Bool
-  pub input : Record
+  pub newest : Record
   pub moment : ℕ
   pub day : Day
 
@@ -74,17 +74,17 @@ brakes c = record {
 abbrev pub turned : (Phase → Brakes → Option Phase) → Context → List Message
 turned rule c = option_map_or (becomes c) (rule (phase_now c) (brakes c)) []
 
-abbrev pub close : Context → List Message
-close c = turned turns.close c
+abbrev pub session_close : Context → List Message
+session_close c = turned turns.session_close c
 
-abbrev pub stop : Context → List Message
-stop c = turned turns.stop c
+abbrev pub market_halt : Context → List Message
+market_halt c = turned turns.market_halt c
 
 abbrev pub start : Context → List Message
 start c = turned turns.start c
 
-abbrev pub halt : Context → List Message
-halt c = turned turns.halt c
+abbrev pub regulatory_halt : Context → List Message
+regulatory_halt c = turned turns.regulatory_halt c
 
 -- A trading pause: after 15 seconds in a limit state, or in a straddle state when the listing exchange asks for it (LULD Plan,
 -- Section VII(A)). In the last ten minutes there is no reopening before the close (Section VII(C)).
@@ -110,7 +110,7 @@ pause_as c p = becomes c p ++ (if is_paused p then option_map_or (first_round c)
 abbrev pub pause : Context → List Message
 pause c =
     option_map_or (pause_as c)
-    (pause_of (has_expired c) (asks_to_pause c.symbol c.input) (was_straddling c.history c.symbol) (phase_now c) (in_last_10_minutes c.moment c.day))
+    (pausing.pause (has_expired c) (asks_to_pause c.symbol c.newest) (was_straddling c.history c.symbol) (phase_now c) (in_last_10_minutes c.moment c.day))
     []
 
 -- A trial of the reopening auction, five minutes after its last round began (after Nasdaq Rule 4120).
@@ -176,7 +176,7 @@ opens_on_quotes s x = false
 
 -- the price that the record offers: that of an opening trade, or the prior close at an opening on quotations
 abbrev pub offered : Context → Option ℕ
-offered c = or_else (opening_price c.day c.symbol c.input) (if opens_on_quotes c.symbol c.input then prior_close c.history c.own else None)
+offered c = or_else (opening_price c.day c.symbol c.newest) (if opens_on_quotes c.symbol c.newest then prior_close c.history c.own else None)
 
 abbrev pub mean_now : Context → Option ℕ
 mean_now c = mean c.day c.history c.symbol
@@ -233,7 +233,7 @@ enter_limit c =
 -- A straddle state begins or ends (LULD Plan, Section VII(A)).
 
 abbrev pub is_straddling_now : Context → Bool
-is_straddling_now c = is_trading (phase_now c) && meets is_straddling (quote c.history c.symbol) (last_band c.history c.symbol)
+is_straddling_now c = is_trading (phase_now c) && meets straddles (quote c.history c.symbol) (last_band c.history c.symbol)
 
 abbrev pub straddle : Context → List Message
 straddle c =
@@ -246,7 +246,7 @@ straddle c =
 
 -- whether a record triggers it for s, with this listing
 abbrev pub triggers : Day → ℕ → Record → Option Terms → Bool
-triggers day s x listed = option_map_or (restriction.triggers (close_of listed)) (traded_price day s x) false
+triggers day s x listed = option_map_or (restriction.triggers (prior_close_of listed)) (traded_price day s x) false
 
 -- whether a record since the last day record triggered it
 abbrev pub triggered_in : (List ℕ → Bool) → Day → ℕ → List Record → Bool
@@ -259,7 +259,7 @@ has_triggered c = triggered_in c.own c.day c.symbol (records (before_step c.hist
 
 abbrev pub restrict : Context → List Message
 restrict c =
-    if triggers c.day c.symbol c.input (terms c.history c.own) && not (has_triggered c)
+    if triggers c.day c.symbol c.newest (terms c.history c.own) && not (has_triggered c)
     then out.Short c.symbol Triggered ∷ []
     else []
 
@@ -271,5 +271,5 @@ before_day (x ∷ earlier) = if is_day x then earlier else before_day earlier
 -- whether a trade of the day before today triggered it
 abbrev pub is_carried : List Event → (List ℕ → Bool) → ℕ → Bool
 is_carried h own s =
-    let part = before_day (records h) in
-    option_map_or (λ day. triggered_in own day.0 s part) (day_record part) false
+    let before = before_day (records h) in
+    option_map_or (λ day. triggered_in own day.0 s before) (day_record before) false

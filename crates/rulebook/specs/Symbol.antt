@@ -16,9 +16,9 @@ use Rattle.wire_in.specs.declared.record.Record.TheVariants as in_
 use Rattle.wire_in.specs.Records.{moment_of}
 use Rattle.wire_out.specs.declared.message.Message.{Message}
 use Rattle.wire_out.specs.declared.message.Message.TheVariants as out
-use Rattle.eligible_core.specs.Conditions.{is_eligible, is_opening_trade}
-use Rattle.percent_core.specs.Percentages.{category_of, span_at, percent_of}
-use Rattle.percent_core.specs.PriceBands.{bands_at}
+use Rattle.eligible_core.specs.Conditions.{eligible, is_opening_trade}
+use Rattle.percent_core.specs.Percentages.{category, span, percent}
+use Rattle.percent_core.specs.PriceBands.{bands}
 use Rattle.window_core.specs.declared.window.Deal.{Deal}
 use Rattle.window_core.specs.Deals.{live, mean_of}
 use Rattle.pause_core.specs.Phases.{is_limit, is_trading}
@@ -36,20 +36,20 @@ use Rattle.rulebook.specs.History.{Found, now, newest, step_record, today, recor
 abbrev pub terms_in : (List ℕ → Bool) → List Record → Option Terms
 terms_in own [] = None
 terms_in own (in_.Day t day close ∷ earlier) = None
-terms_in own (in_.Listing t name tier leverage close ∷ earlier) =
-    if own name then Some (record { tier = tier; leverage = leverage; close = close }) else terms_in own earlier
+terms_in own (in_.Listing t name tier leverage prior_close ∷ earlier) =
+    if own name then Some (record { tier = tier; leverage = leverage; prior_close = prior_close }) else terms_in own earlier
 terms_in own (x ∷ earlier) = terms_in own earlier
 
 -- today's listing
 abbrev pub terms : List Event → (List ℕ → Bool) → Option Terms
 terms h own = terms_in own (records h)
 
-abbrev pub close_of : Option Terms → Option ℕ
-close_of listed = option_and_then (λ terms. terms.close) listed
+abbrev pub prior_close_of : Option Terms → Option ℕ
+prior_close_of listed = option_and_then (λ terms. terms.prior_close) listed
 
 -- the prior close that today's listing gives
 abbrev pub prior_close : List Event → (List ℕ → Bool) → Option ℕ
-prior_close h own = close_of (terms h own)
+prior_close h own = prior_close_of (terms h own)
 
 -- Phases
 
@@ -133,20 +133,20 @@ adopted h s = option_map_or (λ b. b.moment) (last (adoption_of s) (run h s)) 0
 -- the bands that a reference price gives at a moment of the day
 abbrev pub bands_of : Terms → Day → ℕ → ℕ → Bands
 bands_of listed day t reference =
-    let c = category_of listed.close in
-    bands_at reference c (percent_of day.profile listed.tier c (span_at t day)) listed.leverage
+    let c = category listed.prior_close in
+    bands reference c (percent day.profile listed.tier c (span t day)) listed.leverage
 
 -- Trades
 
 -- the price of a record that is an eligible trade of s
 abbrev pub traded_price : Day → ℕ → Record → Option ℕ
-traded_price day s (in_.Trade t symbol number price size flags) = if (symbol == s) && is_eligible flags t day then Some price else None
+traded_price day s (in_.Trade t symbol number price size flags) = if (symbol == s) && eligible flags t day then Some price else None
 traded_price day s x = None
 
 -- the price of a record that is an eligible opening trade of s
 abbrev pub opening_price : Day → ℕ → Record → Option ℕ
 opening_price day s (in_.Trade t symbol number price size flags) =
-    if (symbol == s) && is_eligible flags t day && is_opening_trade flags then Some price else None
+    if (symbol == s) && eligible flags t day && is_opening_trade flags then Some price else None
 opening_price day s x = None
 
 abbrev pub opens_before : Day → ℕ → ℕ → Record → Bool
@@ -176,7 +176,7 @@ abbrev pub deals_in : Day → ℕ → List Record → List Event → List Deal
 deals_in day s later [] = []
 deals_in day s later (Published m ∷ h) = deals_in day s later h
 deals_in day s later (Accepted (in_.Trade moment symbol number price size flags) ∷ h) =
-    if (symbol == s) && is_eligible flags moment day && not (list_any (cancels s number) later)
+    if (symbol == s) && eligible flags moment day && not (list_any (cancels s number) later)
     then deals_in day s later h ++ record { moment = moment; number = number; price = price } ∷ []
     else deals_in day s later h
 deals_in day s later (Accepted x ∷ h) = deals_in day s (x ∷ later) h
@@ -199,12 +199,12 @@ straddle_of s m = None
 abbrev pub was_straddling : List Event → ℕ → Bool
 was_straddling h s = option_map_or (λ straddle. straddle.value) (last (straddle_of s) (today h)) false
 
-abbrev pub is_under_halt_in : ℕ → List Record → Bool
-is_under_halt_in s [] = false
-is_under_halt_in s (in_.Notice t symbol notice.Halt ∷ earlier) = if symbol == s then true else is_under_halt_in s earlier
-is_under_halt_in s (in_.Notice t symbol notice.Resume ∷ earlier) = if symbol == s then false else is_under_halt_in s earlier
-is_under_halt_in s (x ∷ earlier) = is_under_halt_in s earlier
+abbrev pub is_under_regulatory_halt_in : ℕ → List Record → Bool
+is_under_regulatory_halt_in s [] = false
+is_under_regulatory_halt_in s (in_.Notice t symbol notice.Halt ∷ earlier) = if symbol == s then true else is_under_regulatory_halt_in s earlier
+is_under_regulatory_halt_in s (in_.Notice t symbol notice.Resume ∷ earlier) = if symbol == s then false else is_under_regulatory_halt_in s earlier
+is_under_regulatory_halt_in s (x ∷ earlier) = is_under_regulatory_halt_in s earlier
 
 -- a regulatory halt is in effect
 abbrev pub is_under_regulatory_halt : List Event → ℕ → Bool
-is_under_regulatory_halt h s = is_under_halt_in s (records (today h))
+is_under_regulatory_halt h s = is_under_regulatory_halt_in s (records (today h))

@@ -10,19 +10,19 @@ abbrev pub session_open : ℕ
 session_open = seconds 34200
 
 -- 16:00:00, or 13:00:00 on an early close
-abbrev pub close_of : Close → ℕ
-close_of Regular = seconds 57600
-close_of Early = seconds 46800
+abbrev pub session_close : Close → ℕ
+session_close Regular = seconds 57600
+session_close Early = seconds 46800
 
 abbrev pub in_session : ℕ → Day → Bool
-in_session t day = nat_le session_open t && nat_lt t (close_of day.close)
+in_session t day = nat_le session_open t && nat_lt t (session_close day.close)
 
 abbrev pub is_closed : ℕ → Day → Bool
-is_closed t day = nat_le (close_of day.close) t
+is_closed t day = nat_le (session_close day.close) t
 
 -- not before the close less a duration
 abbrev pub in_last : ℕ → ℕ → Day → Bool
-in_last duration t day = nat_le (close_of day.close - duration) t
+in_last duration t day = nat_le (session_close day.close - duration) t
 
 abbrev pub in_last_25_minutes : ℕ → Day → Bool
 in_last_25_minutes t day = in_last (seconds 1500) t day
@@ -36,4 +36,4 @@ in_first_15_minutes t = nat_lt t (seconds 35100)
 
 -- Level 1 and 2 halts are declared in the session and up to 15:25:00, or 12:25:00 on an early close
 abbrev pub may_declare_brief : ℕ → Day → Bool
-may_declare_brief t day = in_session t day && nat_le t (close_of day.close - seconds 2100)
+may_declare_brief t day = in_session t day && nat_le t (session_close day.close - seconds 2100)

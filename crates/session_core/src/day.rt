@@ -1,5 +1,5 @@
 ghost use Rattle.std.specs.Prelude.{◌≡◌};
-ghost use Rattle.session_core.specs.Times.{close_of, in_session, in_last_25_minutes, in_last_10_minutes, may_declare_brief};
+ghost use Rattle.session_core.specs.Times.{session_close, in_session, in_last_25_minutes, in_last_10_minutes, may_declare_brief};
 
 use crate::date::Date;
 use crate::moment::Moment;
@@ -28,7 +28,7 @@ pub struct Day {
 
 /// The moment at which the day's session ends.
 pub fn close_moment(day: &Day) -> Moment
-    ensures { result ≡ close_of day.now.close }
+    ensures { result ≡ session_close day.now.close }
 {
     match day.close {
         Close::Regular => Moment::of(57_600_000_000_000),

@@ -8,7 +8,7 @@ use Rattle.session_core.specs.Moments.{seconds}
 use Rattle.wire_in.specs.declared.record.Record.{Record}
 use Rattle.wire_in.specs.declared.record.Record.TheVariants as in_
 use Rattle.wire_in.specs.Records.{moment_of}
-use Rattle.eligible_core.specs.Conditions.{is_eligible}
+use Rattle.eligible_core.specs.Conditions.{eligible}
 use Rattle.window_core.specs.declared.window.Deal.{Deal}
 use Rattle.window_core.specs.Deals.{is_live, live}
 use Rattle.window_core.proofs.Deals.{live-live}
@@ -53,7 +53,7 @@ own_live t n p false = refl
 own_live t n p true = ap (λ (b : Bool). cond b (record { moment = t; number = n; price = p } ∷ []) []) (lt-ltb t (t + seconds 300) (omega arith))
 
 pub live-own : (day : Day) (s : ℕ) (x : Record) → live (moment_of x) (option_to_list (deal_of day s x)) ≡ option_to_list (deal_of day s x)
-live-own day s (in_.Trade t i n p q f) = own_live t n p ((i == s) && is_eligible f t day)
+live-own day s (in_.Trade t i n p q f) = own_live t n p ((i == s) && eligible f t day)
 live-own day s (in_.Day t d c) = refl
 live-own day s (in_.Listing t name k l c) = refl
 live-own day s (in_.Cancel t i n) = refl

@@ -25,7 +25,7 @@ use Rattle.rulebook.specs.Market.{day_record}
 use Rattle.rulebook.specs.Rules as rules
 use Rattle.rulebook.specs.Rules.{or_else}
 use Rattle.rulebook.specs.Symbol as of
-use Rattle.rulebook.specs.Symbol.{begins_run, counted_in, deals_in, deals_of, is_under_halt_in, is_times, phase_in, quote_in}
+use Rattle.rulebook.specs.Symbol.{begins_run, counted_in, deals_in, deals_of, is_under_regulatory_halt_in, is_times, phase_in, quote_in}
 use Rattle.symbol_core.specs.Rests.{Held, Rests, deals_today}
 use Rattle.symbol_core.specs.Silent.{AllSilent, IsOfOthers, IsSilent, SaysNothing}
 use Rattle.symbol_core.specs.Taken.{renewed}
@@ -98,7 +98,7 @@ rests-record mine held x h not_day o same r =
       band = along (λ t. held.kept.band ≡ option_map (λ b. b.value) (last (of.band_of s) (unwrap_or (of.run_in s t) []))) (r.band ∙ sym (run_taken (λ e. option_map (λ b. b.value) (last (of.band_of s) e)) x (of.run_in s (today h)) (λ e. refl)));
       adopted = along (λ t. held.kept.adopted ≡ option_map_or (λ b. b.moment) (last (of.adoption_of s) (unwrap_or (of.run_in s t) [])) 0) (r.adopted ∙ sym (run_taken (λ e. option_map_or (λ b. b.moment) (last (of.adoption_of s) e) 0) x (of.run_in s (today h)) (λ e. refl)));
       straddling = along (λ t. held.kept.straddling ≡ option_map_or (λ straddle. straddle.value) (last (of.straddle_of s) t) false) r.straddling;
-      halted = along (λ t. held.kept.halted ≡ is_under_halt_in s (records t)) (r.halted ∙ sym (halted-taken s x (records (today h)) ∙ halted-others s x (is_under_halt_in s (records (today h))) o.symbol));
+      halted = along (λ t. held.kept.halted ≡ is_under_regulatory_halt_in s (records t)) (r.halted ∙ sym (halted-taken s x (records (today h)) ∙ halted-others s x (is_under_regulatory_halt_in s (records (today h))) o.symbol));
       round = along (λ t. held.kept.round ≡ option_map auction.round_of (last (auction.collar_of s) t)) r.round;
       origin = along (λ t. held.kept.origin ≡ auction.origin_in s t) r.origin;
       indication = along (λ t. held.kept.indication ≡ auction.indication_in s t) (r.indication ∙ sym (ap (λ (i : Option Indication). elim i [ Some i ↦ Some i | None ↦ auction.indication_in s (today h) ]) (indicated-others s x o.symbol)));

@@ -11,10 +11,10 @@ use Rattle.wire_in.specs.declared.record.Record.TheVariants as in_
 use Rattle.wire_out.specs.declared.message.Message.{Message}
 use Rattle.wire_out.specs.declared.message.Message.TheVariants as out
 use Rattle.wire_out.specs.declared.message.ShortKind.TheVariants.{Carried, Triggered}
-use Rattle.limit_core.specs.Limits.{is_straddling}
+use Rattle.limit_core.specs.Limits.{straddles}
 use Rattle.limit_core.specs.Timers.{has_lasted}
 use Rattle.pause_core.specs.declared.turning.Brakes.{Brakes}
-use Rattle.pause_core.specs.Pauses.{pause_of}
+use Rattle.pause_core.specs.Pauses.{pause}
 use Rattle.pause_core.specs.Phases.{is_limit, is_trading}
 use Rattle.reopen_core.specs.declared.auction.Round.{Round}
 use Rattle.reopen_core.specs.declared.auction.Trial.{Trial}
@@ -97,7 +97,7 @@ pausing_as k p = becoming k p ++ (if is_paused p then first_rounds k.id k.phase 
 
 abbrev pub pause_now : Kept → Step → Option Phase
 pause_now k step =
-    pause_of (has_lasted k.since step.moment) (asks_to_pause k.id step.input) k.straddling k.phase (in_last_10_minutes step.moment step.day)
+    pause (has_lasted k.since step.moment) (asks_to_pause k.id step.input) k.straddling k.phase (in_last_10_minutes step.moment step.day)
 
 abbrev pub pausing : Kept → Step → List Message
 pausing k step = option_map_or (pausing_as k) (pause_now k step) []
@@ -127,7 +127,7 @@ IsDue t round (trial.Extend collars) = round.moment + seconds 300 ≤ t
 IsDue t round other = Unit {0}
 
 abbrev pub is_straddling_now : Kept → Bool
-is_straddling_now k = is_trading k.phase && meets is_straddling k.quote k.band
+is_straddling_now k = is_trading k.phase && meets straddles k.quote k.band
 
 abbrev pub straddling : Kept → Step → List Message
 straddling k step =

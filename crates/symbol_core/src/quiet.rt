@@ -2,7 +2,7 @@
 ghost use Rattle.std.specs.Prelude.{◌≡◌, ◌<◌, ◌≤◌, ◌&&◌, ℕ, true, false, IfSome, None};
 ghost use Rattle.std.specs.Option.{option_map_or};
 ghost use Rattle.session_core.specs.Times.{is_closed};
-ghost use Rattle.percent_core.specs.Percentages.{span_at};
+ghost use Rattle.percent_core.specs.Percentages.{span};
 ghost use Rattle.window_core.specs.Deals.{mean_of};
 ghost use Rattle.symbol_core.specs.Pricing.{reference, time_changes};
 ghost use Rattle.symbol_core.specs.Quiet.{IsQuiet, IsRested, IsSettled, Lasts, SameAwaited};
@@ -42,7 +42,7 @@ const FIVE_MINUTES: u64 = 300_000_000_000;
 /// The close, or before it the next moment at which the percentages change, in nanoseconds of the day.
 fn next_change(t: Moment, day: &Day) -> u64
     ensures closed { (u : ℕ) → u < result → is_closed u day.now ≡ false }
-    ensures span { (u : ℕ) → t ≤ u → u < result → span_at u day.now ≡ span_at t day.now }
+    ensures span { (u : ℕ) → t ≤ u → u < result → span u day.now ≡ span t day.now }
 {
     let close = close_moment(day).nanos();
     let last_25 = close.saturating_sub(LAST_25);
@@ -118,7 +118,8 @@ impl Kept {
         match self.band {
             Some(last) if self.adoption(&last).has_stood(t) => u64::MAX,
             Some(_) => self.adopted.nanos() + THIRTY_SECONDS,
-            None if is_in_opening_period(self.begun_at(), t) => self.begun_at().nanos() + FIVE_MINUTES,
+            None if is_in_opening_period(self.begun_at(), t) => self.begun_at().nanos()
+                + FIVE_MINUTES,
             None => u64::MAX,
         }
     }

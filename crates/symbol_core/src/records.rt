@@ -72,7 +72,7 @@ pub fn listed_by(x: &Record, before: Option<Terms>) -> Option<Terms>
         } => Some(Terms {
             tier,
             leverage,
-            close,
+            prior_close: close,
         }),
         _ => before,
     }

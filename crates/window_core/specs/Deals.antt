@@ -1,7 +1,7 @@
 -- Deals, the oldest first, and their mean (LULD Plan, Section V).
 use Rattle.std.specs.Prelude.{ℕ, Bool, Option, Some, None, List, [], ◌∷◌, ◌+◌, ◌==◌, nat_lt, if◌then◌else◌, not, min, length, filter, sum_by}
 use Rattle.std.specs.Option.{option_map_or}
-use Rattle.price_core.specs.Rounding.{rounded_mean}
+use Rattle.price_core.specs.Rounding.{mean}
 use Rattle.session_core.specs.Moments.{seconds}
 use Rattle.window_core.specs.declared.window.Deal.{Deal}
 
@@ -19,7 +19,7 @@ stays number d = not (d.number == number)
 -- the mean of their prices, none where there are none
 abbrev pub mean_of : List Deal → Option ℕ
 mean_of deals =
-    if length deals == 0 then None else Some (rounded_mean (sum_by (λ d. d.price) deals) (length deals))
+    if length deals == 0 then None else Some (mean (sum_by (λ d. d.price) deals) (length deals))
 
 -- the least of their moments, none where there are none
 abbrev pub least_moment : List Deal → Option ℕ

@@ -1,5 +1,5 @@
 ghost use Rattle.std.specs.Prelude.{◌≡◌, ◌==◌, ◌+◌, ◌*◌, ◌≤◌, ◌<◌, ◌++◌, ◌∷◌, ◌^◌, [], None, Some, List, OnOk, IfOk, IsOk, filter, if◌then◌else◌, length, option_map, option_to_list, slice_get, sum_by, vec_len, vec_capacity};
-ghost use Rattle.price_core.specs.Rounding.{rounded_mean};
+ghost use Rattle.price_core.specs.Rounding.{mean};
 ghost use Rattle.window_core.specs.Deals.{is_live, live, stays, mean_of, least_moment};
 ghost use Rattle.window_core.specs.Calls.{Call, Advance, Add, Cancel, Restart, window};
 
@@ -93,7 +93,7 @@ impl Tally {
     pub(crate) fn mean(&self) -> Option<Price>
         requires least { self.now.count ≤ self.now.sum }
         requires most { self.now.sum ≤ 99999999999 * self.now.count }
-        ensures { result ≡ (if self.now.count == 0 then None else Some (rounded_mean self.now.sum self.now.count)) }
+        ensures { result ≡ (if self.now.count == 0 then None else Some (mean self.now.sum self.now.count)) }
     {
         if self.count == 0 {
             return None;
