@@ -3,6 +3,7 @@ use Rattle.rulebook.specs.Rules as rules
 use Rattle.afresh_core.specs.declared.context.Context.{Context}
 use Rattle.history_core.specs.Names.{own_in}
 
+-- what the rules read, as the definitions have it
 abbrev pub context_of : Context → rules.Context
 context_of c = record {
   history = c.history.now;

@@ -212,6 +212,7 @@ fn timely_round(c: &Context) -> Option<Round>
     ensures few { IfSome result (λ round. round.number < 288) }
 {
     let round = last_round(c.history, c.symbol)?;
+    // This reads that the moment is in its range.
     let _moment = round.moment.nanos();
     Some(round)
 }

@@ -85,9 +85,9 @@ fn before_day(h: &[Event]) -> &[Event]
 pub fn is_carried(h: &[Event], names: &[[u8; 8]], symbol: u16) -> bool
     ensures { result ≡ is_carried h.now (own_in names.now symbol) symbol }
 {
-    let part = before_day(h);
-    match day_record(part) {
-        Some((day, _)) => triggered_in(names, &day, symbol, part),
+    let before = before_day(h);
+    match day_record(before) {
+        Some((day, _)) => triggered_in(names, &day, symbol, before),
         None => false,
     }
 }

@@ -1,4 +1,4 @@
--- A day of the market-wide circuit breakers, told by the calls of a breaker and by what they answered, each with the
+-- A day of the market-wide circuit breakers: the calls of a breaker, and what they answered, each with the
 -- newest first (NYSE Rule 7.12).
 use Rattle.std.specs.Prelude.{ℕ, Option, Some, None, List, [], ◌∷◌, if◌then◌else◌, max}
 use Rattle.std.specs.Option.{option_map_or}
@@ -7,7 +7,7 @@ use Rattle.session_core.specs.declared.state.Level.{Level}
 use Rattle.breaker_core.specs.declared.breaker.Halt.{Halt}
 use Rattle.breaker_core.specs.Levels.{percent_of, ends, declares}
 
--- a moment is told, or an index tick: its moment, its value and the day
+-- a moment, or an index tick: its moment, its value and the day
 pub data Call : Type 0 where
   Time : ℕ → Call
   Tick : ℕ → ℕ → Day → Call

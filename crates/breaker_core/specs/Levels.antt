@@ -5,7 +5,7 @@ use Rattle.price_core.specs.Moves.{fell}
 use Rattle.session_core.specs.declared.day.Day.{Day}
 use Rattle.session_core.specs.declared.state.Level.{Level}
 use Rattle.session_core.specs.declared.state.Level.TheVariants.{One, Two, Three}
-use Rattle.session_core.specs.Moments.{seconds}
+use Rattle.session_core.specs.Durations.{fifteen_minutes}
 use Rattle.session_core.specs.Times.{in_session, may_declare_brief}
 use Rattle.breaker_core.specs.declared.breaker.Halt.{Halt}
 
@@ -23,7 +23,7 @@ is_brief Three = false
 
 -- whether a halt is over at t
 abbrev pub is_over : ℕ → Halt → Bool
-is_over t halt = is_brief halt.level && nat_le (halt.since + seconds 900) t
+is_over t halt = is_brief halt.level && nat_le (halt.since + fifteen_minutes) t
 
 -- whether there is a halt that is over at t
 abbrev pub ends : ℕ → Option Halt → Bool

@@ -5,7 +5,6 @@
 mod admission;
 mod auction;
 mod history;
-mod level;
 mod market;
 mod runs;
 mod symbol;

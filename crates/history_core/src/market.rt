@@ -5,8 +5,7 @@ ghost use Rattle.rulebook.specs.History.{records};
 ghost use Rattle.rulebook.specs.Market.{day_record, market_halt_in, market_halt, is_market_halted, greatest_in, greatest_declared, resume_at, declare_on, declare_at};
 
 use crate::history::{now, today};
-use crate::level::{declares, ends, percent_of};
-use breaker_core::Halt;
+use breaker_core::{Halt, declares, ends, percent_of};
 use price_core::Index;
 use rulebook::Event;
 use session_core::Day;

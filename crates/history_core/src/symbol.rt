@@ -5,20 +5,20 @@ ghost use Rattle.history_core.specs.Names.{own_in};
 ghost use Rattle.rulebook.specs.History.{records, last};
 ghost use Rattle.rulebook.specs.Symbol.{terms_in, terms, prior_close_of, prior_close, state_of, phase_in, phase, since, straddle_of, was_straddling, is_under_regulatory_halt_in, is_under_regulatory_halt};
 
-use crate::admission::place_of;
-use crate::history::{midnight, now, today};
+use crate::admission::index_of;
+use crate::history::{now, today};
 use price_core::Price;
 use rulebook::{Event, Terms};
-use session_core::{Moment, Phase};
+use session_core::{Moment, Phase, midnight};
 use wire_in::{NoticeKind, Record};
 use wire_out::Message;
 
-/// Whether a name is at the place of a symbol among these.
+/// Whether a name is at the index of a symbol among these.
 pub fn is_own(names: &[[u8; 8]], symbol: u16, name: [u8; 8]) -> bool
     ensures { result ≡ own_in names.now symbol name }
 {
-    match place_of(names, name) {
-        Some(place) => place == symbol as usize,
+    match index_of(names, name) {
+        Some(index) => index == symbol as usize,
         None => false,
     }
 }

@@ -13,7 +13,7 @@ use crate::runs::{band_of, begun, last_band_in, new_run, newest, run};
 use eligible_core::{eligible, opening};
 use price_core::{NoMemory, Price};
 use rulebook::Event;
-use session_core::{Day, Moment};
+use session_core::{Day, FIVE_MINUTES, Moment};
 use std::alloc::Global;
 use window_core::{Deal, live_mean};
 use wire_in::Record;
@@ -108,7 +108,7 @@ fn counted_in(
 fn counted(alloc: Global, day: &Day, h: &[Event], symbol: u16) -> Result<Vec<Event>, NoMemory>
     ensures { IfOk result (λ events. events.items ≡ counted day.now h.now symbol) }
 {
-    let end = begun(h, symbol).nanos() + 300_000_000_000;
+    let end = begun(h, symbol).nanos() + FIVE_MINUTES;
     let events = run(alloc, h, symbol)?;
     counted_in(alloc, day, symbol, end, &events)
 }

@@ -29,8 +29,8 @@ use Rattle.rulebook.specs.Market.{day_record, market_halt_in, market_halt, great
 use Rattle.rulebook.proofs.Histories.{own_part, parts, market_part, tick-part, publish-append, records-history, in_order, step_messages-publish, last_day-day_record, first_part}
 use Rattle.rulebook.proofs.Ids.{listed-below}
 use Rattle.rulebook.proofs.Listings.{own_name}
-use Rattle.rulebook.proofs.Places.{is_some-position}
-use Rattle.rulebook.proofs.Speakers.{AllOfSymbols, of_symbol, own_part-by, by_other, parts-of_symbols, greatest-publish, market_halt-publish}
+use Rattle.rulebook.proofs.Positions.{is_some-position}
+use Rattle.rulebook.proofs.OfSymbol.{AllOfSymbols, of_symbol, own_part-by, by_other, parts-of_symbols, greatest-publish, market_halt-publish}
 use Rattle.symbol_core.specs.Rests.{Held, Rests}
 use Rattle.symbol_core.specs.Silent.{SaysNothing}
 use Rattle.market_core.specs.declared.market.Today.{Today}

@@ -25,7 +25,7 @@ use Rattle.rulebook.specs.Market.{breaks, day_record, greatest_declared, greates
 use Rattle.rulebook.specs.Symbol.{terms, terms_in}
 use Rattle.rulebook.proofs.Histories.{evaluate-part, evaluate_market-part, evaluate_own-part, in_order, market_part, messages-publish, now-publish, now-today, own_part, part, publish-append, records-history, records-publish, step_messages-publish}
 use Rattle.rulebook.proofs.Ids.{listed-below, same_id}
-use Rattle.rulebook.proofs.Speakers.{AllOfSymbols, NoneBy, NoneBy-append, by_market, greatest-publish, market_halt-publish, market_part-by, of_symbol, own_part-by, parts-below, parts-of_symbols}
+use Rattle.rulebook.proofs.OfSymbol.{AllOfSymbols, NoneBy, NoneBy-append, by_market, greatest-publish, market_halt-publish, market_part-by, of_symbol, own_part-by, parts-below, parts-of_symbols}
 use Rattle.symbol_core.specs.declared.symbol.MarketView.{MarketView}
 use Rattle.symbol_core.specs.Evaluates.{Opens, part_of, step_of}
 use Rattle.symbol_core.specs.Rests.{Held, Rests}

@@ -24,7 +24,7 @@ abbrev pub is_in_regulatory_halt : Phase → Bool
 is_in_regulatory_halt Halted = true
 is_in_regulatory_halt p = false
 
--- a market-wide halt stops it
+-- a market-wide halt can halt it
 abbrev pub can_market_halt : Phase → Bool
 can_market_halt Halted = false
 can_market_halt Stopped = false

@@ -1,4 +1,4 @@
--- The phases that the close, a market-wide halt, the start of trading and a regulatory halt bring.
+-- The phases that the session close, a market-wide halt, the start of trading and a regulatory halt bring.
 use Rattle.std.specs.Prelude.{Bool, Option, Some, None, List, [], ◌∷◌, ◌++◌, not, ◌&&◌, if◌then◌else◌, unwrap_or, option_to_list}
 use Rattle.session_core.specs.declared.state.Phase.{Phase}
 use Rattle.session_core.specs.declared.state.Phase.TheVariants.{Shut, Trading, Halted, Stopped, Closed}
@@ -8,11 +8,11 @@ use Rattle.pause_core.specs.Phases.{is_done, is_in_regulatory_halt, can_market_h
 
 -- A rule gives the phase that it brings, or none.
 
--- the close
+-- the session close
 abbrev pub session_close : Phase → Brakes → Option Phase
 session_close p b = if b.closed then Some Closed else None
 
--- a market-wide halt is in effect and stops the stock (NYSE Rule 7.12)
+-- a market-wide halt is in effect and halts the stock (NYSE Rule 7.12)
 abbrev pub market_halts : Phase → Brakes → Bool
 market_halts p b = b.stopped && can_market_halt p
 

@@ -31,7 +31,7 @@ pub fn is_in_regulatory_halt(phase: Phase) -> bool
     phase == Phase::Halted
 }
 
-/// Whether a market-wide halt stops it.
+/// Whether a market-wide halt can halt it (NYSE Rule 7.12).
 pub fn can_market_halt(phase: Phase) -> bool
     ensures { result ≡ can_market_halt phase }
 {

@@ -4,8 +4,8 @@ ghost use Rattle.pause_core.specs.Turns.{session_close, regulatory_halt, phase_a
 use crate::phases::{can_market_halt, can_start, is_done, is_in_regulatory_halt};
 use session_core::Phase;
 
-/// What brakes a stock: the close has come, it is in the session, a market-wide halt is in effect, a regulatory halt is in
-/// effect.
+/// What brakes a stock: the session close has come, it is in the session, a market-wide halt is in effect, a regulatory
+/// halt is in effect.
 #[derive(Clone, Copy, Debug, PartialEq, Eq)]
 pub struct Brakes {
     pub closed: bool,
@@ -21,8 +21,8 @@ pub struct Turned {
     pub second: Option<Phase>,
 }
 
-/// The phases that the close, a market-wide halt, the start of trading and a regulatory halt bring, one rule after the
-/// other (NYSE Rule 7.12 for the market-wide halt).
+/// The phases that the session close, a market-wide halt, the start of trading and a regulatory halt bring, one rule after
+/// the other (NYSE Rule 7.12 for the market-wide halt).
 pub fn turn(phase: Phase, b: &Brakes) -> Turned
     ensures all { option_to_list result.first ++ option_to_list result.second ≡ turns phase b.now }
     ensures value { result ≡ in_order (turns phase b.now) }
@@ -53,15 +53,16 @@ fn starts(phase: Phase, b: &Brakes) -> bool
     can_start(phase) && b.in_session && !b.stopped
 }
 
-/// The phase that the close brings, None exactly before it.
+/// The phase that the session close brings, None exactly before it.
 pub fn session_close(phase: Phase, b: &Brakes) -> Option<Phase>
     ensures { result ≡ session_close phase b.now }
 {
+    // Each rule takes the phase. This one needs none.
     let _phase = phase;
     b.closed.then_some(Phase::Closed)
 }
 
-/// The phase that a market-wide halt brings, None exactly where there is none or it doesn't stop the stock
+/// The phase that a market-wide halt brings, None exactly where there is none or it doesn't halt the stock
 /// (NYSE Rule 7.12).
 pub fn market_halt(phase: Phase, b: &Brakes) -> Option<Phase>
     ensures { result ≡ market_halt phase b.now }

@@ -4,7 +4,7 @@ ghost use Rattle.percent_core.specs.Keys.{key_of};
 
 use case_table::{Case, Cases, cases};
 use price_core::{Category, Price, Tier};
-use session_core::{Day, Moment, Profile, Span, last_25};
+use session_core::{Day, END_OF_FIRST_15_MINUTES, Moment, Profile, Span, last_25};
 
 /// The percentages of a reference price (after the LULD Plan, Appendix A), by the tier, the price category and the part of
 /// the session, first since Amendment 18 and then before it.
@@ -52,7 +52,7 @@ pub fn span(t: Moment, day: &Day) -> Span
 {
     if last_25(t, day) {
         Span::Last25
-    } else if t.nanos() < 35_100_000_000_000 {
+    } else if t.nanos() < END_OF_FIRST_15_MINUTES {
         Span::First15
     } else {
         Span::Middle

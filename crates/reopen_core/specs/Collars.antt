@@ -16,9 +16,11 @@ auction_reference Straddle bands reference = reference
 abbrev pub collar_step : ℕ → ℕ
 collar_step reference = if nat_lt 30000 reference then round_cent (5 * reference) 100 else 1500
 
+-- a step below a price, a unit at least
 abbrev pub below : ℕ → ℕ → ℕ
 below price step = max 1 (price - step)
 
+-- a step above a price, at most the greatest price
 abbrev pub above : ℕ → ℕ → ℕ
 above price step = min 99999999999 (price + step)
 
@@ -29,8 +31,10 @@ first_collars High bands reference = record { lower = bands.lower; upper = above
 first_collars Straddle bands reference =
     record { lower = below reference (collar_step reference); upper = above reference (collar_step reference) }
 
+-- the lower collar moves down by a step
 abbrev pub with_lower : Collars → ℕ → Collars
 with_lower collars step = record collars { lower = below collars.lower step }
 
+-- the upper collar moves up by a step
 abbrev pub with_upper : Collars → ℕ → Collars
 with_upper collars step = record collars { upper = above collars.upper step }

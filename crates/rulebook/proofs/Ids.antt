@@ -151,11 +151,11 @@ place_from p j (suc i) (y ∷ xs) x one e own = by (p y) refl (place_from p (j +
   by true here rest = absurd (true≢false (sym rest.1 ∙ one.0 here))
   by false here rest = (rest.0 ∙ ap (λ (n : ℕ). Some n) (omega arith), rest.1)
 
--- the name at a place has that id
+-- the name at an index has that id
 pub id-at : (A : List Record) (s : ℕ) (name : List ℕ) → slice_get (names A) s ≡ Some name → id_of A name ≡ Some s
 id-at A s name e = position_from-zero (bytes_eq name) (names A) ∙ (place_from (bytes_eq name) 0 s (names A) name (one_place A name) e (own_name name)).0 ∙ ap (λ (n : ℕ). Some n) (omega arith)
 
--- and a name that has an id stands at that place
+-- and a name that has an id stands at that index
 pub name-at : (A : List Record) (s : ℕ) (name : List ℕ) → id_of A name ≡ Some s → slice_get (names A) s ≡ Some name
 name-at A s name e =
     let at = position-Some (bytes_eq name) (names A) s [] e in
@@ -167,7 +167,7 @@ same_id a b e = grind (arith, nat_tests)
 pub own_id : (a : ℕ) → (a == a) ≡ true
 own_id a = grind (arith, nat_tests)
 
--- the names of a symbol are the name at its place
+-- the names of a symbol are the name at its index
 own-at : (A : List Record) (s : ℕ) (n : List ℕ) → slice_get (names A) s ≡ Some n → (name : List ℕ) → (named A s).own name ≡ bytes_eq name n
 own-at A s n at name = by (bytes_eq name n) refl (id_of A name) refl where
   test : (o : Option ℕ) → Bool

@@ -19,6 +19,7 @@ abbrev pub record_or_refusal : Record → Option Refusal → Result Record Refus
 record_or_refusal x None = Ok x
 record_or_refusal x (Some refusal) = Err refusal
 
+-- the record where it is admissible, else the first refusal that applies
 abbrev pub admitted : ℕ → List Record → Result Record Refusal → Result Record Refusal
 admitted capacity held (Ok x) = record_or_refusal x (verdict capacity held x)
 admitted capacity held (Err refusal) = Err refusal
@@ -27,6 +28,7 @@ admitted capacity held (Err refusal) = Err refusal
 abbrev pub judged : ℕ → List Record → List ℕ → Result Record Refusal
 judged capacity held body = admitted capacity held (record_of body)
 
+-- the accepted records after one more frame: a refused one leaves no trace
 abbrev pub with_record : List Record → Result Record Refusal → List Record
 with_record held (Ok x) = x ∷ held
 with_record held (Err refusal) = held
@@ -79,10 +81,12 @@ passed_over (Some from) before count = min (from - 1 - before) count
 abbrev pub session_frames : ℕ → Option ℕ → List Record → List (List ℕ) → List Frame
 session_frames capacity from held bodies = sent_again from held ++ hello held ∷ replies capacity 1 held bodies
 
+-- an acknowledgement
 abbrev pub is_ack : Frame → Bool
 is_ack (Ack number) = true
 is_ack frame = false
 
+-- the frames without acknowledgements
 abbrev pub unacknowledged : List Frame → List Frame
 unacknowledged frames = filter (λ frame. not (is_ack frame)) frames
 

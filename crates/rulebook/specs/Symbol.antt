@@ -9,7 +9,7 @@ use Rattle.price_core.specs.declared.quote.Quotation.{Quotation}
 use Rattle.session_core.specs.declared.day.Day.{Day}
 use Rattle.session_core.specs.declared.state.Phase.{Phase}
 use Rattle.session_core.specs.declared.state.Phase.TheVariants.{Shut}
-use Rattle.session_core.specs.Moments.{seconds}
+use Rattle.session_core.specs.Durations.{five_minutes}
 use Rattle.wire_in.specs.declared.record.NoticeKind.TheVariants as notice
 use Rattle.wire_in.specs.declared.record.Record.{Record}
 use Rattle.wire_in.specs.declared.record.Record.TheVariants as in_
@@ -44,6 +44,7 @@ terms_in own (x ∷ earlier) = terms_in own earlier
 abbrev pub terms : List Event → (List ℕ → Bool) → Option Terms
 terms h own = terms_in own (records h)
 
+-- the prior close of a listing
 abbrev pub prior_close_of : Option Terms → Option ℕ
 prior_close_of listed = option_and_then (λ terms. terms.prior_close) listed
 
@@ -53,6 +54,7 @@ prior_close h own = prior_close_of (terms h own)
 
 -- Phases
 
+-- the phase of a state message of s
 abbrev pub state_of : ℕ → Message → Option Phase
 state_of s (out.State symbol phase) = if symbol == s then Some phase else None
 state_of s m = None
@@ -65,6 +67,7 @@ last_state h s = last (state_of s) (today h)
 abbrev pub phase_in : ℕ → List Event → Phase
 phase_in s h = option_map_or (λ state. state.value) (last (state_of s) h) Shut
 
+-- the phase of s
 abbrev pub phase : List Event → ℕ → Phase
 phase h s = phase_in s (today h)
 
@@ -74,6 +77,7 @@ since h s = option_map_or (λ state. state.moment) (last_state h s) 0
 
 -- Runs: a run begins where trading begins other than out of a limit state
 
+-- a message that begins a run of s, after these events
 abbrev pub begins_run : ℕ → Message → List Event → Bool
 begins_run s m h = option_map_or is_trading (state_of s m) false && not (is_limit (phase_in s h))
 
@@ -84,6 +88,7 @@ run_in s (Accepted x ∷ h) = option_map (λ run. Accepted x ∷ run) (run_in s 
 run_in s (Published m ∷ h) =
     if begins_run s m h then Some (Published m ∷ step_record h) else option_map (λ run. Published m ∷ run) (run_in s h)
 
+-- the events of today's last run
 abbrev pub run : List Event → ℕ → List Event
 run h s = unwrap_or (run_in s (today h)) []
 
@@ -93,11 +98,13 @@ begun_in s [] = None
 begun_in s (Accepted x ∷ h) = begun_in s h
 begun_in s (Published m ∷ h) = if begins_run s m h then Some (now h) else begun_in s h
 
+-- the moment at which today's last run began
 abbrev pub begun : List Event → ℕ → ℕ
 begun h s = unwrap_or (begun_in s (today h)) 0
 
 -- Quotations
 
+-- the last quotation of s among these events
 abbrev pub quote_in : ℕ → List Event → Option Quotation
 quote_in s [] = None
 quote_in s (Accepted (in_.Quote t symbol bid offer x y) ∷ h) = if symbol == s then Some (record { bid = bid; offer = offer }) else quote_in s h
@@ -109,11 +116,13 @@ quote h s = quote_in s (run h s)
 
 -- Price bands
 
+-- the bands of a band message of s
 abbrev pub band_of : ℕ → Message → Option Banded
 band_of s (out.Band symbol c reference lower upper) =
     if symbol == s then Some (record { cause = c; reference = reference; bands = record { lower = lower; upper = upper } }) else None
 band_of s m = None
 
+-- bands that the time of day changed
 abbrev pub is_times : Cause → Bool
 is_times cause.Times = true
 is_times c = false
@@ -149,9 +158,11 @@ opening_price day s (in_.Trade t symbol number price size flags) =
     if (symbol == s) && eligible flags t day && is_opening_trade flags then Some price else None
 opening_price day s x = None
 
+-- an eligible opening trade of s before a moment
 abbrev pub opens_before : Day → ℕ → ℕ → Record → Bool
 opens_before day s end x = is_some (opening_price day s x) && nat_lt (moment_of x) end
 
+-- a message of bands of s, the first after these events
 abbrev pub is_first_band : ℕ → Message → List Event → Bool
 is_first_band s m h = is_some (band_of s m) && not (is_some (last (band_of s) h))
 
@@ -164,9 +175,11 @@ counted_in day s end (Published m ∷ h) =
     then Published m ∷ step_record h
     else Published m ∷ counted_in day s end h
 
+-- the events of the run whose trades count
 abbrev pub counted : Day → List Event → ℕ → List Event
-counted day h s = counted_in day s (begun h s + seconds 300) (run h s)
+counted day h s = counted_in day s (begun h s + five_minutes) (run h s)
 
+-- a record that cancels the trade of that number
 abbrev pub cancels : ℕ → ℕ → Record → Bool
 cancels s number (in_.Cancel t symbol cancelled) = (symbol == s) && (cancelled == number)
 cancels s number x = false
@@ -191,6 +204,7 @@ mean day h s = mean_of (live (now h) (deals_of day h s))
 
 -- Straddles and notices
 
+-- whether a straddle message of s is on
 abbrev pub straddle_of : ℕ → Message → Option Bool
 straddle_of s (out.Straddle symbol on) = if symbol == s then Some on else None
 straddle_of s m = None
@@ -199,6 +213,7 @@ straddle_of s m = None
 abbrev pub was_straddling : List Event → ℕ → Bool
 was_straddling h s = option_map_or (λ straddle. straddle.value) (last (straddle_of s) (today h)) false
 
+-- whether the last halt notice of s among these records has no resume notice after it
 abbrev pub is_under_regulatory_halt_in : ℕ → List Record → Bool
 is_under_regulatory_halt_in s [] = false
 is_under_regulatory_halt_in s (in_.Notice t symbol notice.Halt ∷ earlier) = if symbol == s then true else is_under_regulatory_halt_in s earlier

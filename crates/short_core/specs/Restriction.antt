@@ -20,6 +20,7 @@ pub record Trades : Type 0 where
 abbrev pub traded : ℕ → Trades → Trades
 traded price day = record day { prices = price ∷ day.prices }
 
+-- a trade of the day triggers it
 abbrev pub has_triggered : Trades → Bool
 has_triggered day = list_any (triggers day.prior_close) day.prices
 

@@ -12,7 +12,7 @@ use Rattle.rulebook.specs.declared.event.Event.{Event}
 use Rattle.rulebook.specs.declared.event.Event.TheVariants.{Accepted}
 use Rattle.rulebook.specs.History.{now, today, records, last}
 use Rattle.rulebook.specs.Market.{is_market_halted, day_record}
-use Rattle.session_core.specs.Moments.{seconds}
+use Rattle.session_core.specs.Durations.{five_minutes}
 use Rattle.wire_in.specs.Records.{is_day, moment_of, name_of}
 use Rattle.rulebook.specs.Rules.{or_else}
 use Rattle.rulebook.specs.Symbol.{cancels, counted_in, is_under_regulatory_halt_in, quote_in, terms_in, deals_in, deals_of}
@@ -136,8 +136,8 @@ stands-taken mine k kept step index h not_day name day s at stopped later =
       left_limit = refl;
       released = refl;
       deal = own-taken step.day k.id x;
-      window = along (λ t. SameLive (moment_of x) (filter (leaves k.id x) kept ++ (if is_some k.begun then option_to_list (deal_of step.day k.id x) else [])) (deals_in step.day k.id [] (counted_in step.day k.id (unwrap_or (of.begun_in k.id t) 0 + seconds 300) (unwrap_or (of.run_in k.id t) []))))
-          (rw has_run (window_taken step.day k.id x (now h) (moment_of x) (of.begun h k.id + seconds 300) kept (option_to_list (deal_of step.day k.id x)) (of.run_in k.id (today h)) (rw at at later) (own-taken step.day k.id x) kept_live));
+      window = along (λ t. SameLive (moment_of x) (filter (leaves k.id x) kept ++ (if is_some k.begun then option_to_list (deal_of step.day k.id x) else [])) (deals_in step.day k.id [] (counted_in step.day k.id (unwrap_or (of.begun_in k.id t) 0 + five_minutes) (unwrap_or (of.run_in k.id t) []))))
+          (rw has_run (window_taken step.day k.id x (now h) (moment_of x) (of.begun h k.id + five_minutes) kept (option_to_list (deal_of step.day k.id x)) (of.run_in k.id (today h)) (rw at at later) (own-taken step.day k.id x) kept_live));
     }
   where
     x : Record

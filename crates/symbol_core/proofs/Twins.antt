@@ -21,7 +21,7 @@ use Rattle.rulebook.specs.Market.{day_record}
 use Rattle.rulebook.specs.Rules as rules
 use Rattle.rulebook.specs.Rules.{Context, at_band}
 use Rattle.rulebook.proofs.Histories.{own_part, publish-append}
-use Rattle.rulebook.proofs.Speakers.{AllBy, AllSpeak, all_obeyed-by, own_part-by, rules_speak, speaker}
+use Rattle.rulebook.proofs.OfSymbol.{AllBy, AllSpeak, all_obeyed-by, own_part-by, rules_speak, speaker}
 use Rattle.symbol_core.specs.declared.kept.Kept.{Kept}
 use Rattle.symbol_core.specs.declared.kept.Step.{Step}
 use Rattle.symbol_core.specs.declared.symbol.MarketView.{MarketView}

@@ -4,7 +4,7 @@ use Rattle.std.specs.Option.{option_map_or}
 use Rattle.price_core.specs.declared.quote.Quotation.{Quotation}
 use Rattle.session_core.specs.declared.state.Phase.{Phase}
 use Rattle.session_core.specs.declared.state.Phase.TheVariants.{Closing, Trading}
-use Rattle.session_core.specs.Moments.{seconds}
+use Rattle.session_core.specs.Durations.{five_minutes}
 use Rattle.session_core.specs.Times.{in_session, is_closed, in_last_10_minutes}
 use Rattle.wire_in.specs.declared.record.Record.{Record}
 use Rattle.wire_in.specs.declared.record.Record.TheVariants as in_
@@ -60,7 +60,7 @@ released k price = record k { released = Some price }
 
 -- the run's first bands, at an opening trade in its first five minutes, begin the window anew
 abbrev pub restarts : Kept → Step → Bool
-restarts k step = not (is_some k.band) && opens_before step.day k.id (unwrap_or k.begun 0 + seconds 300) step.input
+restarts k step = not (is_some k.band) && opens_before step.day k.id (unwrap_or k.begun 0 + five_minutes) step.input
 
 -- outside a run bands count for nothing
 abbrev pub banded : Kept → Step → Banded → Kept
@@ -123,7 +123,7 @@ reopening k step = if is_paused k.phase then option_map_or (reopening_after k st
 
 -- a further round is begun five minutes after this one at least
 abbrev pub IsDue : ℕ → Round → Trial → Type 0
-IsDue t round (trial.Extend collars) = round.moment + seconds 300 ≤ t
+IsDue t round (trial.Extend collars) = round.moment + five_minutes ≤ t
 IsDue t round other = Unit {0}
 
 abbrev pub is_straddling_now : Kept → Bool

@@ -2,17 +2,18 @@
 use Rattle.std.specs.Prelude.{ℕ, Bool, Option, Some, None, List, [], ◌∷◌, ◌+◌, ◌==◌, nat_lt, if◌then◌else◌, not, min, length, filter, sum_by}
 use Rattle.std.specs.Option.{option_map_or}
 use Rattle.price_core.specs.Rounding.{mean}
-use Rattle.session_core.specs.Moments.{seconds}
+use Rattle.session_core.specs.Durations.{five_minutes}
 use Rattle.window_core.specs.declared.window.Deal.{Deal}
 
 -- less than five minutes old at t
 abbrev pub is_live : ℕ → Deal → Bool
-is_live t d = nat_lt t (d.moment + seconds 300)
+is_live t d = nat_lt t (d.moment + five_minutes)
 
+-- the deals that are less than five minutes old at t
 abbrev pub live : ℕ → List Deal → List Deal
 live t deals = filter (is_live t) deals
 
--- not of that number, whose deals a cancel takes away
+-- not of that number, whose deals a cancel removes
 abbrev pub stays : ℕ → Deal → Bool
 stays number d = not (d.number == number)
 
