@@ -10,7 +10,7 @@ use Rattle.session_core.specs.declared.day.Day.{Day}
 use Rattle.session_core.specs.declared.state.Phase.{Phase}
 use Rattle.session_core.specs.declared.state.Level.{Level}
 use Rattle.session_core.specs.declared.state.Phase.TheVariants.{Trading, LimitLow, LimitHigh}
-use Rattle.session_core.specs.Moments.{seconds}
+use Rattle.session_core.specs.Durations.{five_minutes}
 use Rattle.session_core.specs.Times.{in_last_10_minutes}
 use Rattle.wire_in.specs.declared.record.Record.{Record}
 use Rattle.wire_in.specs.declared.record.Record.TheVariants as in_
@@ -55,7 +55,7 @@ timely_today (Accepted x ∷ h) t = by (is_day x) (timely_today h t) where
 timely_today (Published m ∷ h) t = (subst (λ (n : ℕ). IsTimely n m) (sym (now-today h)) t.0, timely_today h t.1)
 
 abbrev IsRoundTimely : Round → Type 0
-IsRoundTimely r = r.number * seconds 300 ≤ r.moment
+IsRoundTimely r = r.number * five_minutes ≤ r.moment
 
 timely_last : (s : ℕ) (h : List Event) → AreTimely h → IfSome (option_map round_of (last (collar_of s) h)) IsRoundTimely
 timely_last s [] t = tt
@@ -74,7 +74,7 @@ timely_last s (Published (out.Short a b) ∷ h) t = timely_last s h t.1
 timely_last s (Published (out.Breaker a b) ∷ h) t = timely_last s h t.1
 timely_last s (Published out.MarketResume ∷ h) t = timely_last s h t.1
 
-pub timely_round : (s : ℕ) (h : List Event) (r : Round) → AreTimely h → last_round h s ≡ Some r → r.number * seconds 300 ≤ r.moment
+pub timely_round : (s : ℕ) (h : List Event) (r : Round) → AreTimely h → last_round h s ≡ Some r → r.number * five_minutes ≤ r.moment
 timely_round s h r t e = subst (λ (o : Option Round). IfSome o IsRoundTimely) e (timely_last s (today h) (timely_today h t))
 
 -- What is published at a moment
@@ -102,19 +102,19 @@ at_pause : (c : Context) → AllTimely c.moment (rules.pause c)
 at_pause c = at_value c.moment (rules.pause_as c) _ (λ (p : Phase). (tt, at_choice c.moment (is_paused p) _ _ (at_value c.moment (rules.first_round c) (last_band c.history c.symbol) (λ (b : Banded). (omega arith, tt))) tt))
 
 -- a trial
-at_trial : (c : Context) (n : ℕ) (outcome : Trial) → (n + 1) * seconds 300 ≤ c.moment → AllTimely c.moment (rules.reopened c n outcome)
+at_trial : (c : Context) (n : ℕ) (outcome : Trial) → (n + 1) * five_minutes ≤ c.moment → AllTimely c.moment (rules.reopened c n outcome)
 at_trial c n trial.NotDue late = tt
 at_trial c n (trial.Extend collars) late = (late, tt)
 at_trial c n (trial.Release price) late = (tt, (tt, tt))
 at_trial c n trial.Closing late = (tt, tt)
 
-at_due : (c : Context) (round : Round) (outcome : Trial) → round.number * seconds 300 ≤ round.moment
-    → AllTimely c.moment (rules.reopened c round.number (cond (nat_lt c.moment (round.moment + seconds 300)) trial.NotDue outcome))
-at_due c round outcome timely = by (nat_lt c.moment (round.moment + seconds 300)) refl where
-  late : (n : ℕ) (begun t : ℕ) → n * seconds 300 ≤ begun → nat_lt t (begun + seconds 300) ≡ false → (n + 1) * seconds 300 ≤ t
+at_due : (c : Context) (round : Round) (outcome : Trial) → round.number * five_minutes ≤ round.moment
+    → AllTimely c.moment (rules.reopened c round.number (cond (nat_lt c.moment (round.moment + five_minutes)) trial.NotDue outcome))
+at_due c round outcome timely = by (nat_lt c.moment (round.moment + five_minutes)) refl where
+  late : (n : ℕ) (begun t : ℕ) → n * five_minutes ≤ begun → nat_lt t (begun + five_minutes) ≡ false → (n + 1) * five_minutes ≤ t
   late n begun t h e = grind (arith, nat_tests)
 
-  by : (b : Bool) → nat_lt c.moment (round.moment + seconds 300) ≡ b → AllTimely c.moment (rules.reopened c round.number (cond b trial.NotDue outcome))
+  by : (b : Bool) → nat_lt c.moment (round.moment + five_minutes) ≡ b → AllTimely c.moment (rules.reopened c round.number (cond b trial.NotDue outcome))
   by true e = tt
   by false e = at_trial c round.number outcome (late round.number round.moment c.moment timely e)
 
@@ -138,10 +138,10 @@ at_publish_band c = by (rules.reference c) where
   by (Some r) = at_band c r.cause r.price
 
 at_rule : (r : Rule) (c : Context) → AreTimely c.history → AllTimely c.moment (rule_of r c)
-at_rule rule.Close c t = at_turn c turns.close
-at_rule rule.Stop c t = at_turn c turns.stop
+at_rule rule.SessionClose c t = at_turn c turns.session_close
+at_rule rule.MarketHalt c t = at_turn c turns.market_halt
 at_rule rule.Start c t = at_turn c turns.start
-at_rule rule.Halt c t = at_turn c turns.halt
+at_rule rule.RegulatoryHalt c t = at_turn c turns.regulatory_halt
 at_rule rule.Pause c t = at_pause c
 at_rule rule.Reopen c t = at_reopen c t
 at_rule rule.LeaveLimit c t = at_choice c.moment (is_limit (rules.phase_now c) && not (rules.is_at_band (rules.phase_now c) c)) (rules.becomes c Trading) [] (tt, tt) tt
@@ -159,7 +159,7 @@ at_rule rule.Straddle c t =
     at_choice c.moment (on && not was) (out.Straddle c.symbol true ∷ []) ends (tt, tt)
     (at_choice c.moment (was && not on) (out.Straddle c.symbol false ∷ []) [] (tt, tt) tt)
 at_rule rule.Restrict c t =
-    at_choice c.moment (rules.triggers c.day c.symbol c.input (terms c.history c.own) && not (rules.has_triggered c)) (out.Short c.symbol Triggered ∷ []) [] (tt, tt) tt
+    at_choice c.moment (rules.triggers c.day c.symbol c.newest (terms c.history c.own) && not (rules.has_triggered c)) (out.Short c.symbol Triggered ∷ []) [] (tt, tt) tt
 
 -- Steps
 
@@ -195,7 +195,7 @@ timely_rules day s x (r ∷ rs) h t =
 
 all_rules : List Rule
 all_rules =
-    rule.Close ∷ rule.Stop ∷ rule.Start ∷ rule.Halt ∷ rule.Pause ∷ rule.Reopen ∷ rule.LeaveLimit ∷ rule.PublishBand ∷ rule.EnterLimit ∷ rule.Straddle ∷ rule.Restrict ∷ []
+    rule.SessionClose ∷ rule.MarketHalt ∷ rule.Start ∷ rule.RegulatoryHalt ∷ rule.Pause ∷ rule.Reopen ∷ rule.LeaveLimit ∷ rule.PublishBand ∷ rule.EnterLimit ∷ rule.Straddle ∷ rule.Restrict ∷ []
 
 pub timely_evaluate : (x : Record) (s : Named) (h : List Event) → AreTimely h → AreTimely (evaluate x s h)
 unfolding all_rules

@@ -9,14 +9,16 @@ use Rattle.afresh_core.specs.declared.rules.Rule.{Rule}
 use Rattle.afresh_core.specs.declared.rules.Rule.TheVariants as rule
 use Rattle.history_core.specs.Names.{own_in}
 
+-- a symbol, as the definitions have it
 abbrev pub named_in : code.Named → Named
 named_in s = record { symbol = s.symbol; own = own_in s.names.now s.symbol }
 
+-- the rule of the definitions
 abbrev pub rule_of : Rule → Context → List Message
-rule_of rule.Close = rules.close
-rule_of rule.Stop = rules.stop
+rule_of rule.SessionClose = rules.session_close
+rule_of rule.MarketHalt = rules.market_halt
 rule_of rule.Start = rules.start
-rule_of rule.Halt = rules.halt
+rule_of rule.RegulatoryHalt = rules.regulatory_halt
 rule_of rule.Pause = rules.pause
 rule_of rule.Reopen = rules.reopen
 rule_of rule.LeaveLimit = rules.leave_limit

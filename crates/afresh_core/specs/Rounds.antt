@@ -1,6 +1,6 @@
 -- The rounds of reopening auctions stand at their times.
 use Rattle.std.specs.Prelude.{ℕ, ◌*◌, ◌≤◌, List, [], ◌∷◌}
-use Rattle.session_core.specs.Moments.{seconds}
+use Rattle.session_core.specs.Durations.{five_minutes}
 use Rattle.wire_out.specs.declared.message.Message.{Message}
 use Rattle.wire_out.specs.declared.message.Message.TheVariants.{Collar}
 use Rattle.rulebook.specs.declared.event.Event.{Event}
@@ -9,7 +9,7 @@ use Rattle.rulebook.specs.History.{now}
 
 -- each round of the day before that of a message took five minutes
 abbrev pub IsTimely : ℕ → Message → Type 0
-IsTimely t (Collar symbol round lower upper) = round * seconds 300 ≤ t
+IsTimely t (Collar symbol round lower upper) = round * five_minutes ≤ t
 IsTimely t m = Unit {0}
 
 -- so it is for each message of a history

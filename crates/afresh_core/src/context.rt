@@ -18,7 +18,7 @@ pub struct Context<'a> {
     pub history: &'a [Event],
     pub names: &'a [[u8; 8]],
     pub symbol: u16,
-    pub input: Record,
+    pub newest: Record,
     pub moment: Moment,
     pub day: Day,
 }

@@ -2,17 +2,17 @@
 ghost use Rattle.std.specs.Prelude.{◌≡◌, [], ◌∷◌, ◌<◌, IfOk, IfSome, option_to_list};
 ghost use Rattle.std.specs.Option.{option_map_or};
 ghost use Rattle.session_core.specs.Times.{is_closed, in_last_10_minutes};
-ghost use Rattle.pause_core.specs.Pauses.{pause_of};
+ghost use Rattle.pause_core.specs.Pauses as pausing;
 ghost use Rattle.rulebook.specs.Auction.{last_round};
 ghost use Rattle.rulebook.specs.Symbol.{last_band, was_straddling};
-ghost use Rattle.rulebook.specs.Rules.{brakes, close, stop, start, halt, asks_to_pause, has_expired, collar, first_round, pause_as, pause, reopened, reopen_with, reopen_after, reopen, phase_now};
+ghost use Rattle.rulebook.specs.Rules.{brakes, session_close, market_halt, start, regulatory_halt, asks_to_pause, has_expired, collar, first_round, pause_as, pause, reopened, reopen_with, reopen_after, reopen, phase_now};
 ghost use Rattle.afresh_core.specs.Contexts.{context_of};
 ghost use Rattle.afresh_core.specs.Rounds.{AreTimely};
 
 use crate::context::{Context, at_most_one, becomes, followed, phase_now, state};
 use history_core::{
-    indication, is_under_regulatory_halt, is_paused, is_market_halted, last_band, last_round, origin, origin_of, since,
-    was_straddling,
+    indication, is_market_halted, is_paused, is_under_regulatory_halt, last_band, last_round,
+    origin, origin_of, since, was_straddling,
 };
 use limit_core::has_lasted;
 use pause_core::Brakes;
@@ -44,17 +44,17 @@ fn brakes(c: &Context) -> Brakes
 }
 
 /// The close.
-pub fn close(c: &Context) -> Option<Message>
-    ensures { option_to_list result ≡ close (context_of c.now) }
+pub fn session_close(c: &Context) -> Option<Message>
+    ensures { option_to_list result ≡ session_close (context_of c.now) }
 {
-    becomes(c, pause_core::close(phase_now(c), &brakes(c)))
+    becomes(c, pause_core::session_close(phase_now(c), &brakes(c)))
 }
 
 /// A market-wide halt.
-pub fn stop(c: &Context) -> Option<Message>
-    ensures { option_to_list result ≡ stop (context_of c.now) }
+pub fn market_halt(c: &Context) -> Option<Message>
+    ensures { option_to_list result ≡ market_halt (context_of c.now) }
 {
-    becomes(c, pause_core::stop(phase_now(c), &brakes(c)))
+    becomes(c, pause_core::market_halt(phase_now(c), &brakes(c)))
 }
 
 /// The start of trading.
@@ -65,10 +65,10 @@ pub fn start(c: &Context) -> Option<Message>
 }
 
 /// A regulatory halt, and its end.
-pub fn halt(c: &Context) -> Option<Message>
-    ensures { option_to_list result ≡ halt (context_of c.now) }
+pub fn regulatory_halt(c: &Context) -> Option<Message>
+    ensures { option_to_list result ≡ regulatory_halt (context_of c.now) }
 {
-    becomes(c, pause_core::halt(phase_now(c), &brakes(c)))
+    becomes(c, pause_core::regulatory_halt(phase_now(c), &brakes(c)))
 }
 
 /// Whether the primary listing exchange asks for a pause of a symbol.
@@ -137,11 +137,11 @@ fn pause_as(alloc: Global, c: &Context, phase: Phase) -> Result<Vec<Message>, No
 
 /// The phase of a trading pause, where there is one.
 fn pause_phase(c: &Context) -> Option<Phase>
-    ensures { result ≡ pause_of (has_expired (context_of c.now)) (asks_to_pause c.now.symbol c.now.input) (was_straddling c.now.history.now c.now.symbol) (phase_now (context_of c.now)) (in_last_10_minutes c.now.moment c.now.day) }
+    ensures { result ≡ pausing.pause (has_expired (context_of c.now)) (asks_to_pause c.now.symbol c.now.newest) (was_straddling c.now.history.now c.now.symbol) (phase_now (context_of c.now)) (in_last_10_minutes c.now.moment c.now.day) }
 {
     pause_core::pause(
         has_expired(c),
-        asks_to_pause(c.symbol, &c.input),
+        asks_to_pause(c.symbol, &c.newest),
         was_straddling(c.history, c.symbol),
         phase_now(c),
         last_10(c.moment, &c.day),
@@ -212,6 +212,7 @@ fn timely_round(c: &Context) -> Option<Round>
     ensures few { IfSome result (λ round. round.number < 288) }
 {
     let round = last_round(c.history, c.symbol)?;
+    // This reads that the moment is in its range.
     let _moment = round.moment.nanos();
     Some(round)
 }

@@ -1,5 +1,5 @@
-//! The plain evaluation of a list of records: it keeps nothing but the list of events and searches it for everything, as
-//! the reference of tests.
+//! The plain evaluation of a list of records. It keeps nothing but the list of events and searches it for everything: what
+//! tests compare with, and what shows someone why a day gave its messages.
 #![tactic(auto)]
 
 mod book;

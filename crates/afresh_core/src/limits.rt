@@ -1,7 +1,7 @@
 // The rules of limit states and straddle states (LULD Plan, Sections VI(B) and VII(A)).
 ghost use Rattle.std.specs.Prelude.{◌≡◌, [], false, IfOk, option_to_list};
 ghost use Rattle.std.specs.Option.{option_map_or};
-ghost use Rattle.limit_core.specs.Limits.{is_at_lower, is_at_upper, is_straddling};
+ghost use Rattle.limit_core.specs.Limits.{is_at_lower, is_at_upper, straddles};
 ghost use Rattle.rulebook.specs.Symbol.{quote, last_band};
 ghost use Rattle.rulebook.specs.Rules.{meets, at_band, is_at_band, leave_limit, enter_limit, is_straddling_now, straddle};
 ghost use Rattle.afresh_core.specs.Contexts.{context_of};
@@ -38,7 +38,7 @@ fn meets_upper(q: Option<Quotation>, b: Option<Banded>) -> bool
 
 /// Whether a quotation straddles the price bands, where there are both.
 fn meets_straddling(q: Option<Quotation>, b: Option<Banded>) -> bool
-    ensures { result ≡ meets is_straddling q b }
+    ensures { result ≡ meets straddles q b }
 {
     match (b, q) {
         (Some(b), Some(q)) => straddles(&q, &b.bands),

@@ -15,7 +15,7 @@ use history_core::{
 use pause_core::{is_limit, is_trading};
 use percent_core::{bands, category, percent, span};
 use price_core::{Bands, Cause, NoMemory, Price};
-use refprice_core::{Adoption, Priced, because, forced, is_in_opening_period};
+use refprice_core::{Adoption, Priced, because, forced};
 use rulebook::{Banded, Event, Terms};
 use session_core::{Day, Moment};
 use std::alloc::Global;
@@ -26,7 +26,7 @@ use wire_out::Message;
 fn bands_of(listed: &Terms, day: &Day, t: Moment, reference: Price) -> Bands
     ensures { result ≡ bands_of listed.now day.now t reference }
 {
-    let category = category(listed.close);
+    let category = category(listed.prior_close);
     let percent = percent(listed.tier, category, span(t, day), day.profile);
     bands(reference, category, percent, listed.leverage)
 }
@@ -96,10 +96,10 @@ fn opens_on_quotes(symbol: u16, x: &Record) -> bool
 fn offered(c: &Context) -> Option<Price>
     ensures { result ≡ offered (context_of c.now) }
 {
-    match opening_price(&c.day, c.symbol, &c.input) {
+    match opening_price(&c.day, c.symbol, &c.newest) {
         Some(price) => Some(price),
         None => {
-            if opens_on_quotes(c.symbol, &c.input) {
+            if opens_on_quotes(c.symbol, &c.newest) {
                 prior_close(c.history, c.names, c.symbol)
             } else {
                 None
@@ -119,11 +119,7 @@ fn mean_now(alloc: Global, c: &Context) -> Result<Option<Price>, NoMemory>
 fn opening(c: &Context, mean: Option<Price>) -> Option<Price>
     ensures { result ≡ prices.first_price (begun c.now.history.now c.now.symbol) c.now.moment (offered (context_of c.now)) mean }
 {
-    if is_in_opening_period(begun(c.history, c.symbol), c.moment) {
-        offered(c)
-    } else {
-        mean
-    }
+    refprice_core::first_price(begun(c.history, c.symbol), c.moment, offered(c), mean)
 }
 
 /// The first price of a run: that of a release, else that of its begin.
@@ -148,7 +144,7 @@ fn adoption(alloc: Global, c: &Context, b: &Banded) -> Result<Adoption, NoMemory
     Ok(Adoption { moment, price })
 }
 
-/// The mean, where it takes the place of the run's reference price.
+/// The mean, where it replaces the run's reference price.
 fn moved_price(alloc: Global, c: &Context, b: &Banded) -> Result<Option<Price>, NoMemory>
     ensures { IfOk result (λ price. price ≡ prices.moved_price (adoption (context_of c.now) b.now) c.now.moment (mean_now (context_of c.now))) }
 {

@@ -6,7 +6,7 @@ ghost use Rattle.history_core.specs.Names.{own_in};
 ghost use Rattle.afresh_core.specs.Contexts.{context_of};
 
 use crate::context::Context;
-use history_core::{before_step, close_of, day_record, is_day, terms, traded_price};
+use history_core::{before_step, day_record, is_day, prior_close_of, terms, traded_price};
 use rulebook::{Event, Terms};
 use session_core::Day;
 use wire_in::Record;
@@ -17,7 +17,7 @@ fn triggers(day: &Day, symbol: u16, x: &Record, listed: Option<Terms>) -> bool
     ensures { result ≡ triggers day.now symbol x.now listed }
 {
     match traded_price(day, symbol, x) {
-        Some(price) => short_core::triggers(close_of(listed), price),
+        Some(price) => short_core::triggers(prior_close_of(listed), price),
         None => false,
     }
 }
@@ -51,7 +51,7 @@ pub fn restrict(c: &Context) -> Option<Message>
     ensures { option_to_list result ≡ restrict (context_of c.now) }
 {
     let listed = terms(c.history, c.names, c.symbol);
-    if triggers(&c.day, c.symbol, &c.input, listed) && !has_triggered(c) {
+    if triggers(&c.day, c.symbol, &c.newest, listed) && !has_triggered(c) {
         let message = Message::Short {
             symbol: c.symbol,
             kind: ShortKind::Triggered,
@@ -85,9 +85,9 @@ fn before_day(h: &[Event]) -> &[Event]
 pub fn is_carried(h: &[Event], names: &[[u8; 8]], symbol: u16) -> bool
     ensures { result ≡ is_carried h.now (own_in names.now symbol) symbol }
 {
-    let part = before_day(h);
-    match day_record(part) {
-        Some((day, _)) => triggered_in(names, &day, symbol, part),
+    let before = before_day(h);
+    match day_record(before) {
+        Some((day, _)) => triggered_in(names, &day, symbol, before),
         None => false,
     }
 }

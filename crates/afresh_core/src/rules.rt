@@ -11,7 +11,7 @@ ghost use Rattle.afresh_core.specs.Ordered.{rule_of, named_in};
 ghost use Rattle.afresh_core.specs.Rounds.{AreTimely};
 
 use crate::context::{Context, at_most_one};
-use crate::halting::{close, halt, pause, reopen, start, stop};
+use crate::halting::{market_halt, pause, regulatory_halt, reopen, session_close, start};
 use crate::limits::{enter_limit, leave_limit, straddle};
 use crate::prices::publish_band;
 use crate::restriction::restrict;
@@ -27,10 +27,10 @@ use wire_out::Message;
 /// A rule of one symbol.
 #[derive(Clone, Copy, Debug, PartialEq, Eq)]
 pub enum Rule {
-    Close,
-    Stop,
+    SessionClose,
+    MarketHalt,
     Start,
-    Halt,
+    RegulatoryHalt,
     Pause,
     Reopen,
     LeaveLimit,
@@ -42,10 +42,10 @@ pub enum Rule {
 
 /// The rules in their order.
 pub const RULES: [Rule; 11] = [
-    Rule::Close,
-    Rule::Stop,
+    Rule::SessionClose,
+    Rule::MarketHalt,
     Rule::Start,
-    Rule::Halt,
+    Rule::RegulatoryHalt,
     Rule::Pause,
     Rule::Reopen,
     Rule::LeaveLimit,
@@ -68,10 +68,10 @@ fn given(alloc: Global, rule: Rule, c: &Context) -> Result<Vec<Message>, NoMemor
     ensures { IfOk result (λ given. given.items ≡ rule_of rule (context_of c.now)) }
 {
     match rule {
-        Rule::Close => at_most_one(alloc, close(c)),
-        Rule::Stop => at_most_one(alloc, stop(c)),
+        Rule::SessionClose => at_most_one(alloc, session_close(c)),
+        Rule::MarketHalt => at_most_one(alloc, market_halt(c)),
         Rule::Start => at_most_one(alloc, start(c)),
-        Rule::Halt => at_most_one(alloc, halt(c)),
+        Rule::RegulatoryHalt => at_most_one(alloc, regulatory_halt(c)),
         Rule::Pause => pause(alloc, c),
         Rule::Reopen => reopen(alloc, c),
         Rule::LeaveLimit => at_most_one(alloc, leave_limit(alloc, c)?),
@@ -101,7 +101,7 @@ fn obeyed(
         history: h,
         names: s.names,
         symbol: s.symbol,
-        input: *x,
+        newest: *x,
         moment: now(h),
         day: *day,
     };

@@ -8,13 +8,13 @@ use Rattle.breaker_core.specs.Days.{Call, answers, halt_in, greatest_declared}
 
 -- the index close, the percentage of the greatest level declared, 0 for none, and the halt in effect
 pub record BreakerState : Type 0 where
-  pub close : ℕ
+  pub index_close : ℕ
   pub greatest : ℕ
   pub halt : Option Halt
 
 -- no level is declared
 abbrev pub started : ℕ → BreakerState
-started close = record { close = close; greatest = 0; halt = None }
+started index_close = record { index_close = index_close; greatest = 0; halt = None }
 
 -- a halt that is over at t has ended
 abbrev pub resumed : ℕ → BreakerState → BreakerState
@@ -31,5 +31,5 @@ with_declared t level kept = option_map_or (with_level t kept) level kept
 
 -- a breaker represents the calls that it has had today
 pub record Represents (kept : BreakerState) (calls : List Call) : Type 0 where
-  pub greatest : kept.greatest ≡ greatest_declared (answers kept.close calls)
-  pub halt : kept.halt ≡ halt_in (answers kept.close calls)
+  pub greatest : kept.greatest ≡ greatest_declared (answers kept.index_close calls)
+  pub halt : kept.halt ≡ halt_in (answers kept.index_close calls)

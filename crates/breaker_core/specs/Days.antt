@@ -1,4 +1,4 @@
--- A day of the market-wide circuit breakers, told by the calls of a breaker and by what they answered, each with the
+-- A day of the market-wide circuit breakers: the calls of a breaker, and what they answered, each with the
 -- newest first (NYSE Rule 7.12).
 use Rattle.std.specs.Prelude.{ℕ, Option, Some, None, List, [], ◌∷◌, if◌then◌else◌, max}
 use Rattle.std.specs.Option.{option_map_or}
@@ -7,7 +7,7 @@ use Rattle.session_core.specs.declared.state.Level.{Level}
 use Rattle.breaker_core.specs.declared.breaker.Halt.{Halt}
 use Rattle.breaker_core.specs.Levels.{percent_of, ends, declares}
 
--- a moment is told, or an index tick: its moment, its value and the day
+-- a moment, or an index tick: its moment, its value and the day
 pub data Call : Type 0 where
   Time : ℕ → Call
   Tick : ℕ → ℕ → Day → Call
@@ -31,14 +31,14 @@ greatest_declared (Declared t level ∷ earlier) = max (percent_of level) (great
 
 -- what an index value declares after these answers
 abbrev pub declared_after : List Answer → ℕ → Day → ℕ → ℕ → Option Level
-declared_after earlier close day t value = declares (halt_in earlier) (greatest_declared earlier) close day t value
+declared_after earlier index_close day t value = declares (halt_in earlier) (greatest_declared earlier) index_close day t value
 
 -- the answers to these calls of a day with that index close
 abbrev pub answers : ℕ → List Call → List Answer
-answers close [] = []
-answers close (Time t ∷ calls) =
-    let earlier = answers close calls in
+answers index_close [] = []
+answers index_close (Time t ∷ calls) =
+    let earlier = answers index_close calls in
     if ends t (halt_in earlier) then Resumed ∷ earlier else earlier
-answers close (Tick t value day ∷ calls) =
-    let earlier = answers close calls in
-    option_map_or (λ level. Declared t level ∷ earlier) (declared_after earlier close day t value) earlier
+answers index_close (Tick t value day ∷ calls) =
+    let earlier = answers index_close calls in
+    option_map_or (λ level. Declared t level ∷ earlier) (declared_after earlier index_close day t value) earlier

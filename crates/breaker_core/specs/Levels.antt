@@ -1,11 +1,11 @@
 -- The levels of the market-wide circuit breakers (NYSE Rule 7.12).
 use Rattle.std.specs.Prelude.{ℕ, Bool, true, false, Option, Some, None, ◌+◌, nat_lt, nat_le, if◌then◌else◌, not, ◌&&◌, is_some, option_and_then}
 use Rattle.std.specs.Option.{option_map_or}
-use Rattle.price_core.specs.Moves.{has_fallen}
+use Rattle.price_core.specs.Moves.{fell}
 use Rattle.session_core.specs.declared.day.Day.{Day}
 use Rattle.session_core.specs.declared.state.Level.{Level}
 use Rattle.session_core.specs.declared.state.Level.TheVariants.{One, Two, Three}
-use Rattle.session_core.specs.Moments.{seconds}
+use Rattle.session_core.specs.Durations.{fifteen_minutes}
 use Rattle.session_core.specs.Times.{in_session, may_declare_brief}
 use Rattle.breaker_core.specs.declared.breaker.Halt.{Halt}
 
@@ -23,7 +23,7 @@ is_brief Three = false
 
 -- whether a halt is over at t
 abbrev pub is_over : ℕ → Halt → Bool
-is_over t halt = is_brief halt.level && nat_le (halt.since + seconds 900) t
+is_over t halt = is_brief halt.level && nat_le (halt.since + fifteen_minutes) t
 
 -- whether there is a halt that is over at t
 abbrev pub ends : ℕ → Option Halt → Bool
@@ -31,10 +31,10 @@ ends t halt = option_map_or (is_over t) halt false
 
 -- the greatest level that an index value reaches
 abbrev pub level_reached : ℕ → ℕ → Option Level
-level_reached value close =
-    if has_fallen (percent_of Three) value close then Some Three
-    else if has_fallen (percent_of Two) value close then Some Two
-    else if has_fallen (percent_of One) value close then Some One
+level_reached value index_close =
+    if fell (percent_of Three) value index_close then Some Three
+    else if fell (percent_of Two) value index_close then Some Two
+    else if fell (percent_of One) value index_close then Some One
     else None
 
 -- Whether a level may be declared at t, with this halt in effect, where greatest is the percentage of the greatest
@@ -46,5 +46,5 @@ may_declare halt greatest day t level =
 
 -- the level that an index value declares at t
 abbrev pub declares : Option Halt → ℕ → ℕ → Day → ℕ → ℕ → Option Level
-declares halt greatest close day t value =
-    option_and_then (λ level. if may_declare halt greatest day t level then Some level else None) (level_reached value close)
+declares halt greatest index_close day t value =
+    option_and_then (λ level. if may_declare halt greatest day t level then Some level else None) (level_reached value index_close)

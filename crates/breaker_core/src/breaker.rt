@@ -1,9 +1,10 @@
 ghost use Rattle.std.specs.Prelude.{◌≡◌, ◌∷◌, [], List, is_some};
-ghost use Rattle.breaker_core.specs.Levels.{percent_of, is_brief, is_over, ends, level_reached, may_declare, declares};
+ghost use Rattle.breaker_core.specs.Levels.{ends, declares};
 ghost use Rattle.breaker_core.specs.Days.{Call, Time, Tick, answers, halt_in, declared_after};
 
-use price_core::{Index, fell};
-use session_core::{Day, Level, Moment, breaker_open, in_session};
+use crate::level::{ends, level_reached, may_declare, percent_of};
+use price_core::Index;
+use session_core::{Day, Level, Moment};
 use std::marker::Model;
 
 /// A market-wide halt: its level, and the moment at which it was declared (NYSE Rule 7.12).
@@ -13,58 +14,11 @@ pub struct Halt {
     pub since: Moment,
 }
 
-/// The decline of the index that reaches a level, in per cent.
-fn percent_of(level: Level) -> u32
-    ensures { result ≡ percent_of level }
-{
-    match level {
-        Level::One => 7,
-        Level::Two => 13,
-        Level::Three => 20,
-    }
-}
-
-/// Whether a halt of that level lasts 15 minutes, and not the rest of the day.
-fn is_brief(level: Level) -> bool
-    ensures { result ≡ is_brief level }
-{
-    match level {
-        Level::One | Level::Two => true,
-        Level::Three => false,
-    }
-}
-
-/// The greatest level that an index value reaches.
-fn level_reached(value: Index, close: Index) -> Option<Level>
-    ensures { result ≡ level_reached value close }
-{
-    if fell(value, close, 20) {
-        Some(Level::Three)
-    } else if fell(value, close, 13) {
-        Some(Level::Two)
-    } else if fell(value, close, 7) {
-        Some(Level::One)
-    } else {
-        None
-    }
-}
-
-impl Halt {
-    ghost use Rattle.breaker_core.specs.Levels.{is_over};
-
-    /// Whether the halt is over: one of Level 1 or 2 after 15 minutes.
-    fn is_over(&self, t: Moment) -> bool
-        ensures { result ≡ is_over t self.now }
-    {
-        is_brief(self.level) && t.nanos() >= self.since.nanos() + 900_000_000_000
-    }
-}
-
 /// The market-wide circuit breakers of a day: the index close before it, the greatest level declared, and the halt in
 /// effect.
 #[derive(Debug, Drop)]
 pub struct Breaker {
-    close: Index,
+    index_close: Index,
     greatest: Option<Level>,
     halt: Option<Halt>,
 }
@@ -76,19 +30,19 @@ impl Model for Breaker {
 
     ghost Value = { BreakerState };
 
-    ghost view = { λ b. record { close = b.close; greatest = option_map_or percent_of b.greatest 0; halt = b.halt } };
+    ghost view = { λ b. record { index_close = b.index_close; greatest = option_map_or percent_of b.greatest 0; halt = b.halt } };
 }
 
 impl Breaker {
     ghost use Rattle.breaker_core.specs.BreakerState.{started, resumed, with_declared, Represents};
 
     /// No level declared, with the index close of the day before in hundredths of an index point.
-    pub fn start(close: Index) -> Breaker
-        ensures value { result ≡ started close }
+    pub fn start(index_close: Index) -> Breaker
+        ensures value { result ≡ started index_close }
         ensures stands { Represents result [] }
     {
         Breaker {
-            close,
+            index_close,
             greatest: None,
             halt: None,
         }
@@ -99,30 +53,27 @@ impl Breaker {
     pub fn time(&mut self, t: Moment) -> bool
         ensures ends { result ≡ ends t self.old.halt }
         ensures value { self.new ≡ resumed t self.old }
-        ensures answer { (calls : List Call) → Represents self.old calls → result ≡ ends t (halt_in (answers self.old.close calls)) }
+        ensures answer { (calls : List Call) → Represents self.old calls → result ≡ ends t (halt_in (answers self.old.index_close calls)) }
         ensures stands { (calls : List Call) → Represents self.old calls → Represents self.new (Time t ∷ calls) }
     {
-        let ends = match &self.halt {
-            Some(halt) => halt.is_over(t),
-            None => false,
-        };
-        if ends {
+        let is_over = ends(t, self.halt);
+        if is_over {
             self.halt = None;
         }
-        ends
+        is_over
     }
 
     /// The level that an index value declares at a moment of the day, None exactly where it declares none
     /// (NYSE Rule 7.12).
     pub fn index(&mut self, t: Moment, now: Index, day: &Day) -> Option<Level>
-        ensures level { result ≡ declares self.old.halt self.old.greatest self.old.close day.now t now }
+        ensures level { result ≡ declares self.old.halt self.old.greatest self.old.index_close day.now t now }
         ensures value { self.new ≡ with_declared t result self.old }
         ensures answer { (calls : List Call) → Represents self.old calls
-            → result ≡ declared_after (answers self.old.close calls) self.old.close day.now t now }
+            → result ≡ declared_after (answers self.old.index_close calls) self.old.index_close day.now t now }
         ensures stands { (calls : List Call) → Represents self.old calls → Represents self.new (Tick t now day.now ∷ calls) }
     {
-        let level = level_reached(now, self.close)?;
-        if !self.may_declare(level, t, day) {
+        let level = level_reached(now, self.index_close)?;
+        if !may_declare(self.halt, self.greatest(), day, t, level) {
             return None;
         }
         self.greatest = Some(level);
@@ -133,7 +84,7 @@ impl Breaker {
     /// Whether a halt is in effect.
     pub fn stopped(&self) -> bool
         ensures value { result ≡ is_some self.now.halt }
-        ensures answer { (calls : List Call) → Represents self.now calls → result ≡ is_some (halt_in (answers self.now.close calls)) }
+        ensures answer { (calls : List Call) → Represents self.now calls → result ≡ is_some (halt_in (answers self.now.index_close calls)) }
     {
         self.halt.is_some()
     }
@@ -146,15 +97,5 @@ impl Breaker {
             Some(level) => percent_of(level),
             None => 0,
         }
-    }
-
-    /// Whether a level may be declared at a moment.
-    fn may_declare(&self, level: Level, t: Moment, day: &Day) -> bool
-        ensures { result ≡ may_declare self.now.halt self.now.greatest day.now t level }
-    {
-        in_session(t, day)
-            && !self.stopped()
-            && self.greatest() < percent_of(level)
-            && (!is_brief(level) || breaker_open(t, day))
     }
 }

@@ -2,7 +2,9 @@
 #![tactic(auto)]
 
 mod breaker;
+mod level;
 #[cfg(test)]
 mod tests;
 
 pub use breaker::{Breaker, Halt};
+pub use level::{declares, ends, percent_of};

@@ -7,7 +7,7 @@ use Rattle.std.proofs.lemmas.Nat.Bits.{bit_at_and, bit_at-zero, bit_at-lt, bit_a
 use Rattle.session_core.specs.declared.day.Day.{Day}
 use Rattle.session_core.specs.Times.{in_session}
 use Rattle.eligible_core.specs.declared.condition.Condition.TheVariants.{BarsNothing, Bars, NotAssigned}
-use Rattle.eligible_core.specs.Conditions.{barring_bits, condition_of, is_barring, is_set, has_barring_bit, is_eligible}
+use Rattle.eligible_core.specs.Conditions.{barring_bits, condition_of, is_barring, is_set, has_barring_bit, eligible}
 
 any-none : (test : ℕ → Bool) (xs : List ℕ) → ((x : ℕ) → test x ≡ false) → list_any test xs ≡ false
 any-none test [] none = refl
@@ -67,6 +67,6 @@ has_barring_bit-is flags true some =
     sym (ne_eqb _ 0 (λ none. both_ways (has_barring_bit flags) (any-none (bars flags) (range_with_len 0 16) (λ bit. bars-zero flags bit none)) some))
 
 -- in the session a trade counts where none of its bits bars it
-pub is_eligible-in_session : (flags t : ℕ) (day : Day) → true ≡ in_session t day → not (has_barring_bit flags) ≡ is_eligible flags t day
-is_eligible-in_session flags t day inside =
+pub eligible-in_session : (flags t : ℕ) (day : Day) → true ≡ in_session t day → not (has_barring_bit flags) ≡ eligible flags t day
+eligible-in_session flags t day inside =
     has_barring_bit-is flags _ refl ∙ ap (λ b. b && (bit_and flags barring_bits == 0)) inside

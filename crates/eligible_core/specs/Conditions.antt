@@ -12,8 +12,8 @@ abbrev pub barring_bits : ℕ
 barring_bits = 254
 
 -- a trade counts in the session and where it has none of them
-abbrev pub is_eligible : ℕ → ℕ → Day → Bool
-is_eligible flags t day = in_session t day && (bit_and flags barring_bits == 0)
+abbrev pub eligible : ℕ → ℕ → Day → Bool
+eligible flags t day = in_session t day && (bit_and flags barring_bits == 0)
 
 -- an opening or reopening trade of the primary listing exchange
 abbrev pub is_opening_trade : ℕ → Bool

@@ -1,5 +1,5 @@
 ghost use Rattle.std.specs.Prelude.{◌≡◌, ◌<◌};
-ghost use Rattle.eligible_core.specs.Conditions.{is_eligible, is_opening_trade, has_barring_bit, is_set};
+ghost use Rattle.eligible_core.specs.Conditions.{eligible, is_opening_trade, has_barring_bit, is_set};
 
 use crate::condition::Condition;
 use session_core::{Day, Moment, in_session};
@@ -7,7 +7,7 @@ use session_core::{Day, Moment, in_session};
 /// Whether a trade with these condition bits counts in means and for the short sale restriction: it is in the session,
 /// and none of its bits bars it. The six upper bits are not assigned, and bar nothing.
 pub fn eligible(flags: u16, t: Moment, day: &Day) -> bool
-    ensures { result ≡ is_eligible flags t day.now }
+    ensures { result ≡ eligible flags t day.now }
 {
     in_session(t, day) && !has_barring_bit(flags)
 }

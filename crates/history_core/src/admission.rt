@@ -41,8 +41,8 @@ fn last_day(accepted: &[Record]) -> Option<Day>
     }
 }
 
-/// The place of a name among these.
-pub fn place_of(names: &[[u8; 8]], name: [u8; 8]) -> Option<usize>
+/// The index of a name among these.
+pub fn index_of(names: &[[u8; 8]], name: [u8; 8]) -> Option<usize>
     ensures { result ≡ position (bytes_eq name) names.now }
 {
     names.iter().position(|other| name == *other)
@@ -83,7 +83,7 @@ pub fn id_of(alloc: Global, accepted: &[Record], name: [u8; 8]) -> Result<Option
     ensures { IfOk result (λ id. id ≡ id_of accepted.now name) }
 {
     let listed = names(alloc, accepted)?;
-    Ok(place_of(&listed, name))
+    Ok(index_of(&listed, name))
 }
 
 /// Whether a name is listed today.

@@ -4,17 +4,10 @@ ghost use Rattle.rulebook.specs.History.{now, today, open_step, before_step, rec
 
 use price_core::NoMemory;
 use rulebook::Event;
-use session_core::Moment;
+use session_core::{Moment, midnight};
 use std::alloc::Global;
 use wire_in::Record;
 use wire_out::Stamped;
-
-/// Midnight, the moment of a history with no record.
-pub fn midnight() -> Moment
-    ensures { result ≡ 0 }
-{
-    Moment::new(0).unwrap()
-}
 
 /// The moment of the newest record.
 pub fn now(h: &[Event]) -> Moment

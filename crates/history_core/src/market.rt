@@ -2,11 +2,10 @@
 ghost use Rattle.std.specs.Prelude.{◌≡◌, option_to_list};
 ghost use Rattle.wire_in.specs.Records.{is_tick};
 ghost use Rattle.rulebook.specs.History.{records};
-ghost use Rattle.rulebook.specs.Market.{day_record, halt_in, market_halt, is_market_halted, greatest_in, greatest_declared, resume_at, declare_on, declare_at};
+ghost use Rattle.rulebook.specs.Market.{day_record, market_halt_in, market_halt, is_market_halted, greatest_in, greatest_declared, resume_at, declare_on, declare_at};
 
 use crate::history::{now, today};
-use crate::level::{declares, ends, percent_of};
-use breaker_core::Halt;
+use breaker_core::{Halt, declares, ends, percent_of};
 use price_core::Index;
 use rulebook::Event;
 use session_core::Day;
@@ -31,8 +30,8 @@ pub fn day_record(h: &[Event]) -> Option<(Day, Index)>
 }
 
 /// The last breaker that no resumption follows.
-fn halt_in(h: &[Event]) -> Option<Halt>
-    ensures { result ≡ halt_in h.now }
+fn market_halt_in(h: &[Event]) -> Option<Halt>
+    ensures { result ≡ market_halt_in h.now }
 {
     let (last, earlier) = h.split_first()?;
     match *last {
@@ -41,7 +40,7 @@ fn halt_in(h: &[Event]) -> Option<Halt>
             Some(Halt { level, since })
         }
         Event::Published(Message::MarketResume) => None,
-        _ => halt_in(earlier),
+        _ => market_halt_in(earlier),
     }
 }
 
@@ -49,7 +48,7 @@ fn halt_in(h: &[Event]) -> Option<Halt>
 fn market_halt(h: &[Event]) -> Option<Halt>
     ensures { result ≡ market_halt h.now }
 {
-    halt_in(today(h))
+    market_halt_in(today(h))
 }
 
 /// The percentage of the greatest level declared, 0 where there is none.
@@ -94,13 +93,13 @@ pub fn resume_at(x: &Record, h: &[Event]) -> Option<Message>
 }
 
 /// The breaker that an index value declares on a day.
-fn declare_on(value: Index, h: &[Event], day: &Day, close: Index) -> Option<Message>
-    ensures { option_to_list result ≡ declare_on value h.now (day.now, close) }
+fn declare_on(value: Index, h: &[Event], day: &Day, index_close: Index) -> Option<Message>
+    ensures { option_to_list result ≡ declare_on value h.now (day.now, index_close) }
 {
     let level = declares(
         market_halt(h),
         greatest_declared(h),
-        close,
+        index_close,
         day,
         now(h),
         value,
@@ -118,8 +117,8 @@ pub fn declare_at(x: &Record, h: &[Event]) -> Option<Message>
     let Record::IndexTick { value, .. } = *x else {
         return None;
     };
-    let (day, close) = day_record(h)?;
-    declare_on(value, h, &day, close)
+    let (day, index_close) = day_record(h)?;
+    declare_on(value, h, &day, index_close)
 }
 
 /// Whether a market-wide halt is in effect.

@@ -7,12 +7,12 @@ ghost use Rattle.rulebook.specs.declared.event.Event.TheVariants.{Published};
 ghost use Rattle.rulebook.specs.History.{newest, step_record, last};
 ghost use Rattle.rulebook.specs.Symbol.{state_of, phase_in, begins_run, run_in, run, begun_in, begun, quote_in, quote, band_of, is_times, adoption_of, last_band, adopted};
 
-use crate::history::{midnight, now, today, with_first};
+use crate::history::{now, today, with_first};
 use crate::symbol::{phase_in, state_of};
 use pause_core::{is_limit, is_trading};
 use price_core::{Bands, Cause, NoMemory, Quotation};
 use rulebook::{Banded, Event};
-use session_core::Moment;
+use session_core::{Moment, midnight};
 use std::alloc::Global;
 use wire_in::Record;
 use wire_out::Message;

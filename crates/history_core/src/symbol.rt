@@ -3,22 +3,22 @@ ghost use Rattle.std.specs.Prelude.{◌≡◌, false};
 ghost use Rattle.std.specs.Option.{option_map_or};
 ghost use Rattle.history_core.specs.Names.{own_in};
 ghost use Rattle.rulebook.specs.History.{records, last};
-ghost use Rattle.rulebook.specs.Symbol.{terms_in, terms, close_of, prior_close, state_of, phase_in, phase, since, straddle_of, was_straddling, is_under_halt_in, is_under_regulatory_halt};
+ghost use Rattle.rulebook.specs.Symbol.{terms_in, terms, prior_close_of, prior_close, state_of, phase_in, phase, since, straddle_of, was_straddling, is_under_regulatory_halt_in, is_under_regulatory_halt};
 
-use crate::admission::place_of;
-use crate::history::{midnight, now, today};
+use crate::admission::index_of;
+use crate::history::{now, today};
 use price_core::Price;
 use rulebook::{Event, Terms};
-use session_core::{Moment, Phase};
+use session_core::{Moment, Phase, midnight};
 use wire_in::{NoticeKind, Record};
 use wire_out::Message;
 
-/// Whether a name is at the place of a symbol among these.
+/// Whether a name is at the index of a symbol among these.
 pub fn is_own(names: &[[u8; 8]], symbol: u16, name: [u8; 8]) -> bool
     ensures { result ≡ own_in names.now symbol name }
 {
-    match place_of(names, name) {
-        Some(place) => place == symbol as usize,
+    match index_of(names, name) {
+        Some(index) => index == symbol as usize,
         None => false,
     }
 }
@@ -43,7 +43,7 @@ pub fn terms(h: &[Event], names: &[[u8; 8]], symbol: u16) -> Option<Terms>
                 let listed = Terms {
                     tier,
                     leverage,
-                    close,
+                    prior_close: close,
                 };
                 Some(listed)
             } else {
@@ -55,17 +55,17 @@ pub fn terms(h: &[Event], names: &[[u8; 8]], symbol: u16) -> Option<Terms>
 }
 
 /// The prior close of a listing, where there is one.
-pub fn close_of(listed: Option<Terms>) -> Option<Price>
-    ensures { result ≡ close_of listed }
+pub fn prior_close_of(listed: Option<Terms>) -> Option<Price>
+    ensures { result ≡ prior_close_of listed }
 {
-    listed?.close
+    listed?.prior_close
 }
 
 /// The prior close that today's listing gives.
 pub fn prior_close(h: &[Event], names: &[[u8; 8]], symbol: u16) -> Option<Price>
     ensures { result ≡ prior_close h.now (own_in names.now symbol) }
 {
-    close_of(terms(h, names, symbol))
+    prior_close_of(terms(h, names, symbol))
 }
 
 /// The phase that a message gives a symbol.
@@ -158,8 +158,8 @@ pub fn was_straddling(h: &[Event], symbol: u16) -> bool
 }
 
 /// Whether the last halt notice among these has no resume notice after it.
-fn is_under_halt_in(symbol: u16, h: &[Event]) -> bool
-    ensures { result ≡ is_under_halt_in symbol (records h.now) }
+fn is_under_regulatory_halt_in(symbol: u16, h: &[Event]) -> bool
+    ensures { result ≡ is_under_regulatory_halt_in symbol (records h.now) }
 {
     let Some((last, earlier)) = h.split_first() else {
         return false;
@@ -171,15 +171,15 @@ fn is_under_halt_in(symbol: u16, h: &[Event]) -> bool
                 kind: NoticeKind::Halt,
                 ..
             },
-        ) => of == symbol || is_under_halt_in(symbol, earlier),
+        ) => of == symbol || is_under_regulatory_halt_in(symbol, earlier),
         Event::Accepted(
             Record::Notice {
                 symbol: of,
                 kind: NoticeKind::Resume,
                 ..
             },
-        ) => of != symbol && is_under_halt_in(symbol, earlier),
-        _ => is_under_halt_in(symbol, earlier),
+        ) => of != symbol && is_under_regulatory_halt_in(symbol, earlier),
+        _ => is_under_regulatory_halt_in(symbol, earlier),
     }
 }
 
@@ -187,5 +187,5 @@ fn is_under_halt_in(symbol: u16, h: &[Event]) -> bool
 pub fn is_under_regulatory_halt(h: &[Event], symbol: u16) -> bool
     ensures { result ≡ is_under_regulatory_halt h.now symbol }
 {
-    is_under_halt_in(symbol, today(h))
+    is_under_regulatory_halt_in(symbol, today(h))
 }

@@ -3,7 +3,7 @@
 ghost use Rattle.std.specs.Prelude.{◌≡◌, ◌∷◌, ◌++◌, ◌&&◌, ◌==◌, [], false, not, if◌then◌else◌, IfOk};
 ghost use Rattle.std.specs.List.{list_any};
 ghost use Rattle.std.specs.Option.{option_map_or};
-ghost use Rattle.eligible_core.specs.Conditions.{is_eligible};
+ghost use Rattle.eligible_core.specs.Conditions.{eligible};
 ghost use Rattle.window_core.specs.Deals.{live, mean_of};
 ghost use Rattle.rulebook.specs.History.{newest};
 ghost use Rattle.rulebook.specs.Symbol.{traded_price, opening_price, opens_before, is_first_band, counted_in, counted, cancels, deals_in, deals_of, mean};
@@ -13,7 +13,7 @@ use crate::runs::{band_of, begun, last_band_in, new_run, newest, run};
 use eligible_core::{eligible, opening};
 use price_core::{NoMemory, Price};
 use rulebook::Event;
-use session_core::{Day, Moment};
+use session_core::{Day, FIVE_MINUTES, Moment};
 use std::alloc::Global;
 use window_core::{Deal, live_mean};
 use wire_in::Record;
@@ -108,7 +108,7 @@ fn counted_in(
 fn counted(alloc: Global, day: &Day, h: &[Event], symbol: u16) -> Result<Vec<Event>, NoMemory>
     ensures { IfOk result (λ events. events.items ≡ counted day.now h.now symbol) }
 {
-    let end = begun(h, symbol).nanos() + 300_000_000_000;
+    let end = begun(h, symbol).nanos() + FIVE_MINUTES;
     let events = run(alloc, h, symbol)?;
     counted_in(alloc, day, symbol, end, &events)
 }
@@ -144,7 +144,7 @@ fn counts(
     number: u32,
     flags: u16,
 ) -> bool
-    ensures { result ≡ ((of == symbol) && is_eligible flags moment day.now && not (list_any (cancels symbol number) later.now)) }
+    ensures { result ≡ ((of == symbol) && eligible flags moment day.now && not (list_any (cancels symbol number) later.now)) }
 {
     of == symbol && eligible(flags, moment, day) && !is_cancelled(symbol, number, later)
 }

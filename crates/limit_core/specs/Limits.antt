@@ -38,9 +38,9 @@ abbrev pub is_at_upper : Quotation → Bands → Bool
 is_at_upper q b = if is_crossed q then false else is_at_least q.bid b.upper
 
 -- a bid below the lower band or an offer above the upper
-abbrev pub is_straddling : Quotation → Bands → Bool
-is_straddling q b = is_below q.bid b.lower || is_above q.offer b.upper
+abbrev pub straddles : Quotation → Bands → Bool
+straddles q b = is_below q.bid b.lower || is_above q.offer b.upper
 
 -- the side of the bands that a quotation is at
-abbrev pub side_at : Quotation → Bands → Option Side
-side_at q b = if is_at_lower q b then Some Low else if is_at_upper q b then Some High else None
+abbrev pub at_limit : Quotation → Bands → Option Side
+at_limit q b = if is_at_lower q b then Some Low else if is_at_upper q b then Some High else None

@@ -1,5 +1,5 @@
 ghost use Rattle.std.specs.Prelude.{◌≡◌, ◌↔◌, ◌<◌, Some, IsTrue};
-ghost use Rattle.limit_core.specs.Limits.{is_at_lower, is_at_upper, is_crossed, is_straddling, side_at};
+ghost use Rattle.limit_core.specs.Limits.{is_at_lower, is_at_upper, is_crossed, straddles, at_limit};
 
 use price_core::{Bands, Price, Quotation, Side};
 
@@ -7,7 +7,7 @@ use price_core::{Bands, Price, Quotation, Side};
 /// (LULD Plan, Section VI). None exactly where it is at neither, or crossed.
 pub fn at_limit(q: &Quotation, b: &Bands) -> Option<Side>
     requires { b.now.lower < b.now.upper }
-    ensures value { result ≡ side_at q.now b.now }
+    ensures value { result ≡ at_limit q.now b.now }
     ensures low { (result ≡ Some Side.Low) ↔ IsTrue (is_at_lower q.now b.now) }
     ensures high { (result ≡ Some Side.High) ↔ IsTrue (is_at_upper q.now b.now) }
 {
@@ -37,7 +37,7 @@ pub fn is_at_upper(q: &Quotation, b: &Bands) -> bool
 /// Whether a quotation straddles the bands: a bid below the lower band or an offer above the upper (LULD Plan,
 /// Section VII).
 pub fn straddles(q: &Quotation, b: &Bands) -> bool
-    ensures { result ≡ is_straddling q.now b.now }
+    ensures { result ≡ straddles q.now b.now }
 {
     q.bid.is_some_and(|bid| bid < b.lower) || q.offer.is_some_and(|offer| b.upper < offer)
 }

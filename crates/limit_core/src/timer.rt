@@ -2,14 +2,14 @@ ghost use Rattle.std.specs.Prelude.{◌≡◌, ◌≤◌};
 ghost use Rattle.limit_core.specs.Timers.{has_lasted};
 
 use price_core::Side;
-use session_core::Moment;
+use session_core::{FIFTEEN_SECONDS, Moment};
 use std::marker::Model;
 
 /// Whether a limit state that was entered at a moment has lasted for 15 seconds (LULD Plan, Section VII).
 pub fn has_lasted(entered: Moment, t: Moment) -> bool
     ensures { result ≡ has_lasted entered t }
 {
-    entered.nanos() + 15_000_000_000 <= t.nanos()
+    entered.nanos() + FIFTEEN_SECONDS <= t.nanos()
 }
 
 /// A limit state: when it was entered, and at which side of the bands.

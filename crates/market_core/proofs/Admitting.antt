@@ -18,7 +18,7 @@ use Rattle.rulebook.specs.Admission.{names, is_listed_name, with_name}
 use Rattle.market_core.specs.Dated.{is_on, is_up_to, are_up_to}
 use Rattle.market_core.specs.AdmissionState.{AdmissionState, Represents, refusal_of, is_date_early, added, dates_listed, admitted_with}
 use Rattle.rulebook.proofs.Listings.{own_name}
-use Rattle.rulebook.proofs.Places.{is_some-position}
+use Rattle.rulebook.proofs.Positions.{is_some-position}
 use Rattle.rulebook.proofs.Ids.{one_place}
 use Rattle.market_core.proofs.Marks.{marked, map-marked, map-marked_none}
 

@@ -25,12 +25,12 @@ use Rattle.rulebook.specs.declared.event.Event.TheVariants.{Accepted}
 use Rattle.rulebook.specs.Admission.{verdict, names, with_name, is_among, last_day, is_early, is_unknown, is_listed, lists_again, finds_no_id}
 use Rattle.rulebook.specs.Book.{named, evaluate_all, evaluate_own, evaluate_market, ids_below, listed_ids, target, step, history, newest_messages}
 use Rattle.rulebook.specs.History.{now, today, records, step_messages, publish}
-use Rattle.rulebook.specs.Market.{day_record, halt_in, market_halt, greatest_in, greatest_declared, breaks, resume_at, declare_at, declare_on}
+use Rattle.rulebook.specs.Market.{day_record, market_halt_in, market_halt, greatest_in, greatest_declared, breaks, resume_at, declare_at, declare_on}
 use Rattle.rulebook.proofs.Histories.{own_part, parts, market_part, tick-part, publish-append, records-history, in_order, step_messages-publish, last_day-day_record, first_part}
 use Rattle.rulebook.proofs.Ids.{listed-below}
 use Rattle.rulebook.proofs.Listings.{own_name}
-use Rattle.rulebook.proofs.Places.{is_some-position}
-use Rattle.rulebook.proofs.Speakers.{AllOfSymbols, of_symbol, own_part-by, by_other, parts-of_symbols, greatest-publish, market_halt-publish}
+use Rattle.rulebook.proofs.Positions.{is_some-position}
+use Rattle.rulebook.proofs.OfSymbol.{AllOfSymbols, of_symbol, own_part-by, by_other, parts-of_symbols, greatest-publish, market_halt-publish}
 use Rattle.symbol_core.specs.Rests.{Held, Rests}
 use Rattle.symbol_core.specs.Silent.{SaysNothing}
 use Rattle.market_core.specs.declared.market.Today.{Today}
@@ -126,10 +126,10 @@ day_recorded A d on = ap day_record (records-history A) ∙ on
 
 -- the breakers after it, by what the history says
 abbrev day_in : List Event → Day × ℕ → Today
-day_in h d = record { day = d.0; breaker = record { close = d.1; greatest = greatest_declared h; halt = market_halt h } }
+day_in h d = record { day = d.0; breaker = record { index_close = d.1; greatest = greatest_declared h; halt = market_halt h } }
 
 abbrev day_resumed : Bool → List Event → Day × ℕ → Today
-day_resumed b h d = record { day = d.0; breaker = record { close = d.1; greatest = greatest_declared h; halt = cond b None (market_halt h) } }
+day_resumed b h d = record { day = d.0; breaker = record { index_close = d.1; greatest = greatest_declared h; halt = cond b None (market_halt h) } }
 
 with_level_said : (b : Bool) (t value : ℕ) (h : List Event) (d : Day × ℕ) (level : Option Level)
     → record { day = d.0; breaker = with_declared t level (day_resumed b h d).breaker } ≡ day_in (publish (breaks value level) (resumed_if b t value h)) d
@@ -180,12 +180,12 @@ ruled-history (in_.Indication t s p u) A d e on = absurd cc
 
 -- messages of symbols leave it
 day_in-publish : (ms : List Message) (h : List Event) (d : Day × ℕ) → AllOfSymbols ms → day_in (publish ms h) d ≡ day_in h d
-day_in-publish ms h d all = λ i. record { day = d.0; breaker = record { close = d.1; greatest = greatest-publish ms h all i; halt = market_halt-publish ms h all i } }
+day_in-publish ms h d all = λ i. record { day = d.0; breaker = record { index_close = d.1; greatest = greatest-publish ms h all i; halt = market_halt-publish ms h all i } }
 
 day_in-opened : (x : Record) (A : List Record) (d : Day × ℕ) → is_day x ≡ false → day_in (opened x A) d ≡ day_of A d
 day_in-opened x A d e = ap (λ (b : Bool). day_at (cond b (Accepted x ∷ []) (Accepted x ∷ today (history A)))) e where
   day_at : List Event → Today
-  day_at h = record { day = d.0; breaker = record { close = d.1; greatest = greatest_in h; halt = halt_in h } }
+  day_at h = record { day = d.0; breaker = record { index_close = d.1; greatest = greatest_in h; halt = market_halt_in h } }
 
 -- All records.
 

@@ -21,11 +21,11 @@ use Rattle.rulebook.specs.Admission.{IsLawful, is_listed, names, verdict}
 use Rattle.rulebook.specs.Isolation.{isolated, concerns, for_symbol, isolated_history, is_for, is_listed_in_view, view}
 use Rattle.rulebook.specs.Book.{all_obeyed, announced, evaluate, evaluate_all, evaluate_market, evaluate_own, history, ids_below, listed_ids, messages_of, named, newest_messages, symbol_rules, target}
 use Rattle.rulebook.specs.History.{messages, now, publish, records, step_messages, today}
-use Rattle.rulebook.specs.Market.{breaks, day_record, greatest_declared, greatest_in, halt_in, is_market_halted, market_halt}
+use Rattle.rulebook.specs.Market.{breaks, day_record, greatest_declared, greatest_in, market_halt_in, is_market_halted, market_halt}
 use Rattle.rulebook.specs.Symbol.{terms, terms_in}
 use Rattle.rulebook.proofs.Histories.{evaluate-part, evaluate_market-part, evaluate_own-part, in_order, market_part, messages-publish, now-publish, now-today, own_part, part, publish-append, records-history, records-publish, step_messages-publish}
 use Rattle.rulebook.proofs.Ids.{listed-below, same_id}
-use Rattle.rulebook.proofs.Speakers.{AllOfSymbols, NoneBy, NoneBy-append, by_market, greatest-publish, market_halt-publish, market_part-by, of_symbol, own_part-by, parts-below, parts-of_symbols}
+use Rattle.rulebook.proofs.OfSymbol.{AllOfSymbols, NoneBy, NoneBy-append, by_market, greatest-publish, market_halt-publish, market_part-by, of_symbol, own_part-by, parts-below, parts-of_symbols}
 use Rattle.symbol_core.specs.declared.symbol.MarketView.{MarketView}
 use Rattle.symbol_core.specs.Evaluates.{Opens, part_of, step_of}
 use Rattle.symbol_core.specs.Rests.{Held, Rests}
@@ -134,7 +134,7 @@ both_go s x A ms ns e so b =
 -- What both have of the market at a record that isn't a day.
 
 halt-record : (x : Record) (h : List Event) → is_day x ≡ false → market_halt (Accepted x ∷ h) ≡ market_halt h
-halt-record x h e = ap (λ (b : Bool). halt_in (cond b (Accepted x ∷ []) (Accepted x ∷ today h))) e
+halt-record x h e = ap (λ (b : Bool). market_halt_in (cond b (Accepted x ∷ []) (Accepted x ∷ today h))) e
 
 greatest-record : (x : Record) (h : List Event) → is_day x ≡ false → greatest_declared (Accepted x ∷ h) ≡ greatest_declared h
 greatest-record x h e = ap (λ (b : Bool). greatest_in (cond b (Accepted x ∷ []) (Accepted x ∷ today h))) e

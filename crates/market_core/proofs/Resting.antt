@@ -15,7 +15,7 @@ use Rattle.rulebook.specs.History.{now, records, publish}
 use Rattle.rulebook.specs.Market.{day_record}
 use Rattle.rulebook.proofs.Ids.{Agree, earlier_agree, terms_in-agree, triggered_in-agree, is_carried-agree}
 use Rattle.rulebook.proofs.Listings.{among_own}
-use Rattle.rulebook.proofs.Speakers.{is_by, NoneBy}
+use Rattle.rulebook.proofs.OfSymbol.{is_by, NoneBy}
 use Rattle.symbol_core.proofs.Resting.{rests-silent, rests-apart}
 use Rattle.symbol_core.specs.Rests.{Held, Rests}
 use Rattle.symbol_core.specs.Silent.{IsSilent, AllSilent, IsOfOthers, SaysNothing}

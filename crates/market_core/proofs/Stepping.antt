@@ -17,7 +17,7 @@ use Rattle.rulebook.specs.Market.{day_record, is_market_halted}
 use Rattle.rulebook.specs.Symbol.{terms}
 use Rattle.rulebook.proofs.Histories.{part, own_part, evaluate_own-part, records-history, records-publish}
 use Rattle.rulebook.proofs.Ids.{Agree, own-kept, same_id, own_id}
-use Rattle.rulebook.proofs.Speakers.{NoneBy, by_other, own_part-by}
+use Rattle.rulebook.proofs.OfSymbol.{NoneBy, by_other, own_part-by}
 use Rattle.symbol_core.specs.declared.symbol.MarketView.{MarketView}
 use Rattle.symbol_core.specs.Evaluates.{Opens, part_of, step_of}
 use Rattle.symbol_core.specs.Rests.{Held, Rests}

@@ -19,7 +19,7 @@ use Rattle.rulebook.specs.Market.{day_record, is_market_halted}
 use Rattle.rulebook.specs.Symbol.{terms, terms_in}
 use Rattle.rulebook.proofs.Histories.{part, parts, market_part, publish-append}
 use Rattle.rulebook.proofs.Ids.{terms-listed, same_id}
-use Rattle.rulebook.proofs.Speakers.{AllBy, NoneBy, NoneBy-append, by_market, by_other, all_obeyed-by, rules_speak, market_part-by, parts-append, parts-below, parts-of_symbols, market_halt-publish}
+use Rattle.rulebook.proofs.OfSymbol.{AllBy, NoneBy, NoneBy-append, by_market, by_other, all_obeyed-by, rules_speak, market_part-by, parts-append, parts-below, parts-of_symbols, market_halt-publish}
 use Rattle.symbol_core.specs.declared.symbol.MarketView.{MarketView}
 use Rattle.symbol_core.specs.Evaluates.{Opens, open_history, part_of}
 use Rattle.symbol_core.specs.Rests.{Held, Rests}

@@ -15,7 +15,7 @@ use Rattle.wire_in.specs.Records.{symbol_of, is_day}
 use Rattle.rulebook.specs.Admission.{verdict, names, last_day, is_listed_name, is_listed, is_early, is_unknown, lists_again, finds_no_id}
 use Rattle.market_core.specs.Dated.{is_on}
 use Rattle.market_core.specs.AdmissionState.{AdmissionState, Represents, refusal_of, last_moment, is_out_of_order, is_listed_id, names_unlisted, lists_twice, lacks_room}
-use Rattle.rulebook.proofs.Places.{is_some-position}
+use Rattle.rulebook.proofs.Positions.{is_some-position}
 use Rattle.rulebook.proofs.Listings.{listed_by_id}
 
 option_map_or-option_map : {X Y : Type 0} (f : X → Y) (test : Y → Bool) (o : Option X) → option_map_or test (option_map f o) false ≡ option_map_or (λ x. test (f x)) o false

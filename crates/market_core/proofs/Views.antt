@@ -17,7 +17,7 @@ use Rattle.rulebook.specs.Symbol.{terms_in}
 use Rattle.rulebook.proofs.Histories.{evaluate-part, evaluate_market-part, evaluate_own-part, market_part, own_part, part, records-publish}
 use Rattle.rulebook.proofs.Ids.{Agree, earlier_agree, own-kept, own_id}
 use Rattle.rulebook.proofs.Listings.{among_own}
-use Rattle.rulebook.proofs.Speakers.{AllBy, AllOfSymbols, NoneBy, by_other, is_by, of_symbol, speaker}
+use Rattle.rulebook.proofs.OfSymbol.{AllBy, AllOfSymbols, NoneBy, by_other, is_by, of_symbol, speaker}
 use Rattle.market_core.specs.Ruled.{stamped}
 
 -- Records.

@@ -17,9 +17,9 @@ pub record MarketState : Type 0 where
 
 -- the day with the breakers that a history gives it
 abbrev pub day_of : List Record → Day × ℕ → Today
-day_of applied (day, close) = record {
+day_of applied (day, index_close) = record {
   day = day;
-  breaker = record { close = close; greatest = greatest_declared (history applied); halt = market_halt (history applied) };
+  breaker = record { index_close = index_close; greatest = greatest_declared (history applied); halt = market_halt (history applied) };
 }
 
 -- what is kept of each symbol is what the history says of the names with its id

@@ -17,7 +17,7 @@ with_breaker_resumed t today = record { day = today.day; breaker = resumed t tod
 
 -- the level that an index value declares on a day
 abbrev pub level_on : ℕ → ℕ → Today → Option Level
-level_on t value today = declares today.breaker.halt today.breaker.greatest today.breaker.close today.day t value
+level_on t value today = declares today.breaker.halt today.breaker.greatest today.breaker.index_close today.day t value
 
 abbrev pub with_level_on : ℕ → ℕ → Today → Today
 with_level_on t value today = record { day = today.day; breaker = with_declared t (level_on t value today) today.breaker }

@@ -14,8 +14,8 @@ abbrev pub is_asked : Bool → Bool → Phase → Bool
 is_asked asked straddling p = asked && is_trading p && straddling
 
 -- the phase of the pause
-abbrev pub pause_of : Bool → Bool → Bool → Phase → Bool → Option Phase
-pause_of expired asked straddling p last_10 =
+abbrev pub pause : Bool → Bool → Bool → Phase → Bool → Option Phase
+pause expired asked straddling p last_10 =
     if is_limited expired p || is_asked asked straddling p
     then (if last_10 then Some Closing else Some Paused)
     else None

@@ -20,16 +20,16 @@ is_limit LimitHigh = true
 is_limit p = false
 
 -- in a regulatory halt
-abbrev pub is_in_halt : Phase → Bool
-is_in_halt Halted = true
-is_in_halt p = false
+abbrev pub is_in_regulatory_halt : Phase → Bool
+is_in_regulatory_halt Halted = true
+is_in_regulatory_halt p = false
 
--- a market-wide halt stops it
-abbrev pub can_stop : Phase → Bool
-can_stop Halted = false
-can_stop Stopped = false
-can_stop Closed = false
-can_stop p = true
+-- a market-wide halt can halt it
+abbrev pub can_market_halt : Phase → Bool
+can_market_halt Halted = false
+can_market_halt Stopped = false
+can_market_halt Closed = false
+can_market_halt p = true
 
 -- trading can start from it
 abbrev pub can_start : Phase → Bool

@@ -9,4 +9,4 @@ mod turning;
 
 pub use pausing::pause;
 pub use phases::{is_done, is_limit, is_trading};
-pub use turning::{Brakes, Turned, close, halt, start, stop, turn};
+pub use turning::{Brakes, Turned, market_halt, regulatory_halt, session_close, start, turn};

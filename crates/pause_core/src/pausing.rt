@@ -1,5 +1,5 @@
 ghost use Rattle.std.specs.Prelude.{◌≡◌};
-ghost use Rattle.pause_core.specs.Pauses.{pause_of};
+ghost use Rattle.pause_core.specs.Pauses.{pause};
 
 use crate::phases::{is_limit, is_trading};
 use session_core::Phase;
@@ -14,7 +14,7 @@ pub fn pause(
     phase: Phase,
     last_10: bool,
 ) -> Option<Phase>
-    ensures { result ≡ pause_of expired asked straddling phase last_10 }
+    ensures { result ≡ pause expired asked straddling phase last_10 }
 {
     let limited = is_limit(phase) && expired;
     let requested = asked && is_trading(phase) && straddling;

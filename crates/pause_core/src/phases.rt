@@ -1,5 +1,5 @@
 ghost use Rattle.std.specs.Prelude.{◌≡◌};
-ghost use Rattle.pause_core.specs.Phases.{can_start, can_stop, is_done, is_in_halt, is_limit, is_trading};
+ghost use Rattle.pause_core.specs.Phases.{can_start, can_market_halt, is_done, is_in_regulatory_halt, is_limit, is_trading};
 
 use session_core::Phase;
 
@@ -25,15 +25,15 @@ pub fn is_limit(phase: Phase) -> bool
 }
 
 /// Whether it is in a regulatory halt.
-pub fn is_in_halt(phase: Phase) -> bool
-    ensures { result ≡ is_in_halt phase }
+pub fn is_in_regulatory_halt(phase: Phase) -> bool
+    ensures { result ≡ is_in_regulatory_halt phase }
 {
     phase == Phase::Halted
 }
 
-/// Whether a market-wide halt stops it.
-pub fn can_stop(phase: Phase) -> bool
-    ensures { result ≡ can_stop phase }
+/// Whether a market-wide halt can halt it (NYSE Rule 7.12).
+pub fn can_market_halt(phase: Phase) -> bool
+    ensures { result ≡ can_market_halt phase }
 {
     !matches!(phase, Phase::Halted | Phase::Stopped | Phase::Closed)
 }

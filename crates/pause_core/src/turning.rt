@@ -1,11 +1,11 @@
 ghost use Rattle.std.specs.Prelude.{◌≡◌, ◌++◌, option_to_list};
-ghost use Rattle.pause_core.specs.Turns.{close, halt, phase_after_halt, in_order, start, starts, stop, stops, turns};
+ghost use Rattle.pause_core.specs.Turns.{session_close, regulatory_halt, phase_after_regulatory_halt, in_order, start, starts, market_halt, market_halts, turns};
 
-use crate::phases::{can_start, can_stop, is_done, is_in_halt};
+use crate::phases::{can_market_halt, can_start, is_done, is_in_regulatory_halt};
 use session_core::Phase;
 
-/// What brakes a stock: the close has come, it is in the session, a market-wide halt is in effect, a regulatory halt is in
-/// effect.
+/// What brakes a stock: the session close has come, it is in the session, a market-wide halt is in effect, a regulatory
+/// halt is in effect.
 #[derive(Clone, Copy, Debug, PartialEq, Eq)]
 pub struct Brakes {
     pub closed: bool,
@@ -21,8 +21,8 @@ pub struct Turned {
     pub second: Option<Phase>,
 }
 
-/// The phases that the close, a market-wide halt, the start of trading and a regulatory halt bring, one rule after the
-/// other (NYSE Rule 7.12 for the market-wide halt).
+/// The phases that the session close, a market-wide halt, the start of trading and a regulatory halt bring, one rule after
+/// the other (NYSE Rule 7.12 for the market-wide halt).
 pub fn turn(phase: Phase, b: &Brakes) -> Turned
     ensures all { option_to_list result.first ++ option_to_list result.second ≡ turns phase b.now }
     ensures value { result ≡ in_order (turns phase b.now) }
@@ -31,20 +31,20 @@ pub fn turn(phase: Phase, b: &Brakes) -> Turned
         (None, None)
     } else if b.closed {
         (Some(Phase::Closed), None)
-    } else if stops(phase, b) {
-        (Some(Phase::Stopped), halt(Phase::Stopped, b))
+    } else if market_halts(phase, b) {
+        (Some(Phase::Stopped), regulatory_halt(Phase::Stopped, b))
     } else if starts(phase, b) {
-        (Some(Phase::Trading), halt(Phase::Trading, b))
+        (Some(Phase::Trading), regulatory_halt(Phase::Trading, b))
     } else {
-        (halt(phase, b), None)
+        (regulatory_halt(phase, b), None)
     };
     Turned { first, second }
 }
 
-fn stops(phase: Phase, b: &Brakes) -> bool
-    ensures { result ≡ stops phase b.now }
+fn market_halts(phase: Phase, b: &Brakes) -> bool
+    ensures { result ≡ market_halts phase b.now }
 {
-    b.stopped && can_stop(phase)
+    b.stopped && can_market_halt(phase)
 }
 
 fn starts(phase: Phase, b: &Brakes) -> bool
@@ -53,20 +53,21 @@ fn starts(phase: Phase, b: &Brakes) -> bool
     can_start(phase) && b.in_session && !b.stopped
 }
 
-/// The phase that the close brings, None exactly before it.
-pub fn close(phase: Phase, b: &Brakes) -> Option<Phase>
-    ensures { result ≡ close phase b.now }
+/// The phase that the session close brings, None exactly before it.
+pub fn session_close(phase: Phase, b: &Brakes) -> Option<Phase>
+    ensures { result ≡ session_close phase b.now }
 {
+    // Each rule takes the phase. This one needs none.
     let _phase = phase;
     b.closed.then_some(Phase::Closed)
 }
 
-/// The phase that a market-wide halt brings, None exactly where there is none or it doesn't stop the stock
+/// The phase that a market-wide halt brings, None exactly where there is none or it doesn't halt the stock
 /// (NYSE Rule 7.12).
-pub fn stop(phase: Phase, b: &Brakes) -> Option<Phase>
-    ensures { result ≡ stop phase b.now }
+pub fn market_halt(phase: Phase, b: &Brakes) -> Option<Phase>
+    ensures { result ≡ market_halt phase b.now }
 {
-    stops(phase, b).then_some(Phase::Stopped)
+    market_halts(phase, b).then_some(Phase::Stopped)
 }
 
 /// The phase that the start of trading brings, None exactly where it doesn't start.
@@ -77,18 +78,18 @@ pub fn start(phase: Phase, b: &Brakes) -> Option<Phase>
 }
 
 /// The phase that a regulatory halt or its end brings, None exactly where neither does.
-pub fn halt(phase: Phase, b: &Brakes) -> Option<Phase>
-    ensures { result ≡ halt phase b.now }
+pub fn regulatory_halt(phase: Phase, b: &Brakes) -> Option<Phase>
+    ensures { result ≡ regulatory_halt phase b.now }
 {
     if b.halted {
-        (!is_in_halt(phase)).then_some(Phase::Halted)
+        (!is_in_regulatory_halt(phase)).then_some(Phase::Halted)
     } else {
-        is_in_halt(phase).then_some(after_halt(b))
+        is_in_regulatory_halt(phase).then_some(after_regulatory_halt(b))
     }
 }
 
-fn after_halt(b: &Brakes) -> Phase
-    ensures { result ≡ phase_after_halt b.now }
+fn after_regulatory_halt(b: &Brakes) -> Phase
+    ensures { result ≡ phase_after_regulatory_halt b.now }
 {
     if b.stopped {
         Phase::Stopped

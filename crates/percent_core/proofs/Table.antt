@@ -11,9 +11,9 @@ use Rattle.session_core.specs.declared.state.Span.{Span}
 use Rattle.session_core.specs.declared.state.Span.TheVariants as span
 use Rattle.percent_core.specs.declared.parameter.TheConstants.{ROWS}
 use Rattle.percent_core.specs.Keys.{key_of}
-use Rattle.percent_core.specs.Percentages.{base_percent, is_doubled, least_percent, percent_of}
+use Rattle.percent_core.specs.Percentages.{base_percent, is_doubled, least_percent, percent}
 
-answer_of-key : (t : Tier) (c : Category) (s : Span) (p : Profile) → answer_of (key_of t c s p) ROWS ≡ Some (percent_of p t c s)
+answer_of-key : (t : Tier) (c : Category) (s : Span) (p : Profile) → answer_of (key_of t c s p) ROWS ≡ Some (percent p t c s)
 answer_of-key tier.One category.Above span.Middle Since18 = refl
 answer_of-key tier.One category.Above span.First15 Since18 = refl
 answer_of-key tier.One category.Above span.Last25 Since18 = refl
@@ -64,12 +64,12 @@ le-doubled : (doubled : Bool) (least n : ℕ) → least ≤ n → least ≤ (if 
 le-doubled true least n le = omega arith
 le-doubled false least n le = le
 
-pub percent_of-answer : (t : Tier) (c : Category) (s : Span) (p : Profile) (percent : ℕ) → answer_of (key_of t c s p) ROWS ≡ Some percent → percent ≡ percent_of p t c s
-percent_of-answer t c s p percent is = let e = answer_of-key t c s p in cc
+pub percent-answer : (t : Tier) (c : Category) (s : Span) (p : Profile) (n : ℕ) → answer_of (key_of t c s p) ROWS ≡ Some n → n ≡ percent p t c s
+percent-answer t c s p n is = let e = answer_of-key t c s p in cc
 
-pub least_percent-answer : (t : Tier) (c : Category) (s : Span) (p : Profile) (percent : ℕ) → answer_of (key_of t c s p) ROWS ≡ Some percent → least_percent c ≤ percent
-least_percent-answer t c s p percent is =
-    rw (percent_of-answer t c s p percent is) (le-doubled (is_doubled p t c s) _ _ (least_percent-base t c))
+pub least_percent-answer : (t : Tier) (c : Category) (s : Span) (p : Profile) (n : ℕ) → answer_of (key_of t c s p) ROWS ≡ Some n → least_percent c ≤ n
+least_percent-answer t c s p n is =
+    rw (percent-answer t c s p n is) (le-doubled (is_doubled p t c s) _ _ (least_percent-base t c))
 
 base_percent-most : (t : Tier) (c : Category) → base_percent t c ≤ 75
 base_percent-most tier.One category.Above = omega arith
@@ -83,6 +83,6 @@ doubled-le : (doubled : Bool) (n most : ℕ) → n ≤ most → (if doubled then
 doubled-le true n most le = omega arith
 doubled-le false n most le = omega arith
 
-pub percent_of-most : (t : Tier) (c : Category) (s : Span) (p : Profile) (percent : ℕ) → answer_of (key_of t c s p) ROWS ≡ Some percent → percent ≤ 150
-percent_of-most t c s p percent is =
-    rw (percent_of-answer t c s p percent is) (doubled-le (is_doubled p t c s) (base_percent t c) 75 (base_percent-most t c))
+pub percent-most : (t : Tier) (c : Category) (s : Span) (p : Profile) (n : ℕ) → answer_of (key_of t c s p) ROWS ≡ Some n → n ≤ 150
+percent-most t c s p n is =
+    rw (percent-answer t c s p n is) (doubled-le (is_doubled p t c s) (base_percent t c) 75 (base_percent-most t c))

@@ -1,10 +1,10 @@
 ghost use Rattle.std.specs.Prelude.{◌≡◌, ◌<◌, ◌≤◌};
-ghost use Rattle.percent_core.specs.Percentages.{category_of, least_percent, percent_of, span_at};
+ghost use Rattle.percent_core.specs.Percentages.{category, least_percent, percent, span};
 ghost use Rattle.percent_core.specs.Keys.{key_of};
 
 use case_table::{Case, Cases, cases};
 use price_core::{Category, Price, Tier};
-use session_core::{Day, Moment, Profile, Span, last_25};
+use session_core::{Day, END_OF_FIRST_15_MINUTES, Moment, Profile, Span, last_25};
 
 /// The percentages of a reference price (after the LULD Plan, Appendix A), by the tier, the price category and the part of
 /// the session, first since Amendment 18 and then before it.
@@ -37,7 +37,7 @@ const PERCENTAGES: Cases<19> = Cases {
 
 /// The price category of a stock by its prior close; above $3.00 where there is none (LULD Plan, Appendix A).
 pub fn category(close: Option<Price>) -> Category
-    ensures { result ≡ category_of close }
+    ensures { result ≡ category close }
 {
     match close {
         Some(close) if close.units() < 7_500 => Category::Below,
@@ -48,11 +48,11 @@ pub fn category(close: Option<Price>) -> Category
 
 /// The part of the session by which percentages are doubled (LULD Plan, Appendix A).
 pub fn span(t: Moment, day: &Day) -> Span
-    ensures { result ≡ span_at t day.now }
+    ensures { result ≡ span t day.now }
 {
     if last_25(t, day) {
         Span::Last25
-    } else if t.nanos() < 35_100_000_000_000 {
+    } else if t.nanos() < END_OF_FIRST_15_MINUTES {
         Span::First15
     } else {
         Span::Middle
@@ -61,7 +61,7 @@ pub fn span(t: Moment, day: &Day) -> Span
 
 /// The percentage of a reference price before the leverage ratio (after the LULD Plan, Appendix A).
 pub fn percent(tier: Tier, category: Category, span: Span, profile: Profile) -> u32
-    ensures value { result ≡ percent_of profile tier category span }
+    ensures value { result ≡ percent profile tier category span }
     ensures least { least_percent category ≤ result }
     ensures most { result ≤ 150 }
 {

@@ -1,7 +1,7 @@
 ghost use Rattle.std.specs.Prelude.{◌≡◌, ◌+◌, ◌*◌, ◌<◌, ◌≤◌};
-ghost use Rattle.price_core.specs.Rounding.{rounded_to_cent};
+ghost use Rattle.price_core.specs.Rounding.{round_cent};
 ghost use Rattle.percent_core.specs.Percentages.{least_percent};
-ghost use Rattle.percent_core.specs.PriceBands.{bands_at, distance_of};
+ghost use Rattle.percent_core.specs.PriceBands.{bands, distance_of};
 
 use price_core::{Bands, Category, Leverage, Price, round_cent};
 
@@ -9,7 +9,7 @@ use price_core::{Bands, Category, Leverage, Price, round_cent};
 pub fn bands(reference: Price, category: Category, percent: u32, leverage: Leverage) -> Bands
     requires least { least_percent category ≤ percent }
     requires most { percent ≤ 150 }
-    ensures value { result ≡ bands_at reference category percent leverage }
+    ensures value { result ≡ bands reference category percent leverage }
     ensures ordered { result.lower < result.upper }
 {
     let distance = distance(reference, category, percent, leverage);
@@ -59,7 +59,7 @@ fn share(reference: Price, percent: u32, leverage: Leverage) -> u64
 /// Thousandths of a unit, rounded half up to a whole cent in units.
 fn cents(thousandths: u64) -> u64
     requires { thousandths ≤ 99999999999 * 8500 }
-    ensures { result ≡ rounded_to_cent thousandths 1000 }
+    ensures { result ≡ round_cent thousandths 1000 }
 {
     round_cent(u128::from(thousandths), 1_000) as u64
 }

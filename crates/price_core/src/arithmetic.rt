@@ -1,6 +1,6 @@
 ghost use Rattle.std.specs.Prelude.{◌≡◌, ◌*◌, ◌<◌, ◌≤◌, ◌^◌};
-ghost use Rattle.price_core.specs.Rounding.{rounded_mean, rounded_to_cent};
-ghost use Rattle.price_core.specs.Moves.{has_moved_one_percent, has_fallen};
+ghost use Rattle.price_core.specs.Rounding.{mean, round_cent};
+ghost use Rattle.price_core.specs.Moves.{moved_one_percent, fell};
 
 use crate::value::{Index, Price};
 
@@ -9,7 +9,7 @@ pub fn mean(sum: u128, n: u64) -> Price
     requires some { 0 < n }
     requires least { n ≤ sum }
     requires most { sum ≤ 99999999999 * n }
-    ensures { result ≡ rounded_mean sum n }
+    ensures { result ≡ mean sum n }
 {
     let n = u128::from(n);
     Price::of(((2 * sum + n) / (2 * n)) as u64)
@@ -17,7 +17,7 @@ pub fn mean(sum: u128, n: u64) -> Price
 
 /// Whether a price is at least one per cent away from a reference price (LULD Plan, Section V).
 pub fn moved_one_percent(price: Price, reference: Price) -> bool
-    ensures { result ≡ has_moved_one_percent price reference }
+    ensures { result ≡ moved_one_percent price reference }
 {
     100 * price.units().abs_diff(reference.units()) >= reference.units()
 }
@@ -27,7 +27,7 @@ pub fn round_cent(num: u128, den: u128) -> u128
     requires some { 0 < den }
     requires small { den ≤ 1000000 }
     requires fits { num < 2 ^ 100 }
-    ensures { result ≡ rounded_to_cent num den }
+    ensures { result ≡ round_cent num den }
 {
     100 * ((2 * num + 100 * den) / (200 * den))
 }
@@ -35,7 +35,7 @@ pub fn round_cent(num: u128, den: u128) -> u128
 /// Whether an index value is at least that many per cent below another (NYSE Rule 7.12).
 pub fn fell(now: Index, then: Index, percent: u32) -> bool
     requires { percent ≤ 100 }
-    ensures { result ≡ has_fallen percent now then }
+    ensures { result ≡ fell percent now then }
 {
     let rest = u64::from(100 - percent);
     100 * u64::from(now.hundredths()) <= rest * u64::from(then.hundredths())

@@ -10,6 +10,7 @@ pub record ReferenceState : Type 0 where
   pub begun : ℕ
   pub last : Option Adoption
 
+-- a reference price is adopted at t
 abbrev pub with_price : ℕ → ReferenceState → Priced → ReferenceState
 with_price t kept priced = record kept { last = Some (record { moment = t; price = priced.price }) }
 

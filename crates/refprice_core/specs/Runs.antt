@@ -1,4 +1,4 @@
--- The reference prices of a stock's runs, told by the calls, each list with the newest first.
+-- The reference prices of a stock's runs: the calls, and what they gave, each list with the newest first.
 use Rattle.std.specs.Prelude.{ℕ, Option, Some, None, List, [], ◌∷◌}
 use Rattle.std.specs.Option.{option_map_or}
 use Rattle.refprice_core.specs.declared.reference.Adoption.{Adoption}

@@ -5,4 +5,6 @@ mod reference;
 #[cfg(test)]
 mod tests;
 
-pub use reference::{Adoption, Priced, Reference, because, forced, is_in_opening_period};
+pub use reference::{
+    Adoption, Priced, Reference, because, first_price, forced, is_in_opening_period,
+};

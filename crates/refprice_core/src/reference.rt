@@ -3,7 +3,7 @@ ghost use Rattle.refprice_core.specs.Prices.{because, observed, forced, first_pr
 ghost use Rattle.refprice_core.specs.Runs.{Call, Begin, Release, Observe, Force, events, begun_in, last_in};
 
 use price_core::{Cause, Price, moved_one_percent};
-use session_core::Moment;
+use session_core::{FIVE_MINUTES, Moment, THIRTY_SECONDS};
 use std::marker::Model;
 
 /// A reference price in ten-thousandths of a dollar, and the moment of its adoption.
@@ -57,11 +57,13 @@ impl Model for Reference {
 pub fn is_in_opening_period(begun: Moment, t: Moment) -> bool
     ensures { result ≡ is_in_opening_period begun t }
 {
-    t.nanos() < begun.nanos() + 300_000_000_000
+    t.nanos() < begun.nanos() + FIVE_MINUTES
 }
 
-/// The first price of a run: within five minutes the price that is offered, and then the mean.
-fn first_price(
+/// The first price of a run in ten-thousandths of a dollar: within five minutes after its begin the price that is offered,
+/// by an opening trade or an opening on quotations, and then the mean; None exactly where there is none (LULD Plan,
+/// Section V(B)).
+pub fn first_price(
     begun: Moment,
     t: Moment,
     offered: Option<Price>,
@@ -69,17 +71,21 @@ fn first_price(
 ) -> Option<Price>
     ensures { result ≡ first_price begun t offered mean }
 {
-    if is_in_opening_period(begun, t) { offered } else { mean }
+    if is_in_opening_period(begun, t) {
+        offered
+    } else {
+        mean
+    }
 }
 
 impl Adoption {
     ghost use Rattle.refprice_core.specs.Prices.{has_stood, moved_price};
 
-    /// Whether it has stood for 30 seconds, before which no mean takes its place (LULD Plan, Section V(B)).
+    /// Whether it has stood for 30 seconds, before which no mean replaces it (LULD Plan, Section V(B)).
     pub fn has_stood(&self, t: Moment) -> bool
         ensures { result ≡ has_stood self.now t }
     {
-        self.moment.nanos() + 30_000_000_000 <= t.nanos()
+        self.moment.nanos() + THIRTY_SECONDS <= t.nanos()
     }
 
     /// The mean, where it has moved by one per cent and 30 seconds have passed (LULD Plan, Section V(B)).

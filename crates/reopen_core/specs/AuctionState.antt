@@ -2,7 +2,7 @@
 use Rattle.std.specs.Prelude.{◌≡◌, ℕ, ◌*◌, ◌≤◌, Option, Some, None, List}
 use Rattle.price_core.specs.declared.quote.Bands.{Bands}
 use Rattle.price_core.specs.declared.quote.Unmatched.{Unmatched}
-use Rattle.session_core.specs.Moments.{seconds}
+use Rattle.session_core.specs.Durations.{five_minutes}
 use Rattle.reopen_core.specs.declared.auction.Origin.{Origin}
 use Rattle.reopen_core.specs.declared.auction.Indication.{Indication}
 use Rattle.reopen_core.specs.declared.auction.Round.{Round}
@@ -17,19 +17,22 @@ pub record AuctionState : Type 0 where
   pub indication : Option Indication
   pub round : Round
 
+-- an auction begins
 abbrev pub begun : ℕ → Origin → Bands → ℕ → AuctionState
 begun t origin bands reference =
     record { reference = auction_reference origin bands reference; indication = None; round = first_round t origin bands reference }
 
+-- a price is indicated
 abbrev pub with_indication : ℕ → Unmatched → AuctionState → AuctionState
 with_indication price unmatched kept = record kept { indication = Some (record { price = price; unmatched = unmatched }) }
 
+-- a trial is made at t
 abbrev pub with_trial : ℕ → Trial → AuctionState → AuctionState
 with_trial t trial kept = record kept { round = round_after t trial kept.round }
 
 -- each round before the last took five minutes
 pub record IsTimely (round : Round) : Type 0 where
-  pub rounds : round.number * seconds 300 ≤ round.moment
+  pub rounds : round.number * five_minutes ≤ round.moment
 
 -- an auction represents the calls so far
 pub record Represents (kept : AuctionState) (calls : List Call) : Type 0 where

@@ -4,7 +4,7 @@ use Rattle.price_core.specs.declared.quote.Bands.{Bands}
 use Rattle.price_core.specs.declared.quote.Collars.{Collars}
 use Rattle.price_core.specs.declared.quote.Unmatched.{Unmatched}
 use Rattle.price_core.specs.declared.quote.Unmatched.TheVariants.{Nothing, Buy, Sell}
-use Rattle.session_core.specs.Moments.{seconds}
+use Rattle.session_core.specs.Durations.{five_minutes}
 use Rattle.reopen_core.specs.declared.auction.Origin.{Origin}
 use Rattle.reopen_core.specs.declared.auction.Indication.{Indication}
 use Rattle.reopen_core.specs.declared.auction.Round.{Round}
@@ -12,6 +12,7 @@ use Rattle.reopen_core.specs.declared.auction.Trial.{Trial}
 use Rattle.reopen_core.specs.declared.auction.Trial.TheVariants.{NotDue, Extend, Release, Closing}
 use Rattle.reopen_core.specs.Collars.{collar_step, first_collars, with_lower, with_upper}
 
+-- an indicated price inside the collars: orders left unmatched widen their side
 abbrev pub with_unmatched : Unmatched → ℕ → Collars → ℕ → Trial
 with_unmatched Nothing price collars step = Release price
 with_unmatched Buy price collars step = Extend (with_upper collars step)
@@ -29,10 +30,11 @@ outcome (Some i) reference collars =
 -- In the last ten minutes there is no reopening before the close.
 abbrev pub trial : ℕ → Bool → Round → ℕ → Option Indication → Trial
 trial t last_10 round reference indication =
-    if nat_lt t (round.moment + seconds 300) then NotDue
+    if nat_lt t (round.moment + five_minutes) then NotDue
     else if last_10 then Closing
     else outcome indication reference round.collars
 
+-- the round in which an auction begins
 abbrev pub first_round : ℕ → Origin → Bands → ℕ → Round
 first_round t origin bands reference = record { number = 0; moment = t; collars = first_collars origin bands reference }
 

@@ -1,12 +1,12 @@
 ghost use Rattle.std.specs.Prelude.{◌≡◌, ◌+◌, ◌*◌, ◌≤◌, ◌∷◌, List};
-ghost use Rattle.session_core.specs.Moments.{seconds};
+ghost use Rattle.session_core.specs.Durations.{five_minutes};
 ghost use Rattle.price_core.specs.declared.quote.Collars.{Collars};
 ghost use Rattle.reopen_core.specs.Trials.{outcome, trial};
 ghost use Rattle.reopen_core.specs.Calls.{Call, Begin, Indicate, Try, trial_after};
 
 use crate::collars::{auction_reference, collar_step, first_collars, with_lower, with_upper};
 use price_core::{Bands, Collars, Price, Unmatched};
-use session_core::Moment;
+use session_core::{FIVE_MINUTES, Moment};
 use std::marker::Model;
 
 /// What a trading pause came out of: a limit state at the lower or the upper price band, or a straddle state.
@@ -73,9 +73,9 @@ pub fn try_round(
     indication: &Option<Indication>,
 ) -> Trial
     ensures value { result ≡ trial t last_10 round.now reference indication.now }
-    ensures due { (collars : Collars) → result ≡ Trial.Extend collars → round.now.moment + seconds 300 ≤ t }
+    ensures due { (collars : Collars) → result ≡ Trial.Extend collars → round.now.moment + five_minutes ≤ t }
 {
-    if t.nanos() < round.moment.nanos() + 300_000_000_000 {
+    if t.nanos() < round.moment.nanos() + FIVE_MINUTES {
         return Trial::NotDue;
     }
     if last_10 {
@@ -165,7 +165,7 @@ impl Auction {
 
     /// Begins the next round.
     fn extend(&mut self, t: Moment, collars: &Collars)
-        requires { self.old.round.moment + seconds 300 ≤ t }
+        requires { self.old.round.moment + five_minutes ≤ t }
         ensures { self.new ≡ with_trial t (Trial.Extend collars.now) self.old }
     {
         let number = self.round.number + 1;

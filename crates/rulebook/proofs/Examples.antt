@@ -44,9 +44,9 @@ opening = out.Listed 0 abc ∷ out.State 0 phase.Trading ∷ out.Band 0 cause.Fi
 opened : said morning ≡ opening
 opened = refl
 
--- index breakers
-level_two : said (day ∷ in_.IndexTick (seconds 36000) 465001 ∷ in_.IndexTick (seconds 36000) 465000 ∷ []) ≡ out.Breaker level.One 465000 ∷ []
-level_two = refl
+-- a market-wide circuit breaker at exactly 7 per cent
+level_one : said (day ∷ in_.IndexTick (seconds 36000) 465001 ∷ in_.IndexTick (seconds 36000) 465000 ∷ []) ≡ out.Breaker level.One 465000 ∷ []
+level_one = refl
 
 last_minute : said (day ∷ in_.IndexTick (seconds 55500) 435000 ∷ in_.Clock (seconds 56400) ∷ []) ≡ out.Breaker level.Two 435000 ∷ out.MarketResume ∷ []
 last_minute = refl

@@ -112,7 +112,7 @@ terms_in-agree own other (in_.Day t d c ∷ A) e = refl
 terms_in-agree own other (in_.Listing t n k l c ∷ A) e =
     let rest = terms_in-agree own other A (earlier_agree own other (in_.Listing t n k l c) A e) in
     let here : own n ≡ other n = e.at n (among_own (names A) n) in
-    λ i. cond (here i) (Some (record { tier = k; leverage = l; close = c })) (rest i)
+    λ i. cond (here i) (Some (record { tier = k; leverage = l; prior_close = c })) (rest i)
 terms_in-agree own other (in_.Trade t s n p q f ∷ A) e = terms_in-agree own other A (earlier_agree own other (in_.Trade t s n p q f) A e)
 terms_in-agree own other (in_.Cancel t s n ∷ A) e = terms_in-agree own other A (earlier_agree own other (in_.Cancel t s n) A e)
 terms_in-agree own other (in_.Quote t s b o x y ∷ A) e = terms_in-agree own other A (earlier_agree own other (in_.Quote t s b o x y) A e)
@@ -151,11 +151,11 @@ place_from p j (suc i) (y ∷ xs) x one e own = by (p y) refl (place_from p (j +
   by true here rest = absurd (true≢false (sym rest.1 ∙ one.0 here))
   by false here rest = (rest.0 ∙ ap (λ (n : ℕ). Some n) (omega arith), rest.1)
 
--- the name at a place has that id
+-- the name at an index has that id
 pub id-at : (A : List Record) (s : ℕ) (name : List ℕ) → slice_get (names A) s ≡ Some name → id_of A name ≡ Some s
 id-at A s name e = position_from-zero (bytes_eq name) (names A) ∙ (place_from (bytes_eq name) 0 s (names A) name (one_place A name) e (own_name name)).0 ∙ ap (λ (n : ℕ). Some n) (omega arith)
 
--- and a name that has an id stands at that place
+-- and a name that has an id stands at that index
 pub name-at : (A : List Record) (s : ℕ) (name : List ℕ) → id_of A name ≡ Some s → slice_get (names A) s ≡ Some name
 name-at A s name e =
     let at = position-Some (bytes_eq name) (names A) s [] e in
@@ -167,7 +167,7 @@ same_id a b e = grind (arith, nat_tests)
 pub own_id : (a : ℕ) → (a == a) ≡ true
 own_id a = grind (arith, nat_tests)
 
--- the names of a symbol are the name at its place
+-- the names of a symbol are the name at its index
 own-at : (A : List Record) (s : ℕ) (n : List ℕ) → slice_get (names A) s ≡ Some n → (name : List ℕ) → (named A s).own name ≡ bytes_eq name n
 own-at A s n at name = by (bytes_eq name n) refl (id_of A name) refl where
   test : (o : Option ℕ) → Bool
@@ -200,9 +200,9 @@ terms-name : (own : List ℕ → Bool) (n : List ℕ) → ((name : List ℕ) →
 terms-name own n e [] = refl
 terms-name own n e (in_.Day t d c ∷ A) = refl
 terms-name own n e (in_.Listing t name k l c ∷ A) =
-    ap (λ b. is_some (cond b (Some (record { tier = k; leverage = l; close = c })) (terms_in own A))) (e name) ∙ by (bytes_eq name n) (terms-name own n e A)
+    ap (λ b. is_some (cond b (Some (record { tier = k; leverage = l; prior_close = c })) (terms_in own A))) (e name) ∙ by (bytes_eq name n) (terms-name own n e A)
   where
-    by : (b : Bool) → is_some (terms_in own A) ≡ is_listed_name A n → is_some (cond b (Some (record { tier = k; leverage = l; close = c })) (terms_in own A)) ≡ cond b true (is_listed_name A n)
+    by : (b : Bool) → is_some (terms_in own A) ≡ is_listed_name A n → is_some (cond b (Some (record { tier = k; leverage = l; prior_close = c })) (terms_in own A)) ≡ cond b true (is_listed_name A n)
     by true rest = refl
     by false rest = rest
 terms-name own n e (in_.Trade t s m p q f ∷ A) = terms-name own n e A
@@ -216,7 +216,7 @@ terms-name own n e (in_.Indication t s p u ∷ A) = terms-name own n e A
 terms-nameless : (own : List ℕ → Bool) → ((name : List ℕ) → own name ≡ false) → (A : List Record) → terms_in own A ≡ None
 terms-nameless own e [] = refl
 terms-nameless own e (in_.Day t d c ∷ A) = refl
-terms-nameless own e (in_.Listing t name k l c ∷ A) = ap (λ b. cond b (Some (record { tier = k; leverage = l; close = c })) (terms_in own A)) (e name) ∙ terms-nameless own e A
+terms-nameless own e (in_.Listing t name k l c ∷ A) = ap (λ b. cond b (Some (record { tier = k; leverage = l; prior_close = c })) (terms_in own A)) (e name) ∙ terms-nameless own e A
 terms-nameless own e (in_.Trade t s m p q f ∷ A) = terms-nameless own e A
 terms-nameless own e (in_.Cancel t s m ∷ A) = terms-nameless own e A
 terms-nameless own e (in_.Quote t s b o x y ∷ A) = terms-nameless own e A

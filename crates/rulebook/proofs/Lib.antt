@@ -1,8 +1,8 @@
 pub mod Histories
-pub mod Places
+pub mod Positions
 pub mod Listings
 pub mod Ids
-pub mod Speakers
+pub mod OfSymbol
 pub mod Lawful
 pub mod Sending
 pub mod Examples

@@ -11,7 +11,7 @@ use Rattle.std.proofs.lemmas.Slice.Eq.{bytes_eq-Decides}
 use Rattle.wire_in.specs.declared.record.Record.{Record}
 use Rattle.wire_in.specs.declared.record.Record.TheVariants as in_
 use Rattle.rulebook.specs.Admission.{names, is_among, with_name, is_listed_name, is_listed, id_of}
-use Rattle.rulebook.proofs.Places.{is_some-position}
+use Rattle.rulebook.proofs.Positions.{is_some-position}
 
 pub same_name : (a b : List ℕ) → bytes_eq a b ≡ true → a ≡ b
 same_name a b e = (bytes_eq-Decides a b).0 e

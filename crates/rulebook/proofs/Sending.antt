@@ -28,14 +28,14 @@ pub accepted_of-append : (capacity : ℕ) (held : List Record) (a b : List (List
 accepted_of-append capacity held [] b = refl
 accepted_of-append capacity held (body ∷ a) b = accepted_of-append capacity (with_record held (judged capacity held body)) a b
 
-pub replies-append : (capacity place : ℕ) (held : List Record) (a b : List (List ℕ))
-    → replies capacity place held (a ++ b) ≡ replies capacity place held a ++ replies capacity (place + length a) (accepted_of capacity held a) b
-replies-append capacity place held [] b = ap (λ (k : ℕ). replies capacity k held b) (omega arith)
-replies-append capacity place held (body ∷ a) b =
+pub replies-append : (capacity number : ℕ) (held : List Record) (a b : List (List ℕ))
+    → replies capacity number held (a ++ b) ≡ replies capacity number held a ++ replies capacity (number + length a) (accepted_of capacity held a) b
+replies-append capacity number held [] b = ap (λ (k : ℕ). replies capacity k held b) (omega arith)
+replies-append capacity number held (body ∷ a) b =
     let next = with_record held (judged capacity held body) in
-    ap (λ later. reply place held (judged capacity held body) ++ later)
-    (replies-append capacity (place + 1) next a b ∙ ap (λ (k : ℕ). replies capacity (place + 1) next a ++ replies capacity k (accepted_of capacity next a) b) (omega arith))
-    ∙ sym (append_assoc (reply place held (judged capacity held body)) (replies capacity (place + 1) next a) (replies capacity (place + length (body ∷ a)) (accepted_of capacity next a) b))
+    ap (λ later. reply number held (judged capacity held body) ++ later)
+    (replies-append capacity (number + 1) next a b ∙ ap (λ (k : ℕ). replies capacity (number + 1) next a ++ replies capacity k (accepted_of capacity next a) b) (omega arith))
+    ∙ sym (append_assoc (reply number held (judged capacity held body)) (replies capacity (number + 1) next a) (replies capacity (number + length (body ∷ a)) (accepted_of capacity next a) b))
 
 -- all that a session sends, and what further frames add
 pub session_frames-append : (capacity : ℕ) (from : Option ℕ) (held : List Record) (a b : List (List ℕ))

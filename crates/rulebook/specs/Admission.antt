@@ -22,6 +22,7 @@ last_day [] = None
 last_day (in_.Day t d c ∷ earlier) = Some d
 last_day (x ∷ earlier) = last_day earlier
 
+-- one of these names
 abbrev pub is_among : List (List ℕ) → List ℕ → Bool
 is_among names name = list_any (bytes_eq name) names
 
@@ -29,12 +30,13 @@ is_among names name = list_any (bytes_eq name) names
 abbrev pub with_name : List (List ℕ) → List ℕ → List (List ℕ)
 with_name names name = if is_among names name then names else names ++ name ∷ []
 
--- the distinct names of all listings, in order of their first listing: the place of a name is its id
+-- the distinct names of all listings, in order of their first listing: the index of a name is its id
 abbrev pub names : List Record → List (List ℕ)
 names [] = []
 names (in_.Listing t name k l c ∷ earlier) = with_name (names earlier) name
 names (x ∷ earlier) = names earlier
 
+-- the id of a name: its index
 abbrev pub id_of : List Record → List ℕ → Option ℕ
 id_of accepted name = position (bytes_eq name) (names accepted)
 
@@ -49,20 +51,28 @@ is_listed_name (x ∷ earlier) name = is_listed_name earlier name
 abbrev pub is_listed : List Record → ℕ → Bool
 is_listed accepted id = option_map_or (is_listed_name accepted) (slice_get (names accepted) id) false
 
+-- a day whose date isn't later than the last day's, or another record whose moment is before the last record's
 abbrev pub is_early : List Record → Record → Bool
 is_early accepted (in_.Day t d c) = option_map_or (λ last. nat_le (date_number d.date) (date_number last.date)) (last_day accepted) false
 is_early [] x = false
 is_early (last ∷ earlier) x = nat_lt (moment_of x) (moment_of last)
 
+-- a record of an id that isn't listed today
 abbrev pub is_unknown : List Record → Record → Bool
 is_unknown accepted x = option_map_or (λ id. not (is_listed accepted id)) (symbol_of x) false
 
+-- a listing of a name that is listed today
 abbrev pub lists_again : List Record → Record → Bool
 lists_again accepted (in_.Listing t name k l c) = is_listed_name accepted name
 lists_again accepted x = false
 
+-- the most names that have ids
+abbrev pub most_names : ℕ
+most_names = 16384
+
+-- a listing of a name that was never listed, where no id is left
 abbrev pub finds_no_id : List Record → Record → Bool
-finds_no_id accepted (in_.Listing t name k l c) = not (is_among (names accepted) name) && nat_le 16384 (length (names accepted))
+finds_no_id accepted (in_.Listing t name k l c) = not (is_among (names accepted) name) && nat_le most_names (length (names accepted))
 finds_no_id accepted x = false
 
 -- the first refusal that applies after these records, under this capacity of records
@@ -75,11 +85,6 @@ verdict capacity accepted x =
     else if finds_no_id accepted x then Some DirectoryFull
     else if nat_le capacity (length accepted) then Some JournalFull
     else None
-
--- the accepted records after these further records were tried in order
-abbrev pub accepted : ℕ → List Record → List Record → List Record
-accepted capacity held [] = held
-accepted capacity held (x ∷ later) = accepted capacity (if is_none (verdict capacity held x) then x ∷ held else held) later
 
 -- each record is admissible after those before it
 abbrev pub IsLawful : ℕ → List Record → Type 0

@@ -22,6 +22,7 @@ abbrev pub collar_of : ℕ → Message → Option (ℕ × Collars)
 collar_of s (out.Collar symbol round lower upper) = if symbol == s then Some (round, record { lower = lower; upper = upper }) else None
 collar_of s m = None
 
+-- a round with the moment of its message
 abbrev pub round_of : Found (ℕ × Collars) → Round
 round_of found = record { number = found.value.0; moment = found.moment; collars = found.value.1 }
 
@@ -29,10 +30,12 @@ round_of found = record { number = found.value.0; moment = found.moment; collars
 abbrev pub last_round : List Event → ℕ → Option Round
 last_round h s = option_map round_of (last (collar_of s) (today h))
 
+-- in a trading pause with an auction
 abbrev pub is_paused : Phase → Bool
 is_paused Paused = true
 is_paused p = false
 
+-- a message that s is paused
 abbrev pub pauses : ℕ → Message → Bool
 pauses s m = option_map_or is_paused (state_of s m) false
 
@@ -48,9 +51,11 @@ origin_in s [] = Straddle
 origin_in s (Accepted x ∷ h) = origin_in s h
 origin_in s (Published m ∷ h) = if pauses s m then origin_of (phase_in s h) else origin_in s h
 
+-- what today's last pause of s came from
 abbrev pub origin : List Event → ℕ → Origin
 origin h s = origin_in s (today h)
 
+-- the indication of a record of s
 abbrev pub indicated_by : ℕ → Record → Option Indication
 indicated_by s (in_.Indication t symbol price unmatched) = if symbol == s then Some (record { price = price; unmatched = unmatched }) else None
 indicated_by s x = None
@@ -61,5 +66,6 @@ indication_in s [] = None
 indication_in s (Accepted x ∷ h) = elim (indicated_by s x) [ Some i ↦ Some i | None ↦ indication_in s h ]
 indication_in s (Published m ∷ h) = if pauses s m then option_and_then (indicated_by s) (newest h) else indication_in s h
 
+-- the last indication of s since today's last pause
 abbrev pub indication : List Event → ℕ → Option Indication
 indication h s = indication_in s (today h)

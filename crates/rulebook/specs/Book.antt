@@ -1,6 +1,6 @@
 -- The history of a list of accepted records, the newest first: each step is evaluated afresh from the whole history before
 -- it.
-use Rattle.std.specs.Prelude.{ℕ, zero, suc, Bool, true, false, Option, Some, None, List, [], ◌∷◌, ◌++◌, ◌==◌, if◌then◌else◌, length, filter}
+use Rattle.std.specs.Prelude.{ℕ, zero, suc, Bool, false, Option, Some, None, List, [], ◌∷◌, ◌++◌, ◌==◌, if◌then◌else◌, length, filter}
 use Rattle.std.specs.Option.{option_map_or}
 use Rattle.session_core.specs.declared.day.Day.{Day}
 use Rattle.wire_in.specs.declared.record.Record.{Record}
@@ -12,7 +12,7 @@ use Rattle.wire_out.specs.declared.message.ShortKind.TheVariants.{Carried}
 use Rattle.wire_out.specs.declared.message.Stamped.{Stamped}
 use Rattle.pause_core.specs.Phases.{is_done}
 use Rattle.rulebook.specs.declared.event.Event.{Event}
-use Rattle.rulebook.specs.declared.event.Event.TheVariants.{Accepted, Published}
+use Rattle.rulebook.specs.declared.event.Event.TheVariants.{Accepted}
 use Rattle.rulebook.specs.Admission.{names, id_of, is_listed}
 use Rattle.rulebook.specs.History.{now, records, messages, step_messages, publish}
 use Rattle.rulebook.specs.Market.{resume_at, declare_at, day_record}
@@ -27,8 +27,9 @@ pub record Named : Type 0 where
   pub symbol : ℕ
   pub own : List ℕ → Bool
 
+-- what the rules of s may read in the open step
 abbrev pub context : Day → Named → Record → List Event → Context
-context day s x h = record { history = h; symbol = s.symbol; own = s.own; input = x; moment = now h; day = day }
+context day s x h = record { history = h; symbol = s.symbol; own = s.own; newest = x; moment = now h; day = day }
 
 -- what a rule publishes in the open step; no rule applies to a closed symbol
 abbrev pub obeyed : Day → Named → Record → (Context → List Message) → List Event → List Message
@@ -39,9 +40,10 @@ abbrev pub all_obeyed : Day → Named → Record → List (Context → List Mess
 all_obeyed day s x [] h = []
 all_obeyed day s x (rule ∷ later) h = obeyed day s x rule h ++ all_obeyed day s x later (publish (obeyed day s x rule h) h)
 
+-- the rules of a symbol, in the order in which they are tried
 abbrev pub symbol_rules : List (Context → List Message)
 symbol_rules =
-    rules.close ∷ rules.stop ∷ rules.start ∷ rules.halt ∷ rules.pause ∷ rules.reopen ∷ rules.leave_limit
+    rules.session_close ∷ rules.market_halt ∷ rules.start ∷ rules.regulatory_halt ∷ rules.pause ∷ rules.reopen ∷ rules.leave_limit
     ∷ rules.publish_band ∷ rules.enter_limit ∷ rules.straddle ∷ rules.restrict ∷ []
 
 -- the rules of s on the open step
@@ -100,9 +102,11 @@ evaluate_record x h =
     else if is_tick x then evaluate_all x (listed_ids (records h)) (evaluate_market x h)
     else option_map_or (λ s. evaluate_own x (named (records h) s) h) (target (records h) x) h
 
+-- the history after one more accepted record: the record, and the messages that it gives
 abbrev pub step : Record → List Event → List Event
 step x h = evaluate_record x (Accepted x ∷ h)
 
+-- the history of these accepted records
 abbrev pub history : List Record → List Event
 history [] = []
 history (x ∷ earlier) = step x (history earlier)

@@ -25,12 +25,15 @@ view accepted s = filter (concerns accepted s) accepted
 abbrev pub isolated : ℕ → Named
 isolated s = record { symbol = s; own = λ name. true }
 
+-- a listing of any name
 abbrev pub is_listing : Record → Bool
 is_listing x = option_map_or (λ name. true) (name_of x) false
 
+-- whether the symbol of a view is listed today
 abbrev pub is_listed_in_view : List Record → Bool
 is_listed_in_view v = list_any is_listing (since_day v)
 
+-- a step of the history of a view
 abbrev pub isolated_step : ℕ → Record → List Event → List Event
 isolated_step s x h =
     if is_day x then h
@@ -54,5 +57,6 @@ is_for s (Short symbol kind) = symbol == s
 is_for s (Breaker level index) = true
 is_for s MarketResume = true
 
+-- the market's messages and those of s
 abbrev pub for_symbol : ℕ → List Stamped → List Stamped
 for_symbol s ms = filter (λ m. is_for s m.message) ms

@@ -14,18 +14,21 @@ use Rattle.rulebook.specs.Book.{messages_of, newest_messages}
 
 -- Accepted records have the newest first, and frames and what is sent for them the oldest.
 
-abbrev pub passed : Record → Option Refusal → Result Record Refusal
-passed x None = Ok x
-passed x (Some refusal) = Err refusal
+-- the record, or the refusal where there is one
+abbrev pub record_or_refusal : Record → Option Refusal → Result Record Refusal
+record_or_refusal x None = Ok x
+record_or_refusal x (Some refusal) = Err refusal
 
+-- the record where it is admissible, else the first refusal that applies
 abbrev pub admitted : ℕ → List Record → Result Record Refusal → Result Record Refusal
-admitted capacity held (Ok x) = passed x (verdict capacity held x)
+admitted capacity held (Ok x) = record_or_refusal x (verdict capacity held x)
 admitted capacity held (Err refusal) = Err refusal
 
 -- the record of a frame's body that is accepted after these, or the first refusal that applies
 abbrev pub judged : ℕ → List Record → List ℕ → Result Record Refusal
 judged capacity held body = admitted capacity held (record_of body)
 
+-- the accepted records after one more frame: a refused one leaves no trace
 abbrev pub with_record : List Record → Result Record Refusal → List Record
 with_record held (Ok x) = x ∷ held
 with_record held (Err refusal) = held
@@ -44,20 +47,20 @@ numbered n (m ∷ later) = Numbered (n + 1) m ∷ numbered (n + 1) later
 abbrev pub accepted : List Record → Record → List Frame
 accepted held x = numbered (length (messages_of held)) (newest_messages (x ∷ held)) ++ Ack (length held + 1) ∷ []
 
--- what is sent for a frame that is refused
+-- what is sent for a frame that is refused, with its number
 abbrev pub refused : ℕ → Refusal → List Frame
-refused place refusal = Refused place (code_of refusal) (field_of refusal) ∷ []
+refused number refusal = Refused number (code_of refusal) (field_of refusal) ∷ []
 
--- what is sent for the frame at a place
+-- what is sent for the frame of a number
 abbrev pub reply : ℕ → List Record → Result Record Refusal → List Frame
-reply place held (Ok x) = accepted held x
-reply place held (Err refusal) = refused place refusal
+reply number held (Ok x) = accepted held x
+reply number held (Err refusal) = refused number refusal
 
--- what is sent for the frames from a place on, after these records
+-- what is sent for the frames from a number on, after these records
 abbrev pub replies : ℕ → ℕ → List Record → List (List ℕ) → List Frame
-replies capacity place held [] = []
-replies capacity place held (body ∷ later) =
-    reply place held (judged capacity held body) ++ replies capacity (place + 1) (with_record held (judged capacity held body)) later
+replies capacity number held [] = []
+replies capacity number held (body ∷ later) =
+    reply number held (judged capacity held body) ++ replies capacity (number + 1) (with_record held (judged capacity held body)) later
 
 -- a session's first frame: how many records are held, and how many messages they gave
 abbrev pub hello : List Record → Frame
@@ -78,10 +81,12 @@ passed_over (Some from) before count = min (from - 1 - before) count
 abbrev pub session_frames : ℕ → Option ℕ → List Record → List (List ℕ) → List Frame
 session_frames capacity from held bodies = sent_again from held ++ hello held ∷ replies capacity 1 held bodies
 
+-- an acknowledgement
 abbrev pub is_ack : Frame → Bool
 is_ack (Ack number) = true
 is_ack frame = false
 
+-- the frames without acknowledgements
 abbrev pub unacknowledged : List Frame → List Frame
 unacknowledged frames = filter (λ frame. not (is_ack frame)) frames
 

@@ -6,7 +6,7 @@ use price_core::{Bands, Cause, Leverage, Price, Tier};
 pub struct Terms {
     pub tier: Tier,
     pub leverage: Leverage,
-    pub close: Option<Price>,
+    pub prior_close: Option<Price>,
 }
 
 /// The price bands of a symbol in ten-thousandths of a dollar, with their reference price and why they were published.

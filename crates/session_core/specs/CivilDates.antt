@@ -4,6 +4,7 @@ use Rattle.session_core.specs.declared.date.BadDate.{BadDate}
 use Rattle.session_core.specs.declared.date.BadDate.TheVariants.{Year, Month, DayOfMonth}
 use Rattle.session_core.specs.Dates.{Civil, days_of}
 
+-- the date of a year, a month and a day
 abbrev pub civil_date : ℕ → ℕ → ℕ → Result Civil BadDate
 civil_date year month day =
     if not (nat_le 2000 year && nat_le year 2099) then Err Year

@@ -11,24 +11,29 @@ pub record Civil : Type 0 where
 abbrev pub is_leap : ℕ → Bool
 is_leap year = year % 4 == 0
 
+-- the days of a month
 abbrev pub days_of : ℕ → ℕ → ℕ
 days_of year month =
     if month == 2 then (if is_leap year then 29 else 28)
     else if month == 4 || month == 6 || month == 9 || month == 11 then 30
     else 31
 
+-- a year that dates may have
 pub record IsYear (year : ℕ) : Type 0 where
   pub first : 2000 ≤ year
   pub last : year ≤ 2099
 
+-- a month of a year
 pub record IsMonth (month : ℕ) : Type 0 where
   pub first : 1 ≤ month
   pub last : month ≤ 12
 
+-- a day of that month
 pub record IsDayOf (year month day : ℕ) : Type 0 where
   pub first : 1 ≤ day
   pub last : day ≤ days_of year month
 
+-- a date that exists
 pub record IsCivil (d : Civil) : Type 0 where
   pub year : IsYear d.year
   pub month : IsMonth d.month

@@ -1,4 +1,5 @@
 pub mod Dates
 pub mod CivilDates
 pub mod Moments
+pub mod Durations
 pub mod Times

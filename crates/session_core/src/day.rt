@@ -1,8 +1,11 @@
 ghost use Rattle.std.specs.Prelude.{◌≡◌};
-ghost use Rattle.session_core.specs.Times.{close_of, in_session, in_last_25_minutes, in_last_10_minutes, may_declare_brief};
+ghost use Rattle.session_core.specs.Times.{session_close, in_session, in_last_25_minutes, in_last_10_minutes, may_declare_brief};
 
 use crate::date::Date;
 use crate::moment::Moment;
+use crate::times::{
+    EARLY_CLOSE, REGULAR_CLOSE, SESSION_OPEN, TEN_MINUTES, THIRTY_FIVE_MINUTES, TWENTY_FIVE_MINUTES,
+};
 
 /// When the session ends: at 16:00:00, or at 13:00:00 on an early close.
 #[derive(Clone, Copy, Debug, PartialEq, Eq)]
@@ -28,11 +31,11 @@ pub struct Day {
 
 /// The moment at which the day's session ends.
 pub fn close_moment(day: &Day) -> Moment
-    ensures { result ≡ close_of day.now.close }
+    ensures { result ≡ session_close day.now.close }
 {
     match day.close {
-        Close::Regular => Moment::of(57_600_000_000_000),
-        Close::Early => Moment::of(46_800_000_000_000),
+        Close::Regular => Moment::of(REGULAR_CLOSE),
+        Close::Early => Moment::of(EARLY_CLOSE),
     }
 }
 
@@ -40,21 +43,21 @@ pub fn close_moment(day: &Day) -> Moment
 pub fn in_session(t: Moment, day: &Day) -> bool
     ensures { result ≡ in_session t day.now }
 {
-    34_200_000_000_000 <= t.nanos() && t < close_moment(day)
+    SESSION_OPEN <= t.nanos() && t < close_moment(day)
 }
 
 /// Whether a moment is not before the close less 25 minutes (LULD Plan, Appendix A).
 pub fn last_25(t: Moment, day: &Day) -> bool
     ensures { result ≡ in_last_25_minutes t day.now }
 {
-    t.nanos() >= close_moment(day).nanos() - 1_500_000_000_000
+    t.nanos() >= close_moment(day).nanos() - TWENTY_FIVE_MINUTES
 }
 
 /// Whether a moment is not before the close less ten minutes (LULD Plan, Section VII).
 pub fn last_10(t: Moment, day: &Day) -> bool
     ensures { result ≡ in_last_10_minutes t day.now }
 {
-    t.nanos() >= close_moment(day).nanos() - 600_000_000_000
+    t.nanos() >= close_moment(day).nanos() - TEN_MINUTES
 }
 
 /// Whether a halt of Level 1 or 2 may be declared: in the session and not later than 15:25:00, or 12:25:00 on an
@@ -62,5 +65,5 @@ pub fn last_10(t: Moment, day: &Day) -> bool
 pub fn breaker_open(t: Moment, day: &Day) -> bool
     ensures { result ≡ may_declare_brief t day.now }
 {
-    in_session(t, day) && t.nanos() <= close_moment(day).nanos() - 2_100_000_000_000
+    in_session(t, day) && t.nanos() <= close_moment(day).nanos() - THIRTY_FIVE_MINUTES
 }

@@ -57,6 +57,13 @@ impl Moment {
     }
 }
 
+/// The moment at which a day begins.
+pub fn midnight() -> Moment
+    ensures { result ≡ 0 }
+{
+    Moment { nanos: 0 }
+}
+
 /// How much later the first moment is than the second, in nanoseconds.
 pub fn age(now: Moment, then: Moment) -> u64
     requires { then ≤ now }

@@ -4,24 +4,25 @@ use Rattle.std.specs.List.{list_any}
 use Rattle.std.specs.Option.{option_map_or}
 
 -- a price is at least 10 per cent below the prior close
-abbrev pub has_fallen_ten_percent : ℕ → ℕ → Bool
-has_fallen_ten_percent price close = nat_le (10 * price) (9 * close)
+abbrev pub fell_ten_percent : ℕ → ℕ → Bool
+fell_ten_percent price prior_close = nat_le (10 * price) (9 * prior_close)
 
 -- whether a trade at that price triggers the restriction, which none does where there is no prior close
 abbrev pub triggers : Option ℕ → ℕ → Bool
-triggers close price = option_map_or (has_fallen_ten_percent price) close false
+triggers prior_close price = option_map_or (fell_ten_percent price) prior_close false
 
 -- a day of the stock: its prior close, and the prices of its eligible trades, the newest first
 pub record Trades : Type 0 where
-  pub close : Option ℕ
+  pub prior_close : Option ℕ
   pub prices : List ℕ
 
 -- the day with one more trade
 abbrev pub traded : ℕ → Trades → Trades
 traded price day = record day { prices = price ∷ day.prices }
 
+-- a trade of the day triggers it
 abbrev pub has_triggered : Trades → Bool
-has_triggered day = list_any (triggers day.close) day.prices
+has_triggered day = list_any (triggers day.prior_close) day.prices
 
 -- whether the day after these days, the newest first, carries the restriction: the last of them triggered it
 abbrev pub is_carried : List Trades → Bool

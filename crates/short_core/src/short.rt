@@ -6,17 +6,17 @@ use std::marker::Model;
 
 /// Whether a trade at that price triggers the restriction after that prior close, both in ten-thousandths of a dollar
 /// (17 CFR 242.201(b)).
-pub fn triggers(close: Option<Price>, price: Price) -> bool
-    ensures { result ≡ triggers close price }
+pub fn triggers(prior_close: Option<Price>, price: Price) -> bool
+    ensures { result ≡ triggers prior_close price }
 {
-    close.is_some_and(|close| 10 * price.units() <= 9 * close.units())
+    prior_close.is_some_and(|prior_close| 10 * price.units() <= 9 * prior_close.units())
 }
 
 /// The short sale restriction of a stock on a day: triggered by a trade at least 10 per cent below the prior close, it
 /// stays for the rest of the day and the following day (17 CFR 242.201).
 #[derive(Clone, Copy, Debug, PartialEq, Eq)]
 pub struct Short {
-    close: Option<Price>,
+    prior_close: Option<Price>,
     triggered: bool,
     carried: bool,
 }
@@ -26,9 +26,9 @@ impl Model for Short {
 
     ghost Value = { ShortState };
 
-    ghost view = { λ s. record { close = s.close; triggered = s.triggered; carried = s.carried } };
+    ghost view = { λ s. record { prior_close = s.prior_close; triggered = s.triggered; carried = s.carried } };
 
-    ghost inverse = { λ kept. record { close = kept.close; triggered = kept.triggered; carried = kept.carried } };
+    ghost inverse = { λ kept. record { prior_close = kept.prior_close; triggered = kept.triggered; carried = kept.carried } };
 }
 
 impl Short {
@@ -36,13 +36,13 @@ impl Short {
 
     /// A day without a trade yet, with the prior close in ten-thousandths of a dollar, where there is one, and whether
     /// the day before carries the restriction over.
-    pub fn listed(close: Option<Price>, carried: bool) -> Short
-        ensures value { result ≡ listed close carried }
+    pub fn listed(prior_close: Option<Price>, carried: bool) -> Short
+        ensures value { result ≡ listed prior_close carried }
         ensures stands { (earlier : List Trades) → carried ≡ is_carried earlier
-            → Represents result (record { close = close; prices = [] }) earlier }
+            → Represents result (record { prior_close = prior_close; prices = [] }) earlier }
     {
         Short {
-            close,
+            prior_close,
             triggered: false,
             carried,
         }
@@ -54,10 +54,10 @@ impl Short {
         ensures first { result ≡ triggers_first p self.old }
         ensures value { self.new ≡ with_trade p self.old }
         ensures answer { (day : Trades) (earlier : List Trades) → Represents self.old day earlier
-            → result ≡ triggers day.close p && not (has_triggered day) }
+            → result ≡ triggers day.prior_close p && not (has_triggered day) }
         ensures stands { (day : Trades) (earlier : List Trades) → Represents self.old day earlier → Represents self.new (traded p day) earlier }
     {
-        let first = !self.triggered && triggers(self.close, p);
+        let first = !self.triggered && triggers(self.prior_close, p);
         self.triggered |= first;
         first
     }

@@ -10,7 +10,7 @@ use Rattle.rulebook.specs.declared.event.Event.{Event}
 use Rattle.rulebook.specs.declared.event.Event.TheVariants.{Published}
 use Rattle.rulebook.specs.History.{Found, now, newest, step_record, open_step, publish, today, last}
 use Rattle.rulebook.specs.Market.{is_market_halted}
-use Rattle.session_core.specs.Moments.{seconds}
+use Rattle.session_core.specs.Durations.{five_minutes}
 use Rattle.rulebook.specs.Symbol.{begins_run, counted_in, is_times, phase_in, deals_in}
 use Rattle.pause_core.specs.Phases.{is_trading, is_limit}
 use Rattle.window_core.specs.declared.window.Deal.{Deal}
@@ -67,7 +67,7 @@ stands-apart mine k deals step m h q s =
     none_adopts = ap (λ (o : Option Banded). option_and_then (λ b. if is_times b.cause then None else Some b) o) q.band
 
     counts : (t : ℕ) (r : List Event) → deals_from step.day k.id t (Published m ∷ r) ≡ deals_from step.day k.id t r
-    counts t r = ap (λ (o : Option Banded). deals_in step.day k.id [] (if (is_some o && not (is_some (last (of.band_of k.id) r))) && option_map_or (of.opens_before step.day k.id (t + seconds 300)) (newest r) false then Published m ∷ step_record r else Published m ∷ counted_in step.day k.id (t + seconds 300) r)) q.band
+    counts t r = ap (λ (o : Option Banded). deals_in step.day k.id [] (if (is_some o && not (is_some (last (of.band_of k.id) r))) && option_map_or (of.opens_before step.day k.id (t + five_minutes)) (newest r) false then Published m ∷ step_record r else Published m ∷ counted_in step.day k.id (t + five_minutes) r)) q.band
 
     run : RunStays step.day k.id m h
     run = run_stays step.day k.id m step.input h s.input none_begins (λ r. last-other (of.band_of k.id) m r q.band) (λ r. last-other (of.adoption_of k.id) m r none_adopts) counts

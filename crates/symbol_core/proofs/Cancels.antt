@@ -8,7 +8,7 @@ use Rattle.std.proofs.lemmas.List.Folds.{list_any-append}
 use Rattle.session_core.specs.declared.day.Day.{Day}
 use Rattle.wire_in.specs.declared.record.Record.{Record}
 use Rattle.wire_in.specs.declared.record.Record.TheVariants as in_
-use Rattle.eligible_core.specs.Conditions.{is_eligible}
+use Rattle.eligible_core.specs.Conditions.{eligible}
 use Rattle.window_core.specs.declared.window.Deal.{Deal}
 use Rattle.rulebook.specs.declared.event.Event.{Event}
 use Rattle.rulebook.specs.declared.event.Event.TheVariants.{Accepted, Published}
@@ -42,7 +42,7 @@ pub deals-later : (day : Day) (s : ℕ) (x : Record) (later : List Record) (h : 
 deals-later day s x later [] = refl
 deals-later day s x later (Published m ∷ h) = deals-later day s x later h
 deals-later day s x later (Accepted (in_.Trade t i n p q f) ∷ h) =
-    rw (list_any-append (cancels s n) later (x ∷ [])) (traded_later s x (deals_in day s later h) (deals_in day s (later ++ x ∷ []) h) (record { moment = t; number = n; price = p }) ((i == s) && is_eligible f t day) (list_any (cancels s n) later) (cancels s n x) refl (deals-later day s x later h))
+    rw (list_any-append (cancels s n) later (x ∷ [])) (traded_later s x (deals_in day s later h) (deals_in day s (later ++ x ∷ []) h) (record { moment = t; number = n; price = p }) ((i == s) && eligible f t day) (list_any (cancels s n) later) (cancels s n x) refl (deals-later day s x later h))
 deals-later day s x later (Accepted (in_.Day a b c) ∷ h) = deals-later day s x (in_.Day a b c ∷ later) h
 deals-later day s x later (Accepted (in_.Listing a n k l c) ∷ h) = deals-later day s x (in_.Listing a n k l c ∷ later) h
 deals-later day s x later (Accepted (in_.Cancel a i n) ∷ h) = deals-later day s x (in_.Cancel a i n ∷ later) h
@@ -59,8 +59,8 @@ trade_last false ds d = sym (append_none ds)
 -- a record at the end of some events: what it leaves of their deals, and its own
 pub deals-taken : (day : Day) (s : ℕ) (x : Record) (c : List Event) → deals_in day s [] (Accepted x ∷ c) ≡ filter (leaves s x) (deals_in day s [] c) ++ deals_in day s [] (Accepted x ∷ [])
 deals-taken day s (in_.Trade t i n p q f) c =
-    trade_last ((i == s) && is_eligible f t day && true) (deals_in day s [] c) (record { moment = t; number = n; price = p })
-    ∙ ap (λ (xs : List Deal). xs ++ (if (i == s) && is_eligible f t day && true then record { moment = t; number = n; price = p } ∷ [] else [])) (sym (filter_all (leaves s (in_.Trade t i n p q f)) (λ d. refl) (deals_in day s [] c)))
+    trade_last ((i == s) && eligible f t day && true) (deals_in day s [] c) (record { moment = t; number = n; price = p })
+    ∙ ap (λ (xs : List Deal). xs ++ (if (i == s) && eligible f t day && true then record { moment = t; number = n; price = p } ∷ [] else [])) (sym (filter_all (leaves s (in_.Trade t i n p q f)) (λ d. refl) (deals_in day s [] c)))
 deals-taken day s (in_.Day a b e) c = deals-later day s (in_.Day a b e) [] c ∙ sym (append_none (filter (leaves s (in_.Day a b e)) (deals_in day s [] c)))
 deals-taken day s (in_.Listing a n k l e) c = deals-later day s (in_.Listing a n k l e) [] c ∙ sym (append_none (filter (leaves s (in_.Listing a n k l e)) (deals_in day s [] c)))
 deals-taken day s (in_.Cancel a i n) c = deals-later day s (in_.Cancel a i n) [] c ∙ sym (append_none (filter (leaves s (in_.Cancel a i n)) (deals_in day s [] c)))

@@ -9,7 +9,7 @@ use Rattle.rulebook.specs.declared.symbol.Banded.{Banded}
 use Rattle.rulebook.specs.declared.event.Event.{Event}
 use Rattle.rulebook.specs.declared.event.Event.TheVariants.{Accepted, Published}
 use Rattle.rulebook.specs.History.{Found, now, newest, step_record, today, last}
-use Rattle.session_core.specs.Moments.{seconds}
+use Rattle.session_core.specs.Durations.{five_minutes}
 use Rattle.rulebook.specs.Symbol.{begins_run, band_of, counted_in, is_first_band, opens_before, deals_in, deals_of}
 use Rattle.window_core.specs.declared.window.Deal.{Deal}
 use Rattle.symbol_core.specs.Window.{SameLive}
@@ -18,7 +18,7 @@ use Rattle.symbol_core.proofs.Histories.{of_begun, record_alone}
 
 -- the deals of a run that began at t
 abbrev pub deals_from : Day → ℕ → ℕ → List Event → List Deal
-deals_from day s t r = deals_in day s [] (counted_in day s (t + seconds 300) r)
+deals_from day s t r = deals_in day s [] (counted_in day s (t + five_minutes) r)
 
 -- after a message that is no band
 pub deals_said : (day : Day) (s : ℕ) (x : Record) (m : Message) (h : List Event) (begins : Bool) → begins_run s m (today h) ≡ begins → newest h ≡ Some x

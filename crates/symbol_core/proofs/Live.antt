@@ -4,11 +4,11 @@ use Rattle.std.specs.Prelude.{cond, if◌then◌else◌, ◌==◌, ◌&&◌, opt
 use Rattle.std.proofs.lemmas.List.Elements.{filter-append}
 use Rattle.std.proofs.lemmas.Bool.{lt-ltb}
 use Rattle.session_core.specs.declared.day.Day.{Day}
-use Rattle.session_core.specs.Moments.{seconds}
+use Rattle.session_core.specs.Durations.{five_minutes}
 use Rattle.wire_in.specs.declared.record.Record.{Record}
 use Rattle.wire_in.specs.declared.record.Record.TheVariants as in_
 use Rattle.wire_in.specs.Records.{moment_of}
-use Rattle.eligible_core.specs.Conditions.{is_eligible}
+use Rattle.eligible_core.specs.Conditions.{eligible}
 use Rattle.window_core.specs.declared.window.Deal.{Deal}
 use Rattle.window_core.specs.Deals.{is_live, live}
 use Rattle.window_core.proofs.Deals.{live-live}
@@ -50,10 +50,10 @@ live-counted t false own e = refl
 -- a trade is live at its own moment
 own_live : (t n p : ℕ) (counts : Bool) → live t (option_to_list (if counts then Some (record { moment = t; number = n; price = p }) else None)) ≡ option_to_list (if counts then Some (record { moment = t; number = n; price = p }) else None)
 own_live t n p false = refl
-own_live t n p true = ap (λ (b : Bool). cond b (record { moment = t; number = n; price = p } ∷ []) []) (lt-ltb t (t + seconds 300) (omega arith))
+own_live t n p true = ap (λ (b : Bool). cond b (record { moment = t; number = n; price = p } ∷ []) []) (lt-ltb t (t + five_minutes) (omega arith))
 
 pub live-own : (day : Day) (s : ℕ) (x : Record) → live (moment_of x) (option_to_list (deal_of day s x)) ≡ option_to_list (deal_of day s x)
-live-own day s (in_.Trade t i n p q f) = own_live t n p ((i == s) && is_eligible f t day)
+live-own day s (in_.Trade t i n p q f) = own_live t n p ((i == s) && eligible f t day)
 live-own day s (in_.Day t d c) = refl
 live-own day s (in_.Listing t name k l c) = refl
 live-own day s (in_.Cancel t i n) = refl

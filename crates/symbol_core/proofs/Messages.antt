@@ -17,7 +17,7 @@ use Rattle.symbol_core.specs.declared.kept.Step.{Step}
 use Rattle.symbol_core.specs.Kept.{straddled, with_round, released, banded, restarts}
 use Rattle.session_core.specs.declared.day.Day.{Day}
 use Rattle.wire_in.specs.declared.record.Record.{Record}
-use Rattle.session_core.specs.Moments.{seconds}
+use Rattle.session_core.specs.Durations.{five_minutes}
 use Rattle.symbol_core.specs.Window.{SameLive, counted_deal}
 use Rattle.symbol_core.specs.Stands.{Stands}
 use Rattle.symbol_core.proofs.Deals.{deals_from, deals_said, deals_banded, window_begins}
@@ -249,10 +249,10 @@ stands-banded mine k deals step b h s =
 
     deals_is : deals_of step.day (Published m ∷ h) k.id ≡ (if is_some k.begun && restarts k step then deals_in step.day k.id [] (Accepted step.input ∷ []) else deals_of step.day h k.id)
     deals_is =
-        deals_banded step.day k.id (of.begun h k.id + seconds 300) step.input m b (of.run_in k.id (today h)) own input_is
-        ∙ ap (λ (v : Bool). if v && (not (is_some (of.last_band h k.id)) && of.opens_before step.day k.id (of.begun h k.id + seconds 300) step.input) then deals_in step.day k.id [] (Accepted step.input ∷ []) else deals_of step.day h k.id) (sym has_run)
-        ∙ ap (λ (o : Option Banded). if is_some k.begun && (not (is_some o) && of.opens_before step.day k.id (of.begun h k.id + seconds 300) step.input) then deals_in step.day k.id [] (Accepted step.input ∷ []) else deals_of step.day h k.id) (sym s.band)
-        ∙ ap (λ (o : Option ℕ). if is_some k.begun && (not (is_some k.band) && of.opens_before step.day k.id (unwrap_or o 0 + seconds 300) step.input) then deals_in step.day k.id [] (Accepted step.input ∷ []) else deals_of step.day h k.id) (sym s.begun)
+        deals_banded step.day k.id (of.begun h k.id + five_minutes) step.input m b (of.run_in k.id (today h)) own input_is
+        ∙ ap (λ (v : Bool). if v && (not (is_some (of.last_band h k.id)) && of.opens_before step.day k.id (of.begun h k.id + five_minutes) step.input) then deals_in step.day k.id [] (Accepted step.input ∷ []) else deals_of step.day h k.id) (sym has_run)
+        ∙ ap (λ (o : Option Banded). if is_some k.begun && (not (is_some o) && of.opens_before step.day k.id (of.begun h k.id + five_minutes) step.input) then deals_in step.day k.id [] (Accepted step.input ∷ []) else deals_of step.day h k.id) (sym s.band)
+        ∙ ap (λ (o : Option ℕ). if is_some k.begun && (not (is_some k.band) && of.opens_before step.day k.id (unwrap_or o 0 + five_minutes) step.input) then deals_in step.day k.id [] (Accepted step.input ∷ []) else deals_of step.day h k.id) (sym s.begun)
 
     own_is : (o : Option ℕ) (r : Bool) → (if is_some o && r then option_to_list k.deal else (if is_some o then option_to_list k.deal else [])) ≡ (if is_some o then option_to_list k.deal else [])
     own_is None r = refl

@@ -8,7 +8,7 @@ use Rattle.wire_in.specs.declared.record.NoticeKind.TheVariants as notice
 use Rattle.wire_in.specs.declared.record.Record.{Record}
 use Rattle.wire_in.specs.declared.record.Record.TheVariants as in_
 use Rattle.wire_in.specs.Records.{is_day, name_of, symbol_of}
-use Rattle.eligible_core.specs.Conditions.{is_eligible}
+use Rattle.eligible_core.specs.Conditions.{eligible}
 use Rattle.window_core.specs.declared.window.Deal.{Deal}
 use Rattle.reopen_core.specs.declared.auction.Indication.{Indication}
 use Rattle.rulebook.specs.declared.event.Event.{Event}
@@ -16,7 +16,7 @@ use Rattle.rulebook.specs.declared.event.Event.TheVariants.{Accepted}
 use Rattle.rulebook.specs.Auction.{indicated_by}
 use Rattle.rulebook.specs.Rules.{triggered_in, triggers}
 use Rattle.short_core.specs.Restriction as restriction
-use Rattle.rulebook.specs.Symbol.{close_of, deals_in, terms_in, traded_price}
+use Rattle.rulebook.specs.Symbol.{prior_close_of, deals_in, terms_in, traded_price}
 use Rattle.symbol_core.specs.Kept.{quoted_by}
 use Rattle.symbol_core.specs.Taken.{cancelled_by, deal_of, halted_by}
 use Rattle.symbol_core.proofs.Cancels.{append_none, deals-taken, leaves-all}
@@ -28,7 +28,7 @@ names_other s x = option_map_or (λ id. id == s) (symbol_of x) false ≡ false
 
 pub terms-others : (mine : List ℕ → Bool) (x : Record) (r : List Record) → is_day x ≡ false → option_map_or mine (name_of x) false ≡ false → terms_in mine (x ∷ r) ≡ terms_in mine r
 terms-others mine (in_.Day t d c) r e o = cc
-terms-others mine (in_.Listing t n k l c) r e o = ap (λ (b : Bool). if b then Some (record { tier = k; leverage = l; close = c }) else terms_in mine r) o
+terms-others mine (in_.Listing t n k l c) r e o = ap (λ (b : Bool). if b then Some (record { tier = k; leverage = l; prior_close = c }) else terms_in mine r) o
 terms-others mine (in_.Trade t i n p q f) r e o = refl
 terms-others mine (in_.Cancel t i n) r e o = refl
 terms-others mine (in_.Quote t i b p x y) r e o = refl
@@ -87,7 +87,7 @@ cancelled-others s (in_.Indication t i p u) o = refl
 deal-others : (day : Day) (s : ℕ) (x : Record) → names_other s x → deal_of day s x ≡ None
 deal-others day s (in_.Day t d c) o = refl
 deal-others day s (in_.Listing t n k l c) o = refl
-deal-others day s (in_.Trade t i n p q f) o = let all : Option Deal = Some (record { moment = t; number = n; price = p }) in ap (λ (v : Bool). if v && is_eligible f t day then all else None) o
+deal-others day s (in_.Trade t i n p q f) o = let all : Option Deal = Some (record { moment = t; number = n; price = p }) in ap (λ (v : Bool). if v && eligible f t day then all else None) o
 deal-others day s (in_.Cancel t i n) o = refl
 deal-others day s (in_.Quote t i b p x y) o = refl
 deal-others day s (in_.IndexTick t v) o = refl
@@ -98,7 +98,7 @@ deal-others day s (in_.Indication t i p u) o = refl
 traded-others : (day : Day) (s : ℕ) (x : Record) → names_other s x → traded_price day s x ≡ None
 traded-others day s (in_.Day t d c) o = refl
 traded-others day s (in_.Listing t n k l c) o = refl
-traded-others day s (in_.Trade t i n p q f) o = let all : Option ℕ = Some p in ap (λ (v : Bool). if v && is_eligible f t day then all else None) o
+traded-others day s (in_.Trade t i n p q f) o = let all : Option ℕ = Some p in ap (λ (v : Bool). if v && eligible f t day then all else None) o
 traded-others day s (in_.Cancel t i n) o = refl
 traded-others day s (in_.Quote t i b p x y) o = refl
 traded-others day s (in_.IndexTick t v) o = refl
@@ -109,7 +109,7 @@ traded-others day s (in_.Indication t i p u) o = refl
 pub triggered-others : (mine : List ℕ → Bool) (day : Day) (s : ℕ) (x : Record) (r : List Record) → is_day x ≡ false → names_other s x → triggered_in mine day s (x ∷ r) ≡ triggered_in mine day s r
 triggered-others mine day s x r e o =
     ap (λ (b : Bool). if b then false else triggers day s x (terms_in mine r) || triggered_in mine day s r) e
-    ∙ ap (λ (p : Option ℕ). option_map_or (restriction.triggers (close_of (terms_in mine r))) p false || triggered_in mine day s r) (traded-others day s x o)
+    ∙ ap (λ (p : Option ℕ). option_map_or (restriction.triggers (prior_close_of (terms_in mine r))) p false || triggered_in mine day s r) (traded-others day s x o)
 
 pub deals-others : (day : Day) (s : ℕ) (x : Record) (c : List Event) → names_other s x → deals_in day s [] (Accepted x ∷ c) ≡ deals_in day s [] c
 deals-others day s x c o =

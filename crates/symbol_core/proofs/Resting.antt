@@ -7,7 +7,7 @@ use Rattle.price_core.specs.declared.quote.Quotation.{Quotation}
 use Rattle.session_core.specs.declared.day.Day.{Day}
 use Rattle.session_core.specs.declared.state.Phase.{Phase}
 use Rattle.session_core.specs.declared.state.Phase.TheVariants.{Shut}
-use Rattle.session_core.specs.Moments.{seconds}
+use Rattle.session_core.specs.Durations.{five_minutes}
 use Rattle.wire_in.specs.declared.record.Record.{Record}
 use Rattle.wire_in.specs.declared.record.Record.TheVariants as in_
 use Rattle.wire_in.specs.Records.{is_day, moment_of}
@@ -25,7 +25,7 @@ use Rattle.rulebook.specs.Market.{day_record}
 use Rattle.rulebook.specs.Rules as rules
 use Rattle.rulebook.specs.Rules.{or_else}
 use Rattle.rulebook.specs.Symbol as of
-use Rattle.rulebook.specs.Symbol.{begins_run, counted_in, deals_in, deals_of, is_under_halt_in, is_times, phase_in, quote_in}
+use Rattle.rulebook.specs.Symbol.{begins_run, counted_in, deals_in, deals_of, is_under_regulatory_halt_in, is_times, phase_in, quote_in}
 use Rattle.symbol_core.specs.Rests.{Held, Rests, deals_today}
 use Rattle.symbol_core.specs.Silent.{AllSilent, IsOfOthers, IsSilent, SaysNothing}
 use Rattle.symbol_core.specs.Taken.{renewed}
@@ -74,7 +74,7 @@ rests-message mine held m h q r =
     none_adopts = ap (λ (o : Option Banded). option_and_then (λ b. if is_times b.cause then None else Some b) o) q.band
 
     counts : (day : Day) (t : ℕ) (e : List Event) → deals_from day s t (Published m ∷ e) ≡ deals_from day s t e
-    counts day t e = ap (λ (o : Option Banded). deals_in day s [] (if (is_some o && not (is_some (last (of.band_of s) e))) && option_map_or (of.opens_before day s (t + seconds 300)) (newest e) false then Published m ∷ step_record e else Published m ∷ counted_in day s (t + seconds 300) e)) q.band
+    counts day t e = ap (λ (o : Option Banded). deals_in day s [] (if (is_some o && not (is_some (last (of.band_of s) e))) && option_map_or (of.opens_before day s (t + five_minutes)) (newest e) false then Published m ∷ step_record e else Published m ∷ counted_in day s (t + five_minutes) e)) q.band
 
     deals_stay : (o : Option (Day × ℕ)) → option_map_or (λ day. deals_of day.0 (Published m ∷ h) s) o [] ≡ option_map_or (λ day. deals_of day.0 h s) o []
     deals_stay None = refl
@@ -98,7 +98,7 @@ rests-record mine held x h not_day o same r =
       band = along (λ t. held.kept.band ≡ option_map (λ b. b.value) (last (of.band_of s) (unwrap_or (of.run_in s t) []))) (r.band ∙ sym (run_taken (λ e. option_map (λ b. b.value) (last (of.band_of s) e)) x (of.run_in s (today h)) (λ e. refl)));
       adopted = along (λ t. held.kept.adopted ≡ option_map_or (λ b. b.moment) (last (of.adoption_of s) (unwrap_or (of.run_in s t) [])) 0) (r.adopted ∙ sym (run_taken (λ e. option_map_or (λ b. b.moment) (last (of.adoption_of s) e) 0) x (of.run_in s (today h)) (λ e. refl)));
       straddling = along (λ t. held.kept.straddling ≡ option_map_or (λ straddle. straddle.value) (last (of.straddle_of s) t) false) r.straddling;
-      halted = along (λ t. held.kept.halted ≡ is_under_halt_in s (records t)) (r.halted ∙ sym (halted-taken s x (records (today h)) ∙ halted-others s x (is_under_halt_in s (records (today h))) o.symbol));
+      halted = along (λ t. held.kept.halted ≡ is_under_regulatory_halt_in s (records t)) (r.halted ∙ sym (halted-taken s x (records (today h)) ∙ halted-others s x (is_under_regulatory_halt_in s (records (today h))) o.symbol));
       round = along (λ t. held.kept.round ≡ option_map auction.round_of (last (auction.collar_of s) t)) r.round;
       origin = along (λ t. held.kept.origin ≡ auction.origin_in s t) r.origin;
       indication = along (λ t. held.kept.indication ≡ auction.indication_in s t) (r.indication ∙ sym (ap (λ (i : Option Indication). elim i [ Some i ↦ Some i | None ↦ auction.indication_in s (today h) ]) (indicated-others s x o.symbol)));
@@ -127,8 +127,8 @@ rests-record mine held x h not_day o same r =
 
     deals_at : (day : Day) → deals_of day (Accepted x ∷ h) s ≡ deals_of day h s
     deals_at day =
-        ap (λ (t : List Event). deals_in day s [] (counted_in day s (unwrap_or (of.begun_in s t) 0 + seconds 300) (unwrap_or (of.run_in s t) []))) today_is
-        ∙ run_taken (λ e. deals_in day s [] (counted_in day s (of.begun h s + seconds 300) e)) x (of.run_in s (today h)) (λ e. deals-others day s x (counted_in day s (of.begun h s + seconds 300) e) o.symbol)
+        ap (λ (t : List Event). deals_in day s [] (counted_in day s (unwrap_or (of.begun_in s t) 0 + five_minutes) (unwrap_or (of.run_in s t) []))) today_is
+        ∙ run_taken (λ e. deals_in day s [] (counted_in day s (of.begun h s + five_minutes) e)) x (of.run_in s (today h)) (λ e. deals-others day s x (counted_in day s (of.begun h s + five_minutes) e) o.symbol)
 
     deals_stay : (d : Option (Day × ℕ)) → option_map_or (λ day. deals_of day.0 (Accepted x ∷ h) s) d [] ≡ option_map_or (λ day. deals_of day.0 h s) d []
     deals_stay None = refl
@@ -202,7 +202,7 @@ rests-empty mine s =
 none_counts : (s : ℕ) (day : Day) (h : List Event) → None ≡ of.begun_in s (today h) → deals_of day h s ≡ []
 none_counts s day h e = by (of.run_in s (today h)) (ap (λ (o : Option ℕ). is_some o) e ∙ begun-run s (today h))
   where
-    by : (o : Option (List Event)) → false ≡ is_some o → deals_in day s [] (counted_in day s (of.begun h s + seconds 300) (unwrap_or o [])) ≡ []
+    by : (o : Option (List Event)) → false ≡ is_some o → deals_in day s [] (counted_in day s (of.begun h s + five_minutes) (unwrap_or o [])) ≡ []
     by None f = refl
     by (Some e) f = cc
 

@@ -12,11 +12,11 @@ use Rattle.rulebook.specs.declared.event.Event.{Event}
 use Rattle.rulebook.specs.declared.event.Event.TheVariants.{Accepted}
 use Rattle.rulebook.specs.History.{now, today, records, last}
 use Rattle.rulebook.specs.Market.{is_market_halted, day_record}
-use Rattle.session_core.specs.Moments.{seconds}
+use Rattle.session_core.specs.Durations.{five_minutes}
 use Rattle.wire_in.specs.Records.{is_day, moment_of, name_of}
 use Rattle.rulebook.specs.Rules.{or_else}
-use Rattle.rulebook.specs.Symbol.{cancels, counted_in, is_under_halt_in, quote_in, terms_in, deals_in, deals_of}
-use Rattle.eligible_core.specs.Conditions.{is_eligible}
+use Rattle.rulebook.specs.Symbol.{cancels, counted_in, is_under_regulatory_halt_in, quote_in, terms_in, deals_in, deals_of}
+use Rattle.eligible_core.specs.Conditions.{eligible}
 use Rattle.window_core.specs.declared.window.Deal.{Deal}
 use Rattle.symbol_core.specs.declared.kept.Kept.{Kept}
 use Rattle.symbol_core.specs.declared.kept.Step.{Step}
@@ -37,7 +37,7 @@ use Rattle.symbol_core.proofs.Cancels.{append_none, deals-taken}
 
 pub terms-taken : (mine : List ℕ → Bool) (x : Record) (r : List Record) → is_day x ≡ false → option_map_or mine (name_of x) true ≡ true → listed_by x (terms_in mine r) ≡ terms_in mine (x ∷ r)
 terms-taken mine (in_.Day t d c) r e own = cc
-terms-taken mine (in_.Listing t n k l c) r e own = ap (λ (b : Bool). if b then Some (record { tier = k; leverage = l; close = c }) else terms_in mine r) (sym own)
+terms-taken mine (in_.Listing t n k l c) r e own = ap (λ (b : Bool). if b then Some (record { tier = k; leverage = l; prior_close = c }) else terms_in mine r) (sym own)
 terms-taken mine (in_.Trade t i n p q f) r e own = refl
 terms-taken mine (in_.Cancel t i n) r e own = refl
 terms-taken mine (in_.Quote t i b o x y) r e own = refl
@@ -57,7 +57,7 @@ quote-taken s (in_.Clock t) r = refl
 quote-taken s (in_.Notice t i k) r = refl
 quote-taken s (in_.Indication t i p u) r = refl
 
-pub halted-taken : (s : ℕ) (x : Record) (r : List Record) → is_under_halt_in s (x ∷ r) ≡ halted_by s x (is_under_halt_in s r)
+pub halted-taken : (s : ℕ) (x : Record) (r : List Record) → is_under_regulatory_halt_in s (x ∷ r) ≡ halted_by s x (is_under_regulatory_halt_in s r)
 halted-taken s (in_.Day t d c) r = refl
 halted-taken s (in_.Listing t n k l c) r = refl
 halted-taken s (in_.Trade t i n p q f) r = refl
@@ -78,7 +78,7 @@ own_one false d = refl
 pub own-taken : (day : Day) (s : ℕ) (x : Record) → option_to_list (deal_of day s x) ≡ deals_in day s [] (Accepted x ∷ [])
 own-taken day s (in_.Day t d c) = refl
 own-taken day s (in_.Listing t n k l c) = refl
-own-taken day s (in_.Trade t i n p q f) = own_one ((i == s) && is_eligible f t day) (record { moment = t; number = n; price = p })
+own-taken day s (in_.Trade t i n p q f) = own_one ((i == s) && eligible f t day) (record { moment = t; number = n; price = p })
 own-taken day s (in_.Cancel t i n) = refl
 own-taken day s (in_.Quote t i b o x y) = refl
 own-taken day s (in_.IndexTick t v) = refl
@@ -127,7 +127,7 @@ stands-taken mine k kept step index h not_day name day s at stopped later =
       band = along (λ t. k.band ≡ option_map (λ b. b.value) (last (of.band_of k.id) (unwrap_or (of.run_in k.id t) []))) (s.band ∙ sym (run_taken (λ r. option_map (λ b. b.value) (last (of.band_of k.id) r)) x (of.run_in k.id (today h)) (λ r. refl)));
       adopted = along (λ t. k.adopted ≡ option_map_or (λ b. b.moment) (last (of.adoption_of k.id) (unwrap_or (of.run_in k.id t) [])) 0) (s.adopted ∙ sym (run_taken (λ r. option_map_or (λ b. b.moment) (last (of.adoption_of k.id) r) 0) x (of.run_in k.id (today h)) (λ r. refl)));
       straddling = along (λ t. k.straddling ≡ option_map_or (λ straddle. straddle.value) (last (of.straddle_of k.id) t) false) s.straddling;
-      halted = along (λ t. halted_by k.id x k.halted ≡ is_under_halt_in k.id (records t)) (ap (λ (b : Bool). halted_by k.id x b) s.halted ∙ sym (halted-taken k.id x (records (today h))));
+      halted = along (λ t. halted_by k.id x k.halted ≡ is_under_regulatory_halt_in k.id (records t)) (ap (λ (b : Bool). halted_by k.id x b) s.halted ∙ sym (halted-taken k.id x (records (today h))));
       round = along (λ t. k.round ≡ option_map auction.round_of (last (auction.collar_of k.id) t)) s.round;
       origin = along (λ t. k.origin ≡ auction.origin_in k.id t) s.origin;
       indication = along (λ t. or_else (indicated_by k.id x) k.indication ≡ auction.indication_in k.id t) (indicated (indicated_by k.id x) s.indication);
@@ -136,8 +136,8 @@ stands-taken mine k kept step index h not_day name day s at stopped later =
       left_limit = refl;
       released = refl;
       deal = own-taken step.day k.id x;
-      window = along (λ t. SameLive (moment_of x) (filter (leaves k.id x) kept ++ (if is_some k.begun then option_to_list (deal_of step.day k.id x) else [])) (deals_in step.day k.id [] (counted_in step.day k.id (unwrap_or (of.begun_in k.id t) 0 + seconds 300) (unwrap_or (of.run_in k.id t) []))))
-          (rw has_run (window_taken step.day k.id x (now h) (moment_of x) (of.begun h k.id + seconds 300) kept (option_to_list (deal_of step.day k.id x)) (of.run_in k.id (today h)) (rw at at later) (own-taken step.day k.id x) kept_live));
+      window = along (λ t. SameLive (moment_of x) (filter (leaves k.id x) kept ++ (if is_some k.begun then option_to_list (deal_of step.day k.id x) else [])) (deals_in step.day k.id [] (counted_in step.day k.id (unwrap_or (of.begun_in k.id t) 0 + five_minutes) (unwrap_or (of.run_in k.id t) []))))
+          (rw has_run (window_taken step.day k.id x (now h) (moment_of x) (of.begun h k.id + five_minutes) kept (option_to_list (deal_of step.day k.id x)) (of.run_in k.id (today h)) (rw at at later) (own-taken step.day k.id x) kept_live));
     }
   where
     x : Record

@@ -21,7 +21,7 @@ use Rattle.rulebook.specs.Market.{day_record}
 use Rattle.rulebook.specs.Rules as rules
 use Rattle.rulebook.specs.Rules.{Context, at_band}
 use Rattle.rulebook.proofs.Histories.{own_part, publish-append}
-use Rattle.rulebook.proofs.Speakers.{AllBy, AllSpeak, all_obeyed-by, own_part-by, rules_speak, speaker}
+use Rattle.rulebook.proofs.OfSymbol.{AllBy, AllSpeak, all_obeyed-by, own_part-by, rules_speak, speaker}
 use Rattle.symbol_core.specs.declared.kept.Kept.{Kept}
 use Rattle.symbol_core.specs.declared.kept.Step.{Step}
 use Rattle.symbol_core.specs.declared.symbol.MarketView.{MarketView}
@@ -142,13 +142,13 @@ entering k step =
 
 all_agree : AllAgree symbol_rules
 all_agree = (
-  λ mine other k step deals h g s t. turned-gives turns.close k step mine deals h s ∙ sym (turned-gives turns.close k step other deals g t),
+  λ mine other k step deals h g s t. turned-gives turns.session_close k step mine deals h s ∙ sym (turned-gives turns.session_close k step other deals g t),
   (
-    λ mine other k step deals h g s t. turned-gives turns.stop k step mine deals h s ∙ sym (turned-gives turns.stop k step other deals g t),
+    λ mine other k step deals h g s t. turned-gives turns.market_halt k step mine deals h s ∙ sym (turned-gives turns.market_halt k step other deals g t),
     (
       λ mine other k step deals h g s t. turned-gives turns.start k step mine deals h s ∙ sym (turned-gives turns.start k step other deals g t),
       (
-        λ mine other k step deals h g s t. turned-gives turns.halt k step mine deals h s ∙ sym (turned-gives turns.halt k step other deals g t),
+        λ mine other k step deals h g s t. turned-gives turns.regulatory_halt k step mine deals h s ∙ sym (turned-gives turns.regulatory_halt k step other deals g t),
         (
           λ mine other k step deals h g s t. pause-gives k step mine deals h s ∙ sym (pause-gives k step other deals g t),
           (

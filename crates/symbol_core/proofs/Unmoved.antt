@@ -3,7 +3,7 @@ use Rattle.std.proofs.Common.{arith, ◌≡◌, ℕ, ◌<◌, ◌≤◌, Bool, t
 use Rattle.std.specs.Prelude.{Option, Some, None, if◌then◌else◌, ◌&&◌, ◌||◌, not, filter, is_some, option_and_then, option_to_list, unwrap_or}
 use Rattle.std.specs.Option.{option_map_or}
 use Rattle.std.proofs.lemmas.List.{append-nil}
-use Rattle.price_core.specs.Moves.{has_moved_one_percent}
+use Rattle.price_core.specs.Moves.{moved_one_percent}
 use Rattle.price_core.specs.declared.quote.Cause.TheVariants.{First, Moved, Times}
 use Rattle.refprice_core.specs.Prices.{because, forced, has_stood, is_in_opening_period}
 use Rattle.session_core.specs.declared.day.Day.{Day}
@@ -17,11 +17,11 @@ use Rattle.wire_out.specs.declared.message.Message.{Message}
 use Rattle.wire_out.specs.declared.message.Message.TheVariants as out
 use Rattle.wire_out.specs.declared.message.ShortKind.TheVariants.{Triggered}
 use Rattle.limit_core.specs.Timers.{has_lasted}
-use Rattle.pause_core.specs.Phases.{can_start, can_stop, is_done, is_in_halt, is_limit, is_trading}
-use Rattle.pause_core.specs.Turns.{phase_after_halt}
+use Rattle.pause_core.specs.Phases.{can_start, can_market_halt, is_done, is_in_regulatory_halt, is_limit, is_trading}
+use Rattle.pause_core.specs.Turns.{phase_after_regulatory_halt}
 use Rattle.pause_core.specs.Turns as turns
-use Rattle.percent_core.specs.Percentages.{category_of, percent_of, span_at}
-use Rattle.percent_core.specs.PriceBands.{bands_at}
+use Rattle.percent_core.specs.Percentages as percentages
+use Rattle.percent_core.specs.PriceBands.{bands}
 use Rattle.price_core.specs.declared.quote.Bands.{Bands}
 use Rattle.refprice_core.specs.declared.reference.Priced.{Priced}
 use Rattle.window_core.specs.declared.window.Deal.{Deal}
@@ -170,7 +170,7 @@ evaluated-closed market x held before tick done = evaluated-none market x held b
 record Waits (p : Phase) : Type 0 where
   pub limit : is_limit p ≡ false
   pub paused : is_paused p ≡ false
-  pub in_halt : is_in_halt p ≡ false
+  pub in_halt : is_in_regulatory_halt p ≡ false
 
 waiting : (p : Phase) → waits p ≡ true → Waits p
 waiting Phase.Shut e = record { limit = refl; paused = refl; in_halt = refl }
@@ -193,14 +193,14 @@ same_straddle k true = refl
 same_straddle k false = refl
 
 -- time brings no bands where the part of the session stays
-times_stay : (k : Kept) (a b : Step) → a.day ≡ b.day → span_at a.moment a.day ≡ span_at b.moment b.day → option_map_or (time_changes k a) k.band false ≡ option_map_or (time_changes k b) k.band false
+times_stay : (k : Kept) (a b : Step) → a.day ≡ b.day → percentages.span a.moment a.day ≡ percentages.span b.moment b.day → option_map_or (time_changes k a) k.band false ≡ option_map_or (time_changes k b) k.band false
 times_stay k a b day span = by k.band where
   one : (last : Banded) (o : Option Terms)
       → option_map_or (λ listed. rules.differs (of.bands_of listed a.day a.moment last.reference) last.bands) o false ≡ option_map_or (λ listed. rules.differs (of.bands_of listed b.day b.moment last.reference) last.bands) o false
   one last None = refl
   one last (Some listed) =
-      let category = category_of listed.close in
-      λ i. rules.differs (bands_at last.reference category (percent_of (day i).profile listed.tier category (span i)) listed.leverage) last.bands
+      let category = percentages.category listed.prior_close in
+      λ i. rules.differs (bands last.reference category (percentages.percent (day i).profile listed.tier category (span i)) listed.leverage) last.bands
 
   by : (o : Option Banded) → option_map_or (time_changes k a) o false ≡ option_map_or (time_changes k b) o false
   by None = refl
@@ -215,11 +215,11 @@ window_live k deals t r all_live =
 -- the new reference price at a tick, by whether a mean would be taken
 abbrev by_mean : Bool → Option ℕ → Option Banded → Option Priced
 by_mean awaits mean None = because First (if awaits then mean else None)
-by_mean awaits mean (Some b) = because Moved (option_and_then (λ m. if has_moved_one_percent m b.reference && awaits then Some m else None) mean)
+by_mean awaits mean (Some b) = because Moved (option_and_then (λ m. if moved_one_percent m b.reference && awaits then Some m else None) mean)
 
 offers_none : (k : Kept) (step : Step) → is_tick step.input ≡ true → offered k step ≡ None
 offers_none k step tick = by step.input tick where
-  by : (x : Record) → is_tick x ≡ true → or_else (of.opening_price step.day k.id x) (if rules.opens_on_quotes k.id x then of.close_of k.terms else None) ≡ None
+  by : (x : Record) → is_tick x ≡ true → or_else (of.opening_price step.day k.id x) (if rules.opens_on_quotes k.id x then of.prior_close_of k.terms else None) ≡ None
   by (in_.Clock t) e = refl
   by (in_.IndexTick t v) e = refl
   by (in_.Day t d c) e = absurd cc
@@ -252,16 +252,16 @@ reference_stays k a b mean r one two same none =
 quiet_rules : (k : Kept) (deals : List Deal) (q : Quiet) (step : Step) → Quiets k deals q → is_tick step.input ≡ true → q.from ≤ step.moment → step.moment < q.until → step.day ≡ q.market.day → step.stopped ≡ q.market.stopped
     → live step.moment deals ≡ deals → (mine : List ℕ → Bool) (h : List Event) → Stands mine k deals step h → NoneSaid step.day (named mine k.id) step.input h symbol_rules
 quiet_rules k deals q step quiets tick from until day stopped all_live mine h s = (
-  said rules.close (turned-gives turns.close k step mine deals h s ∙ ap (λ (b : Bool). option_map_or (becoming k) (if b then Some Phase.Closed else None) []) (ap (λ (d : Day). is_closed t d) day ∙ lasts.closed t until)),
+  said rules.session_close (turned-gives turns.session_close k step mine deals h s ∙ ap (λ (b : Bool). option_map_or (becoming k) (if b then Some Phase.Closed else None) []) (ap (λ (d : Day). is_closed t d) day ∙ lasts.closed t until)),
   (
-    said rules.stop (turned-gives turns.stop k step mine deals h s ∙ ap (λ (b : Bool). option_map_or (becoming k) (if b && can_stop k.phase then Some Phase.Stopped else None) []) (stopped ∙ running)),
+    said rules.market_halt (turned-gives turns.market_halt k step mine deals h s ∙ ap (λ (b : Bool). option_map_or (becoming k) (if b && can_market_halt k.phase then Some Phase.Stopped else None) []) (stopped ∙ running)),
     (
       said rules.start (turned-gives turns.start k step mine deals h s
           ∙ ap (λ (b : Bool). option_map_or (becoming k) (if b then Some Phase.Trading else None) [])
           (start_none (can_start k.phase) (in_session t step.day) (not step.stopped) (ap (λ (d : Day). can_start k.phase && in_session t d) day ∙ lasts.starts t until))),
       (
-        said rules.halt (turned-gives turns.halt k step mine deals h s
-            ∙ (λ i. option_map_or (becoming k) (if settled.halted i then (if is_in_halt k.phase then None else Some Phase.Halted) else if waiting_now.in_halt i then Some (phase_after_halt (brakes k step)) else None) [])),
+        said rules.regulatory_halt (turned-gives turns.regulatory_halt k step mine deals h s
+            ∙ (λ i. option_map_or (becoming k) (if settled.halted i then (if is_in_regulatory_halt k.phase then None else Some Phase.Halted) else if waiting_now.in_halt i then Some (phase_after_regulatory_halt (brakes k step)) else None) [])),
         (
           said rules.pause (pause-gives k step mine deals h s
               ∙ (λ i. option_map_or (pausing_as k) (if (waiting_now.limit i && has_lasted k.since t) || (of_none.asks i && is_trading k.phase && k.straddling) then (if in_last_10_minutes t step.day then Some Phase.Closing else Some Phase.Paused) else None) [])),
@@ -335,7 +335,7 @@ quiet_rules k deals q step quiets tick from until day stopped all_live mine h s 
   by_time true e (Some last) is =
       let changes : time_changes k step last ≡ false =
       sym (ap (λ (o : Option Banded). option_map_or (time_changes k step) o false) is)
-      ∙ times_stay k step then_step day (ap (λ (d : Day). span_at t d) day ∙ lasts.span t from until e) ∙ settled.times in
+      ∙ times_stay k step then_step day (ap (λ (d : Day). percentages.span t d) day ∙ lasts.span t from until e) ∙ settled.times in
       (λ i. if is_trading k.phase && changes i then band k step Times last.reference else []) ∙ nothing_and (is_trading k.phase) (band k step Times last.reference)
 
 pub evaluated-quiet : (market : MarketView) (x : Record) (held : Held) (q : Quiet) (before : List Message) → Quiets held.kept held.deals q → is_tick x ≡ true → q.from ≤ moment_of x → moment_of x < q.until → market ≡ q.market
@@ -370,7 +370,7 @@ quiets k deals step lasts awaited until tick r s none l same within before =
         low = s.low;
         high = s.high;
         straddles = s.straddles;
-        times = times_stay k now step day (λ i. span_at (moment i) (day i)) ∙ s.times;
+        times = times_stay k now step day (λ i. percentages.span (moment i) (day i)) ∙ s.times;
       };
       lasts = record {
         phase = l.phase;

@@ -4,17 +4,17 @@ use Rattle.std.specs.Option.{option_map_or}
 use Rattle.price_core.specs.declared.quote.Quotation.{Quotation}
 use Rattle.session_core.specs.declared.state.Phase.{Phase}
 use Rattle.session_core.specs.declared.state.Phase.TheVariants.{Closing, Trading}
-use Rattle.session_core.specs.Moments.{seconds}
+use Rattle.session_core.specs.Durations.{five_minutes}
 use Rattle.session_core.specs.Times.{in_session, is_closed, in_last_10_minutes}
 use Rattle.wire_in.specs.declared.record.Record.{Record}
 use Rattle.wire_in.specs.declared.record.Record.TheVariants as in_
 use Rattle.wire_out.specs.declared.message.Message.{Message}
 use Rattle.wire_out.specs.declared.message.Message.TheVariants as out
 use Rattle.wire_out.specs.declared.message.ShortKind.TheVariants.{Carried, Triggered}
-use Rattle.limit_core.specs.Limits.{is_straddling}
+use Rattle.limit_core.specs.Limits.{straddles}
 use Rattle.limit_core.specs.Timers.{has_lasted}
 use Rattle.pause_core.specs.declared.turning.Brakes.{Brakes}
-use Rattle.pause_core.specs.Pauses.{pause_of}
+use Rattle.pause_core.specs.Pauses.{pause}
 use Rattle.pause_core.specs.Phases.{is_limit, is_trading}
 use Rattle.reopen_core.specs.declared.auction.Round.{Round}
 use Rattle.reopen_core.specs.declared.auction.Trial.{Trial}
@@ -60,7 +60,7 @@ released k price = record k { released = Some price }
 
 -- the run's first bands, at an opening trade in its first five minutes, begin the window anew
 abbrev pub restarts : Kept → Step → Bool
-restarts k step = not (is_some k.band) && opens_before step.day k.id (unwrap_or k.begun 0 + seconds 300) step.input
+restarts k step = not (is_some k.band) && opens_before step.day k.id (unwrap_or k.begun 0 + five_minutes) step.input
 
 -- outside a run bands count for nothing
 abbrev pub banded : Kept → Step → Banded → Kept
@@ -97,7 +97,7 @@ pausing_as k p = becoming k p ++ (if is_paused p then first_rounds k.id k.phase 
 
 abbrev pub pause_now : Kept → Step → Option Phase
 pause_now k step =
-    pause_of (has_lasted k.since step.moment) (asks_to_pause k.id step.input) k.straddling k.phase (in_last_10_minutes step.moment step.day)
+    pause (has_lasted k.since step.moment) (asks_to_pause k.id step.input) k.straddling k.phase (in_last_10_minutes step.moment step.day)
 
 abbrev pub pausing : Kept → Step → List Message
 pausing k step = option_map_or (pausing_as k) (pause_now k step) []
@@ -123,11 +123,11 @@ reopening k step = if is_paused k.phase then option_map_or (reopening_after k st
 
 -- a further round is begun five minutes after this one at least
 abbrev pub IsDue : ℕ → Round → Trial → Type 0
-IsDue t round (trial.Extend collars) = round.moment + seconds 300 ≤ t
+IsDue t round (trial.Extend collars) = round.moment + five_minutes ≤ t
 IsDue t round other = Unit {0}
 
 abbrev pub is_straddling_now : Kept → Bool
-is_straddling_now k = is_trading k.phase && meets is_straddling k.quote k.band
+is_straddling_now k = is_trading k.phase && meets straddles k.quote k.band
 
 abbrev pub straddling : Kept → Step → List Message
 straddling k step =

@@ -12,12 +12,12 @@ use Rattle.refprice_core.specs.Prices.{because, forced}
 use Rattle.refprice_core.specs.Prices as prices
 use Rattle.rulebook.specs.declared.symbol.Banded.{Banded}
 use Rattle.rulebook.specs.Rules.{or_else, opens_on_quotes, differs}
-use Rattle.rulebook.specs.Symbol.{bands_of, close_of, opening_price}
+use Rattle.rulebook.specs.Symbol.{bands_of, prior_close_of, opening_price}
 use Rattle.symbol_core.specs.declared.kept.Kept.{Kept}
 use Rattle.symbol_core.specs.declared.kept.Step.{Step}
 
 abbrev pub offered : Kept → Step → Option ℕ
-offered k step = or_else (opening_price step.day k.id step.input) (if opens_on_quotes k.id step.input then close_of k.terms else None)
+offered k step = or_else (opening_price step.day k.id step.input) (if opens_on_quotes k.id step.input then prior_close_of k.terms else None)
 
 abbrev pub first_price : Kept → Step → Option ℕ → Option ℕ
 first_price k step mean = or_else k.released (prices.first_price (unwrap_or k.begun 0) step.moment (offered k step) mean)

@@ -7,7 +7,7 @@ use Rattle.session_core.specs.declared.state.Phase.TheVariants.{Shut, Trading, L
 use Rattle.session_core.specs.Times.{in_session, is_closed}
 use Rattle.wire_in.specs.Records.{is_tick}
 use Rattle.pause_core.specs.Phases.{can_start, is_trading}
-use Rattle.percent_core.specs.Percentages.{span_at}
+use Rattle.percent_core.specs.Percentages as percentages
 use Rattle.refprice_core.specs.Prices.{has_stood, is_in_opening_period}
 use Rattle.window_core.specs.declared.window.Deal.{Deal}
 use Rattle.window_core.specs.Deals.{mean_of}
@@ -46,7 +46,7 @@ pub record Lasts (k : Kept) (day : Day) (from until : ℕ) : Type 0 where
   pub phase : waits k.phase ≡ true
   pub closed : (u : ℕ) → u < until → is_closed u day ≡ false
   pub starts : (u : ℕ) → u < until → (can_start k.phase && in_session u day) ≡ false
-  pub span : (u : ℕ) → from ≤ u → u < until → is_trading k.phase ≡ true → span_at u day ≡ span_at from day
+  pub span : (u : ℕ) → from ≤ u → u < until → is_trading k.phase ≡ true → percentages.span u day ≡ percentages.span from day
 
 -- whether a new mean would be taken, 30 seconds after the last reference price and five minutes after the run's begin
 abbrev pub awaits_after : Kept → ℕ → Option Banded → Bool

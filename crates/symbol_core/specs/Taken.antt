@@ -5,7 +5,7 @@ use Rattle.session_core.specs.declared.state.Phase.TheVariants.{Shut}
 use Rattle.wire_in.specs.declared.record.NoticeKind.TheVariants as notice
 use Rattle.wire_in.specs.declared.record.Record.{Record}
 use Rattle.wire_in.specs.declared.record.Record.TheVariants as in_
-use Rattle.eligible_core.specs.Conditions.{is_eligible}
+use Rattle.eligible_core.specs.Conditions.{eligible}
 use Rattle.window_core.specs.declared.window.Deal.{Deal}
 use Rattle.reopen_core.specs.declared.auction.Origin.TheVariants.{Straddle}
 use Rattle.rulebook.specs.declared.symbol.Terms.{Terms}
@@ -18,7 +18,7 @@ use Rattle.symbol_core.specs.Kept.{quoted_by, triggering}
 
 -- today's terms once a record is taken in
 abbrev pub listed_by : Record → Option Terms → Option Terms
-listed_by (in_.Listing t n k l c) before = Some (record { tier = k; leverage = l; close = c })
+listed_by (in_.Listing t n k l c) before = Some (record { tier = k; leverage = l; prior_close = c })
 listed_by x before = before
 
 -- whether a record leaves a deal
@@ -31,7 +31,7 @@ cancelled_by s (in_.Cancel t symbol number) = if symbol == s then Some number el
 cancelled_by s x = None
 
 abbrev pub deal_of : Day → ℕ → Record → Option Deal
-deal_of day s (in_.Trade t symbol n p q f) = if (symbol == s) && is_eligible f t day then Some (record { moment = t; number = n; price = p }) else None
+deal_of day s (in_.Trade t symbol n p q f) = if (symbol == s) && eligible f t day then Some (record { moment = t; number = n; price = p }) else None
 deal_of day s x = None
 
 abbrev pub halted_by : ℕ → Record → Bool → Bool

@@ -4,7 +4,7 @@ ghost use Rattle.std.specs.Option.{option_map_or};
 ghost use Rattle.window_core.specs.Deals.{live, mean_of};
 ghost use Rattle.refprice_core.specs.Prices as prices;
 ghost use Rattle.rulebook.specs.Rules as rules;
-ghost use Rattle.rulebook.specs.Symbol.{bands_of, close_of};
+ghost use Rattle.rulebook.specs.Symbol.{bands_of, prior_close_of};
 ghost use Rattle.symbol_core.specs.Pricing as pricing;
 ghost use Rattle.symbol_core.specs.Stands.{ObeysWith, Says};
 ghost use Rattle.symbol_core.specs.Window.{window};
@@ -25,7 +25,7 @@ use wire_out::Message;
 fn bands_of(terms: &Terms, day: &Day, t: Moment, reference: Price) -> Bands
     ensures { result ≡ bands_of terms.now day.now t reference }
 {
-    let category = category(terms.close);
+    let category = category(terms.prior_close);
     let percent = percent(terms.tier, category, span(t, day), day.profile);
     bands(reference, category, percent, terms.leverage)
 }
@@ -65,10 +65,10 @@ impl Kept {
 
     /// The prior closing price.
     pub fn close_price(&self) -> Option<Price>
-        ensures { result ≡ close_of self.now.terms }
+        ensures { result ≡ prior_close_of self.now.terms }
     {
         match self.terms {
-            Some(listed) => listed.close,
+            Some(listed) => listed.prior_close,
             None => None,
         }
     }

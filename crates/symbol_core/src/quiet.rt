@@ -2,7 +2,7 @@
 ghost use Rattle.std.specs.Prelude.{◌≡◌, ◌<◌, ◌≤◌, ◌&&◌, ℕ, true, false, IfSome, None};
 ghost use Rattle.std.specs.Option.{option_map_or};
 ghost use Rattle.session_core.specs.Times.{is_closed};
-ghost use Rattle.percent_core.specs.Percentages.{span_at};
+ghost use Rattle.percent_core.specs.Percentages.{span};
 ghost use Rattle.window_core.specs.Deals.{mean_of};
 ghost use Rattle.symbol_core.specs.Pricing.{reference, time_changes};
 ghost use Rattle.symbol_core.specs.Quiet.{IsQuiet, IsRested, IsSettled, Lasts, SameAwaited};
@@ -12,7 +12,10 @@ use crate::records::is_tick;
 use crate::symbol::MarketView;
 use crate::turns::at_band;
 use refprice_core::is_in_opening_period;
-use session_core::{Day, Moment, Phase, close_moment};
+use session_core::{
+    Day, END_OF_FIRST_15_MINUTES, FIVE_MINUTES, Moment, Phase, SESSION_OPEN, THIRTY_SECONDS,
+    TWENTY_FIVE_MINUTES, close_moment,
+};
 use window_core::SummedDeals;
 
 /// From when on and until when ticks of one market bring nothing, while no kept deal is five minutes old.
@@ -24,32 +27,17 @@ pub struct Quiet {
     pub market: MarketView,
 }
 
-/// 09:30:00, in nanoseconds of the day.
-const OPEN: u64 = 34_200_000_000_000;
-
-/// 09:45:00, in nanoseconds of the day.
-const AFTER_FIRST_15: u64 = 35_100_000_000_000;
-
-/// 25 minutes, in nanoseconds.
-const LAST_25: u64 = 1_500_000_000_000;
-
-/// In nanoseconds.
-const THIRTY_SECONDS: u64 = 30_000_000_000;
-
-/// In nanoseconds.
-const FIVE_MINUTES: u64 = 300_000_000_000;
-
 /// The close, or before it the next moment at which the percentages change, in nanoseconds of the day.
 fn next_change(t: Moment, day: &Day) -> u64
     ensures closed { (u : ℕ) → u < result → is_closed u day.now ≡ false }
-    ensures span { (u : ℕ) → t ≤ u → u < result → span_at u day.now ≡ span_at t day.now }
+    ensures span { (u : ℕ) → t ≤ u → u < result → span u day.now ≡ span t day.now }
 {
     let close = close_moment(day).nanos();
-    let last_25 = close.saturating_sub(LAST_25);
+    let last_25 = close.saturating_sub(TWENTY_FIVE_MINUTES);
     if last_25 <= t.nanos() {
         close
-    } else if t.nanos() < AFTER_FIRST_15 {
-        AFTER_FIRST_15.min(last_25)
+    } else if t.nanos() < END_OF_FIRST_15_MINUTES {
+        END_OF_FIRST_15_MINUTES.min(last_25)
     } else {
         last_25
     }
@@ -104,7 +92,7 @@ impl Kept {
         ensures { IfSome result (λ until. Lasts self.now step.now.day step.now.moment until) }
     {
         match self.phase {
-            Phase::Shut => Some(OPEN),
+            Phase::Shut => Some(SESSION_OPEN),
             Phase::Trading => Some(next_change(step.moment, &step.day)),
             _ => None,
         }
@@ -118,7 +106,8 @@ impl Kept {
         match self.band {
             Some(last) if self.adoption(&last).has_stood(t) => u64::MAX,
             Some(_) => self.adopted.nanos() + THIRTY_SECONDS,
-            None if is_in_opening_period(self.begun_at(), t) => self.begun_at().nanos() + FIVE_MINUTES,
+            None if is_in_opening_period(self.begun_at(), t) => self.begun_at().nanos()
+                + FIVE_MINUTES,
             None => u64::MAX,
         }
     }

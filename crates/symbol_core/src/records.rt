@@ -1,6 +1,6 @@
 // What a record says of a symbol.
 ghost use Rattle.std.specs.Prelude.{◌≡◌, ◌+◌};
-ghost use Rattle.session_core.specs.Moments.{seconds};
+ghost use Rattle.session_core.specs.Durations.{five_minutes};
 ghost use Rattle.wire_in.specs.Records.{is_day, is_tick};
 ghost use Rattle.rulebook.specs.Auction.{indicated_by};
 ghost use Rattle.rulebook.specs.Rules.{asks_to_pause, opens_on_quotes};
@@ -72,7 +72,7 @@ pub fn listed_by(x: &Record, before: Option<Terms>) -> Option<Terms>
         } => Some(Terms {
             tier,
             leverage,
-            close,
+            prior_close: close,
         }),
         _ => before,
     }
@@ -176,7 +176,7 @@ pub fn opening_price(id: u16, step: &Step) -> Option<Price>
 
 /// Whether the step's record is an eligible opening trade in the first five minutes of the run.
 pub fn opens_early(id: u16, begun: Moment, step: &Step) -> bool
-    ensures { result ≡ opens_before step.now.day id (begun + seconds 300) step.now.input }
+    ensures { result ≡ opens_before step.now.day id (begun + five_minutes) step.now.input }
 {
     match step.input {
         Record::Trade {

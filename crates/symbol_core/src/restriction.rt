@@ -1,7 +1,7 @@
 // The short sale restriction (17 CFR 242.201).
 ghost use Rattle.std.specs.Prelude.{◌≡◌, ◌+◌, ◌≤◌, List, vec_len, vec_capacity};
 ghost use Rattle.rulebook.specs.Rules as rules;
-ghost use Rattle.rulebook.specs.Symbol.{close_of};
+ghost use Rattle.rulebook.specs.Symbol.{prior_close_of};
 ghost use Rattle.symbol_core.specs.Kept.{restricting, triggering};
 ghost use Rattle.symbol_core.specs.Stands.{Obeys, Says};
 

@@ -1,5 +1,5 @@
 ghost use Rattle.std.specs.Prelude.{◌≡◌, ◌+◌, ◌≤◌};
-ghost use Rattle.session_core.specs.Moments.{seconds};
+ghost use Rattle.session_core.specs.Durations.{five_minutes};
 
 use price_core::Collars;
 use reopen_core::Round;
@@ -41,7 +41,7 @@ impl TimedRound {
 
     /// The round after this one.
     pub fn next(&self, t: Moment, collars: Collars) -> TimedRound
-        requires { self.now.moment + seconds 300 ≤ t }
+        requires { self.now.moment + five_minutes ≤ t }
         ensures { result ≡ record { number = self.now.number + 1; moment = t; collars = collars } }
     {
         let _moments = (self.round.moment.nanos(), t.nanos());

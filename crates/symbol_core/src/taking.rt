@@ -70,7 +70,7 @@ pub fn drop_cancelled(id: u16, x: &Record, deals: &mut SummedDeals)
     ensures spare { deals.old.spare ≤ deals.new.spare }
 {
     if let Some(number) = cancelled_by(id, x) {
-        deals.take_away(number);
+        deals.remove(number);
     }
 }
 

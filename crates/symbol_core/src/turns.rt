@@ -2,7 +2,7 @@
 ghost use Rattle.std.specs.Prelude.{◌≡◌, ◌+◌, ◌≤◌, ◌&&◌, if◌then◌else◌, [], List, vec_len, vec_capacity};
 ghost use Rattle.std.specs.Option.{option_map_or};
 ghost use Rattle.session_core.specs.Times.{is_closed};
-ghost use Rattle.limit_core.specs.Limits.{is_straddling};
+ghost use Rattle.limit_core.specs.Limits.{straddles};
 ghost use Rattle.pause_core.specs.Phases.{is_done, is_trading};
 ghost use Rattle.rulebook.specs.Rules as rules;
 ghost use Rattle.rulebook.specs.Rules.{at_band, meets};
@@ -11,7 +11,9 @@ ghost use Rattle.symbol_core.specs.Stands.{Obeys, Says};
 
 use crate::kept::{Kept, Step};
 use limit_core::{is_at_lower, is_at_upper, straddles};
-use pause_core::{Brakes, close, halt, is_done, is_limit, is_trading, start, stop};
+use pause_core::{
+    Brakes, is_done, is_limit, is_trading, market_halt, regulatory_halt, session_close, start,
+};
 use price_core::Quotation;
 use rulebook::Banded;
 use session_core::{Day, Moment, Phase, close_moment, in_session};
@@ -51,22 +53,22 @@ impl Kept {
     /// The close: the symbol's day is over.
     pub fn close(&mut self, step: &Step, out: &mut Vec<Message>)
         requires { vec_len out.old + 1 ≤ vec_capacity out.old }
-        ensures obeys { Obeys rules.close step.now self.old self.new out.old.items out.new.items }
+        ensures obeys { Obeys rules.session_close step.now self.old self.new out.old.items out.new.items }
         ensures room { vec_capacity out.old ≤ vec_capacity out.new }
         ensures len { vec_len out.new ≤ vec_len out.old + 1 }
     {
-        let to = close(self.phase, &self.brakes(step));
+        let to = session_close(self.phase, &self.brakes(step));
         self.turn_to(step, to, out);
     }
 
     /// A market-wide halt stops the symbol (NYSE Rule 7.12).
     pub fn stop(&mut self, step: &Step, out: &mut Vec<Message>)
         requires { vec_len out.old + 1 ≤ vec_capacity out.old }
-        ensures obeys { Obeys rules.stop step.now self.old self.new out.old.items out.new.items }
+        ensures obeys { Obeys rules.market_halt step.now self.old self.new out.old.items out.new.items }
         ensures room { vec_capacity out.old ≤ vec_capacity out.new }
         ensures len { vec_len out.new ≤ vec_len out.old + 1 }
     {
-        let to = stop(self.phase, &self.brakes(step));
+        let to = market_halt(self.phase, &self.brakes(step));
         self.turn_to(step, to, out);
     }
 
@@ -84,11 +86,11 @@ impl Kept {
     /// A regulatory halt by notice, and its end.
     pub fn halt(&mut self, step: &Step, out: &mut Vec<Message>)
         requires { vec_len out.old + 1 ≤ vec_capacity out.old }
-        ensures obeys { Obeys rules.halt step.now self.old self.new out.old.items out.new.items }
+        ensures obeys { Obeys rules.regulatory_halt step.now self.old self.new out.old.items out.new.items }
         ensures room { vec_capacity out.old ≤ vec_capacity out.new }
         ensures len { vec_len out.new ≤ vec_len out.old + 1 }
     {
-        let to = halt(self.phase, &self.brakes(step));
+        let to = regulatory_halt(self.phase, &self.brakes(step));
         self.turn_to(step, to, out);
     }
 }
@@ -108,7 +110,7 @@ pub fn at_band(side: Phase, quote: &Option<Quotation>, band: &Option<Banded>) ->
 }
 
 fn straddles_bands(quote: &Option<Quotation>, band: &Option<Banded>) -> bool
-    ensures { result ≡ meets is_straddling quote.now band.now }
+    ensures { result ≡ meets straddles quote.now band.now }
 {
     match (quote, band) {
         (Some(q), Some(b)) => straddles(q, &b.bands),

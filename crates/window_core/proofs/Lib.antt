@@ -1,4 +1,4 @@
 pub mod Deals
 pub mod Order
-pub mod Standing
+pub mod RepresentsCalls
 pub mod Sums

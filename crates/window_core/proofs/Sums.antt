@@ -4,7 +4,7 @@ use Rattle.std.specs.Prelude.{Option, Some, None, ◌-◌, ◌&&◌, drop, nat_l
 use Rattle.std.proofs.lemmas.Bool.Decides.{nat_tests}
 use Rattle.std.proofs.lemmas.List.Sums.{sum_by-append}
 use Rattle.price_core.specs.Ranges.{IsPrice}
-use Rattle.session_core.specs.Moments.{seconds}
+use Rattle.session_core.specs.Durations.{five_minutes}
 use Rattle.window_core.specs.declared.window.Deal.{Deal}
 use Rattle.window_core.specs.Deals.{is_live, live}
 use Rattle.window_core.specs.Summed.{AllFrom, AllPriced, AllUpTo, InOrder, IsSummed}
@@ -15,15 +15,15 @@ pub first_is : (items : List Deal) (x : Deal) → 0 < length items → x ≡ sli
 first_is [] x some is = absurd (omega arith)
 first_is (d ∷ items) x some is = ap Some (sym is)
 
-one_live : (t e : ℕ) (d : Deal) → t < e + seconds 300 → e ≤ d.moment → is_live t d ≡ true
+one_live : (t e : ℕ) (d : Deal) → t < e + five_minutes → e ≤ d.moment → is_live t d ≡ true
 one_live t e d young before = grind (arith, nat_tests)
 
 -- where none is before a moment of less than five minutes ago, each is live
-from_live : (t e : ℕ) (deals : List Deal) → t < e + seconds 300 → AllFrom e deals → live t deals ≡ deals
+from_live : (t e : ℕ) (deals : List Deal) → t < e + five_minutes → AllFrom e deals → live t deals ≡ deals
 from_live t e [] young all = refl
 from_live t e (d ∷ deals) young all = simp (one_live t e d young all.0) (ap (λ (ds : List Deal). d ∷ ds) (from_live t e deals young all.1))
 
-is_young : (t : ℕ) (d : Deal) → is_live t d ≡ true → t < d.moment + seconds 300
+is_young : (t : ℕ) (d : Deal) → is_live t d ≡ true → t < d.moment + five_minutes
 is_young t d live = grind (arith, nat_tests)
 
 -- where the first is live, each of them in order is

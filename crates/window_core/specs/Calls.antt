@@ -4,13 +4,14 @@ use Rattle.std.specs.List.{list_any}
 use Rattle.window_core.specs.declared.window.Deal.{Deal}
 use Rattle.window_core.specs.Deals.{live}
 
+-- a later moment, a deal, the cancel of a number, and the restart
 pub data Call : Type 0 where
   Advance : ℕ → Call
   Add : Deal → Call
   Cancel : ℕ → Call
   Restart : Call
 
--- the moment that was told last, 0 after a restart
+-- the moment of the last advance, 0 after a restart
 abbrev pub moment_in : List Call → ℕ
 moment_in [] = 0
 moment_in (Advance t ∷ earlier) = t
@@ -18,7 +19,7 @@ moment_in (Add d ∷ earlier) = moment_in earlier
 moment_in (Cancel number ∷ earlier) = moment_in earlier
 moment_in (Restart ∷ earlier) = 0
 
--- The deals since the last restart, the oldest first, that none of the cancels which came later has taken away. These
+-- The deals since the last restart, the oldest first, that none of the cancels which came later has removed. These
 -- are given by their numbers.
 abbrev pub deals_in : List ℕ → List Call → List Deal
 deals_in cancelled [] = []

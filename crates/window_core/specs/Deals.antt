@@ -1,25 +1,26 @@
 -- Deals, the oldest first, and their mean (LULD Plan, Section V).
 use Rattle.std.specs.Prelude.{ℕ, Bool, Option, Some, None, List, [], ◌∷◌, ◌+◌, ◌==◌, nat_lt, if◌then◌else◌, not, min, length, filter, sum_by}
 use Rattle.std.specs.Option.{option_map_or}
-use Rattle.price_core.specs.Rounding.{rounded_mean}
-use Rattle.session_core.specs.Moments.{seconds}
+use Rattle.price_core.specs.Rounding.{mean}
+use Rattle.session_core.specs.Durations.{five_minutes}
 use Rattle.window_core.specs.declared.window.Deal.{Deal}
 
 -- less than five minutes old at t
 abbrev pub is_live : ℕ → Deal → Bool
-is_live t d = nat_lt t (d.moment + seconds 300)
+is_live t d = nat_lt t (d.moment + five_minutes)
 
+-- the deals that are less than five minutes old at t
 abbrev pub live : ℕ → List Deal → List Deal
 live t deals = filter (is_live t) deals
 
--- not of that number, whose deals a cancel takes away
+-- not of that number, whose deals a cancel removes
 abbrev pub stays : ℕ → Deal → Bool
 stays number d = not (d.number == number)
 
 -- the mean of their prices, none where there are none
 abbrev pub mean_of : List Deal → Option ℕ
 mean_of deals =
-    if length deals == 0 then None else Some (rounded_mean (sum_by (λ d. d.price) deals) (length deals))
+    if length deals == 0 then None else Some (mean (sum_by (λ d. d.price) deals) (length deals))
 
 -- the least of their moments, none where there are none
 abbrev pub least_moment : List Deal → Option ℕ

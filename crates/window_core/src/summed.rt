@@ -6,12 +6,12 @@ ghost use Rattle.window_core.specs.Tallies.{Tallies};
 
 use crate::window::{Deal, Tally};
 use price_core::{NoMemory, Price};
-use session_core::Moment;
+use session_core::{Moment, midnight};
 use std::alloc::Global;
 use std::collections::VecDeque;
 use std::marker::Model;
 
-/// Takes away the deals that are five minutes old.
+/// Removes the deals that are five minutes old.
 fn keep_live(t: Moment, deals: &mut VecDeque<Deal>)
     ensures items { deals.new.items ≡ live t deals.old.items }
     ensures len { deque_len deals.new ≤ deque_len deals.old }
@@ -20,8 +20,8 @@ fn keep_live(t: Moment, deals: &mut VecDeque<Deal>)
     deals.retain(|deal| deal.is_live(t));
 }
 
-/// Takes away the deals of a number.
-fn take_away(number: u32, deals: &mut VecDeque<Deal>)
+/// Removes the deals of a number.
+fn remove(number: u32, deals: &mut VecDeque<Deal>)
     ensures items { deals.new.items ≡ filter (stays number) deals.old.items }
     ensures len { deque_len deals.new ≤ deque_len deals.old }
     ensures capacity { deque_capacity deals.new ≡ deque_capacity deals.old }
@@ -67,13 +67,6 @@ fn total_of(deals: &VecDeque<Deal>) -> u128
 {
     let (front, back) = deals.as_slices();
     total(front) + total(back)
-}
-
-/// The moment at which a day begins.
-fn midnight() -> Moment
-    ensures { result ≡ 0 }
-{
-    Moment::new(0).unwrap()
 }
 
 fn later(a: Moment, b: Moment) -> Moment
@@ -165,7 +158,7 @@ impl SummedDeals {
         }
     }
 
-    /// Takes the first deal away where it is five minutes old, and tells whether it did.
+    /// Removes the first deal where it is five minutes old, and says whether it did.
     fn drop_first(&mut self, t: Moment) -> bool
         ensures live { live t self.new.deals ≡ live t self.old.deals }
         ensures spare { self.old.spare ≤ self.new.spare }
@@ -180,7 +173,7 @@ impl SummedDeals {
         }
     }
 
-    /// Looks at each deal, and takes away those that are five minutes old.
+    /// Looks at each deal, and removes those that are five minutes old.
     fn keep_live_of_all(&mut self, t: Moment)
         ensures deals { self.new.deals ≡ live t self.old.deals }
         ensures spare { self.old.spare ≤ self.new.spare }
@@ -189,7 +182,7 @@ impl SummedDeals {
         self.sum = total_of(&self.items);
     }
 
-    /// Takes away the deals that are five minutes old. While deals are in order it looks at those and one more, however
+    /// Removes the deals that are five minutes old. While deals are in order it looks at those and one more, however
     /// many there are.
     pub fn keep_live(&mut self, t: Moment)
         ensures deals { self.new.deals ≡ live t self.old.deals }
@@ -205,17 +198,17 @@ impl SummedDeals {
         }
     }
 
-    /// Takes away the deals of a number.
-    pub fn take_away(&mut self, number: u32)
+    /// Removes the deals of a number.
+    pub fn remove(&mut self, number: u32)
         ensures deals { self.new.deals ≡ filter (stays number) self.old.deals }
         ensures spare { self.old.spare ≤ self.new.spare }
     {
-        take_away(number, &mut self.items);
+        remove(number, &mut self.items);
         let left = total_of(&self.items);
         self.sum = left;
     }
 
-    /// Takes all deals away.
+    /// Removes all deals.
     pub fn clear(&mut self)
         ensures deals { self.new.deals ≡ [] }
         ensures spare { self.old.spare ≤ self.new.spare }

@@ -62,7 +62,7 @@ fn a_trade_of_exactly_five_minutes_does_not_count(rt: HostRuntime) -> Result<(),
 }
 
 #[test]
-fn a_cancel_takes_away_each_trade_of_its_number(rt: HostRuntime) -> Result<(), Fail> {
+fn a_cancel_removes_each_trade_of_its_number(rt: HostRuntime) -> Result<(), Fail> {
     let mut window = Window::new(rt.alloc())?;
     window.cancel(2);
     trade(&mut window, after(0)?, 2, 490_000)?;

@@ -1,11 +1,11 @@
 ghost use Rattle.std.specs.Prelude.{◌≡◌, ◌==◌, ◌+◌, ◌*◌, ◌≤◌, ◌<◌, ◌++◌, ◌∷◌, ◌^◌, [], None, Some, List, OnOk, IfOk, IsOk, filter, if◌then◌else◌, length, option_map, option_to_list, slice_get, sum_by, vec_len, vec_capacity};
-ghost use Rattle.price_core.specs.Rounding.{rounded_mean};
+ghost use Rattle.price_core.specs.Rounding.{mean};
 ghost use Rattle.window_core.specs.Deals.{is_live, live, stays, mean_of, least_moment};
 ghost use Rattle.window_core.specs.Calls.{Call, Advance, Add, Cancel, Restart, window};
 
 use crate::summed::SummedDeals;
 use price_core::{NoMemory, Price, mean};
-use session_core::Moment;
+use session_core::{FIVE_MINUTES, Moment, midnight};
 use std::alloc::Global;
 use std::marker::Model;
 
@@ -25,15 +25,8 @@ impl Deal {
     pub(crate) fn is_live(&self, t: Moment) -> bool
         ensures { result ≡ is_live t self.now }
     {
-        t.nanos() < self.moment.nanos() + 300_000_000_000
+        t.nanos() < self.moment.nanos() + FIVE_MINUTES
     }
-}
-
-/// The moment at which a day begins.
-fn midnight() -> Moment
-    ensures { result ≡ 0 }
-{
-    Moment::new(0).unwrap()
 }
 
 /// The sum of the prices of deals, and their number.
@@ -93,7 +86,7 @@ impl Tally {
     pub(crate) fn mean(&self) -> Option<Price>
         requires least { self.now.count ≤ self.now.sum }
         requires most { self.now.sum ≤ 99999999999 * self.now.count }
-        ensures { result ≡ (if self.now.count == 0 then None else Some (rounded_mean self.now.sum self.now.count)) }
+        ensures { result ≡ (if self.now.count == 0 then None else Some (mean self.now.sum self.now.count)) }
     {
         if self.count == 0 {
             return None;
@@ -179,17 +172,17 @@ impl Window {
         self.deals.push(d);
     }
 
-    /// Takes away each deal of that number.
+    /// Removes each deal of that number.
     pub fn cancel(&mut self, number: u32)
         ensures moment { self.new.moment ≡ self.old.moment }
         ensures deals { self.new.deals ≡ filter (stays number) self.old.deals }
         ensures spare { self.old.spare ≤ self.new.spare }
         ensures stands { (calls : List Call) → Represents self.old calls → Represents self.new (Cancel number ∷ calls) }
     {
-        self.deals.take_away(number);
+        self.deals.remove(number);
     }
 
-    /// Takes all deals away and goes back to moment 0, so that a new run or a new day can begin.
+    /// Removes all deals and goes back to moment 0, so that a new run or a new day can begin.
     pub fn restart(&mut self)
         ensures empty { IsEmpty self.new }
         ensures spare { self.old.spare ≤ self.new.spare }

@@ -1,4 +1,4 @@
--- Numbers and texts at their places, read and spelled. A body is rebuilt from its end, a field at a time.
+-- Numbers and texts at their offsets, read and spelled. A body is rebuilt from its end, a field at a time.
 use Rattle.std.proofs.Common.{◌≡◌, ℕ, suc, ◌+◌, ◌^◌, ◌<◌, ◌≤◌, List, [], ◌∷◌, ◌++◌, length, get_or, take, drop, refl, sym, ap, ◌∙◌, arith, add-one, drop-cons, inl, inr}
 use Rattle.std.specs.Int.{Width, w16, w32, w64, byte_len, from_be_bytes, to_be_bytes}
 use Rattle.std.proofs.lemmas.Bool.{cases_lt}
@@ -46,7 +46,7 @@ wide64 = record {
   below = λ bytes fits. omega (arith, fits 0, fits 1, fits 2, fits 3, fits 4, fits 5, fits 6, fits 7);
 }
 
--- the number that stands at a place is spelled there, before what stands behind it
+-- the number that stands at an offset is spelled there, before what stands behind it
 pub cell : {w : Width} {limit : ℕ} → IsWide w limit → (at : ℕ) (body rest : List ℕ) (n : ℕ) → IsBytes body → number w at body ≡ n → at + byte_len w ≤ length body → drop (at + byte_len w) body ≡ rest → drop at body ≡ to_be_bytes w n ++ rest
 cell {w} wide at body rest n fits is long e =
     let bytes = take (byte_len w) (drop at body) in

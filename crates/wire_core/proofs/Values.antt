@@ -1,4 +1,4 @@
--- A field that was read is in its range and stands at its place, and one that stands there is read.
+-- A field that was read is in its range and stands at its offset, and one that stands there is read.
 use Rattle.std.proofs.Common.{◌≡◌, ℕ, ◌+◌, ◌^◌, ◌<◌, ◌≤◌, Bool, true, cond, List, length, take, drop, Option, Some, None, refl, sym, ap, subst, arith}
 use Rattle.std.specs.Prelude.{IfSome, IsTrue, ◌==◌}
 use Rattle.std.specs.Int.{w32, w64}

@@ -1,8 +1,8 @@
--- The fields of a body, each at its place and in its range. Numbers are unsigned and big-endian.
+-- The fields of a body, each at its offset and in its range. Numbers are unsigned and big-endian.
 use Rattle.std.specs.Prelude.{ℕ, Bool, ◌&&◌, ◌==◌, nat_le, nat_lt, if◌then◌else◌, List, take, drop, Option, Some, None}
 use Rattle.std.specs.Int.{Width, w32, w64, byte_len, from_be_bytes}
 
--- the number of that width that stands at a place
+-- the number of that width that stands at an offset
 abbrev pub number : Width → ℕ → List ℕ → ℕ
 number w at body = from_be_bytes w (take (byte_len w) (drop at body))
 
@@ -14,9 +14,11 @@ checked holds x = if holds then Some x else None
 abbrev pub is_moment : ℕ → Bool
 is_moment nanos = nat_lt nanos 86400000000000
 
+-- a price in ten-thousandths of a dollar
 abbrev pub is_price : ℕ → Bool
 is_price units = nat_le 1 units && nat_le units 99999999999
 
+-- an index value in hundredths of a point
 abbrev pub is_index : ℕ → Bool
 is_index hundredths = nat_le 1 hundredths && nat_le hundredths 99999999
 

@@ -5,13 +5,13 @@ use Rattle.std.specs.Prelude.{◌≡◌, ℕ, ◌+◌, ◌≤◌, List, ◌∷�
 abbrev pub framed : List ℕ → List ℕ
 framed body = length body ∷ body
 
--- bytes were put at a place; what stands before and behind them is kept
+-- bytes were written at an offset; what stands before and behind them is kept
 pub record Puts (bytes : List ℕ) (at : ℕ) (old : List ℕ) (next : ℕ) (new : List ℕ) : Type 0 where
   pub behind : next ≡ at + length bytes
   pub prefix : take next new ≡ take at old ++ bytes
   pub rest : (k : ℕ) → next ≤ k → drop k new ≡ drop k old
 
--- a frame was put at the prefix; what stands behind it is kept
+-- a frame was written at the begin; what stands behind it is kept
 pub record Frames (frame old : List ℕ) (len : ℕ) (new : List ℕ) : Type 0 where
   pub whole : len ≡ length frame
   pub prefix : take len new ≡ frame

@@ -11,6 +11,7 @@ is_visible byte = nat_le 33 byte && nat_le byte 126
 abbrev pub visible_count : List ℕ → ℕ
 visible_count name = length (take_while is_visible name)
 
+-- visible characters, one at least, and then zero bytes
 abbrev pub is_name : List ℕ → Bool
 is_name name = nat_lt 0 (visible_count name) && list_all (λ byte. byte == 0) (drop (visible_count name) name)
 

@@ -1,4 +1,4 @@
-//! The fields of a body, each at its place.
+//! The fields of a body, each at its offset.
 
 ghost use Rattle.std.specs.Prelude.{◌≡◌, ◌+◌, ◌≤◌, ◌↔◌, ◌==◌, IsSome, IsTrue, length, take, drop};
 ghost use Rattle.std.specs.List.{list_all};
@@ -12,7 +12,7 @@ use byteorder::{BigEndian, ByteOrder};
 use price_core::{Index, Price};
 use session_core::Moment;
 
-/// The number of two bytes at a place.
+/// The number of two bytes at an offset.
 pub fn u16_at(body: &[u8], at: usize) -> u16
     requires { at + 2 ≤ length body.now }
     ensures { result ≡ number w16 at body.now }
@@ -20,7 +20,7 @@ pub fn u16_at(body: &[u8], at: usize) -> u16
     BigEndian::read_u16(&body[at..])
 }
 
-/// The number of four bytes at a place.
+/// The number of four bytes at an offset.
 pub fn u32_at(body: &[u8], at: usize) -> u32
     requires { at + 4 ≤ length body.now }
     ensures { result ≡ number w32 at body.now }
@@ -28,7 +28,7 @@ pub fn u32_at(body: &[u8], at: usize) -> u32
     BigEndian::read_u32(&body[at..])
 }
 
-/// The number of eight bytes at a place.
+/// The number of eight bytes at an offset.
 pub fn u64_at(body: &[u8], at: usize) -> u64
     requires { at + 8 ≤ length body.now }
     ensures { result ≡ number w64 at body.now }
@@ -36,7 +36,7 @@ pub fn u64_at(body: &[u8], at: usize) -> u64
     BigEndian::read_u64(&body[at..])
 }
 
-/// The moment at a place, in eight bytes of nanoseconds; none exactly outside the range.
+/// The moment at an offset, in eight bytes of nanoseconds; none exactly outside the range.
 #[tactic(auto, unfolding(crate::specs::Fields::moment_at))]
 pub fn moment_at(body: &[u8], at: usize) -> Option<Moment>
     requires { at + 8 ≤ length body.now }
@@ -46,7 +46,7 @@ pub fn moment_at(body: &[u8], at: usize) -> Option<Moment>
     Moment::new(u64_at(body, at)).ok()
 }
 
-/// The price at a place, in eight bytes of ten-thousandths of a dollar; none exactly outside the range.
+/// The price at an offset, in eight bytes of ten-thousandths of a dollar; none exactly outside the range.
 #[tactic(auto, unfolding(crate::specs::Fields::price_at))]
 pub fn price_at(body: &[u8], at: usize) -> Option<Price>
     requires { at + 8 ≤ length body.now }
@@ -56,7 +56,7 @@ pub fn price_at(body: &[u8], at: usize) -> Option<Price>
     Price::new(u64_at(body, at)).ok()
 }
 
-/// The price at a place that may be absent, in eight bytes of ten-thousandths of a dollar, 0 where it is absent; none
+/// The price at an offset that may be absent, in eight bytes of ten-thousandths of a dollar, 0 where it is absent; none
 /// exactly where the number is neither 0 nor in the range.
 #[tactic(auto, unfolding(crate::specs::Fields::optional_price_at))]
 pub fn optional_price_at(body: &[u8], at: usize) -> Option<Option<Price>>
@@ -69,7 +69,7 @@ pub fn optional_price_at(body: &[u8], at: usize) -> Option<Option<Price>>
     }
 }
 
-/// The index value at a place, in four bytes of hundredths of an index point; none exactly outside the range.
+/// The index value at an offset, in four bytes of hundredths of an index point; none exactly outside the range.
 #[tactic(auto, unfolding(crate::specs::Fields::index_at))]
 pub fn index_at(body: &[u8], at: usize) -> Option<Index>
     requires { at + 4 ≤ length body.now }
@@ -103,7 +103,7 @@ fn is_name(name: &[u8]) -> bool
     count > 0 && are_zero(&name[count..])
 }
 
-/// The name at a place: one to eight visible ASCII characters, and then zero bytes, eight bytes in all. None exactly
+/// The name at an offset: one to eight visible ASCII characters, and then zero bytes, eight bytes in all. None exactly
 /// where no name stands there.
 #[tactic(auto, unfolding(crate::specs::Names::name_at))]
 pub fn name_at(body: &[u8], at: usize) -> Option<[u8; 8]>

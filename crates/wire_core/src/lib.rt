@@ -1,4 +1,4 @@
-//! What input frames and published frames share: the fields of a body at their places, and how a frame is written.
+//! What input frames and published frames share: the fields of a body at their offsets, and how a frame is written.
 #![tactic(auto)]
 
 mod buffer;

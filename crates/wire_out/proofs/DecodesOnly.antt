@@ -19,7 +19,7 @@ sized_ok {A} n body read x e = in_case (eqb (length body) n) refl e where
   in_case true t h = (eqb-true _ _ t, h)
   in_case false t h = absurd cc
 
--- a body tells a message, behind whatever number and moment stand there
+-- a body gives a message, behind whatever number and moment stand there
 pub record Tells (body : List ℕ) (m : Message) : Type 0 where
   pub types : IsTyped m
   pub ranges : IsSayable m

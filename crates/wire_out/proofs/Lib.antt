@@ -1,4 +1,4 @@
 pub mod Values
 pub mod DecodesOnly
 pub mod RoundTrip
-pub mod Frames
+pub mod FramesDiffer

@@ -103,6 +103,7 @@ refused_of body = sized 11 body (do
   f ← checked (is_field c (slice_index body 10)) (slice_index body 10)
   Some (Refused p c f))
 
+-- the frame of a body
 unfoldable pub frame_of : List ℕ → Option Frame
 frame_of [] = None
 frame_of (t ∷ rest) =

@@ -27,6 +27,7 @@ type_and_fields MarketResume = (0x19, [])
 abbrev pub numbered_body : ℕ → ℕ → Message → List ℕ
 numbered_body n t m = (type_and_fields m).0 ∷ to_be_bytes w64 n ++ to_be_bytes w64 t ++ (type_and_fields m).1
 
+-- the body of a frame
 abbrev pub body_of : Frame → List ℕ
 body_of (Hello i m) = 0x81 ∷ to_be_bytes w64 i ++ to_be_bytes w64 m
 body_of (Ack i) = 0x82 ∷ to_be_bytes w64 i

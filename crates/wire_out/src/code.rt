@@ -8,6 +8,7 @@ use crate::message::ShortKind;
 use price_core::Cause;
 use session_core::{Level, Phase};
 
+/// The byte of a phase.
 pub fn phase_byte(phase: Phase) -> u8
     ensures { result ≡ phase_byte phase }
 {
@@ -24,6 +25,7 @@ pub fn phase_byte(phase: Phase) -> u8
     }
 }
 
+/// The phase of a byte; None exactly where it is the byte of none.
 pub fn phase_of_byte(byte: u8) -> Option<Phase>
     ensures { result ≡ phase_of_byte byte }
 {
@@ -41,6 +43,7 @@ pub fn phase_of_byte(byte: u8) -> Option<Phase>
     }
 }
 
+/// The byte of the cause of price bands.
 pub fn cause_byte(cause: Cause) -> u8
     ensures { result ≡ cause_byte cause }
 {
@@ -52,6 +55,7 @@ pub fn cause_byte(cause: Cause) -> u8
     }
 }
 
+/// The cause of a byte; None exactly where it is the byte of none.
 pub fn cause_of_byte(byte: u8) -> Option<Cause>
     ensures { result ≡ cause_of_byte byte }
 {
@@ -64,12 +68,14 @@ pub fn cause_of_byte(byte: u8) -> Option<Cause>
     }
 }
 
+/// The byte of the begin of a straddle state or of its end.
 pub fn straddle_byte(on: bool) -> u8
     ensures { result ≡ straddle_byte on }
 {
     if on { 1 } else { 0 }
 }
 
+/// Whether a byte is that of the begin of a straddle state or of its end; None exactly where it is neither.
 pub fn straddle_of_byte(byte: u8) -> Option<bool>
     ensures { result ≡ straddle_of_byte byte }
 {
@@ -80,6 +86,7 @@ pub fn straddle_of_byte(byte: u8) -> Option<bool>
     }
 }
 
+/// The byte of the kind of a short sale restriction.
 pub fn kind_byte(kind: ShortKind) -> u8
     ensures { result ≡ kind_byte kind }
 {
@@ -89,6 +96,7 @@ pub fn kind_byte(kind: ShortKind) -> u8
     }
 }
 
+/// The kind of a byte; None exactly where it is the byte of none.
 pub fn kind_of_byte(byte: u8) -> Option<ShortKind>
     ensures { result ≡ kind_of_byte byte }
 {
@@ -99,6 +107,7 @@ pub fn kind_of_byte(byte: u8) -> Option<ShortKind>
     }
 }
 
+/// The byte of a level.
 pub fn level_byte(level: Level) -> u8
     ensures { result ≡ level_byte level }
 {
@@ -109,6 +118,7 @@ pub fn level_byte(level: Level) -> u8
     }
 }
 
+/// The level of a byte; None exactly where it is the byte of none.
 pub fn level_of_byte(byte: u8) -> Option<Level>
     ensures { result ≡ level_of_byte byte }
 {

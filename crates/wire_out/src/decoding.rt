@@ -19,7 +19,7 @@ use wire_core::{index_at, moment_at, name_at, price_at, u16_at, u64_at};
 #[error("the body spells no published frame")]
 pub struct BadFrame;
 
-/// The number at a place, in eight bytes; none exactly where it is 0.
+/// The number at an offset, in eight bytes; none exactly where it is 0.
 #[tactic(auto, unfolding(crate::specs::Reading::count_at))]
 fn count_at(body: &[u8], at: usize) -> Option<u64>
     requires { at + 8 ≤ length body.now }

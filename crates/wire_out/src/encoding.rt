@@ -15,7 +15,7 @@ use price_core::{Cause, Index, Price};
 use session_core::{Level, Moment, Phase};
 use wire_core::{put, put_u16, put_u32, put_u64};
 
-/// Puts what a numbered message begins with: its length byte, its type byte, its number and its moment.
+/// Writes what a numbered message begins with: its length byte, its type byte, its number and its moment.
 fn put_head(into: &mut [u8; 64], len: u8, kind: u8, number: u64, moment: Moment) -> usize
     ensures moment { IsMoment moment }
     ensures head { Puts (len ∷ kind ∷ to_be_bytes w64 number ++ to_be_bytes w64 moment) 0 into.old result into.new }
@@ -217,7 +217,7 @@ fn put_any(f: &Frame, into: &mut [u8; 64]) -> usize
     }
 }
 
-/// Writes a frame at the front of a buffer, its length byte first, and answers how many bytes it has. The other bytes
+/// Writes a frame at the begin of a buffer, its length byte first, and answers how many bytes it has. The other bytes
 /// are kept. What is written for a frame in its ranges is read as that frame.
 #[tactic(auto, unfolding(crate::specs::Spelling::spelling))]
 pub fn put_frame(f: &Frame, into: &mut [u8; 64]) -> usize

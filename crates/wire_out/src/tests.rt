@@ -66,7 +66,7 @@ fn numbered(moment: Moment, message: Message) -> Frame {
     }
 }
 
-/// Whether a body is read as that frame, and is what is put for it behind its length, with no other byte changed.
+/// Whether a body is read as that frame, and is what is written for it behind its length, with no other byte changed.
 #[tactic(auto, unfolding(crate::specs::Spelling::spelling))]
 fn is_body_of(body: &[u8], frame: Frame) -> bool {
     let Ok(read) = get_frame(body) else {
@@ -78,7 +78,7 @@ fn is_body_of(body: &[u8], frame: Frame) -> bool {
     read == frame && is_put && buffer[len..].iter().all(|byte| *byte == 0xee)
 }
 
-/// What a body of another length is read as, with other bytes at a place.
+/// What a body of another length is read as, with other bytes at an offset.
 fn changed(body: &[u8], len: usize, at: usize, bytes: &[u8]) -> Result<Frame, BadFrame> {
     let mut all = [0; 45];
     for (to, from) in all.iter_mut().zip(body) {

@@ -1,4 +1,4 @@
-use Rattle.wire_out.proofs.Frames.{frames_differ}
+use Rattle.wire_out.proofs.FramesDiffer.{frames_differ}
 use Rattle.wire_out.proofs.law.frames_differ.Goals as goal
 
 pub returns : goal.returns

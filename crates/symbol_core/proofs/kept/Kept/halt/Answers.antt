@@ -5,4 +5,4 @@ use Rattle.symbol_core.proofs.Gives.{turned-gives}
 use Rattle.symbol_core.proofs.kept.Kept.halt.Goals as goal
 
 pub returns-clause-obeys : goal.returns-clause-obeys
-returns-clause-obeys c = obeys_open rules.halt (rw (c.halt-to.ensures, c.brakes.ensures) at c.turn_to.ensures.says) (turned-gives turns.halt c.args.self.now c.args.step.now)
+returns-clause-obeys c = obeys_open rules.regulatory_halt (rw (c.regulatory_halt-to.ensures, c.brakes.ensures) at c.turn_to.ensures.says) (turned-gives turns.regulatory_halt c.args.self.now c.args.step.now)

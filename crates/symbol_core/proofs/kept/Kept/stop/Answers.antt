@@ -5,4 +5,4 @@ use Rattle.symbol_core.proofs.Gives.{turned-gives}
 use Rattle.symbol_core.proofs.kept.Kept.stop.Goals as goal
 
 pub returns-clause-obeys : goal.returns-clause-obeys
-returns-clause-obeys c = obeys_open rules.stop (rw (c.stop-to.ensures, c.brakes.ensures) at c.turn_to.ensures.says) (turned-gives turns.stop c.args.self.now c.args.step.now)
+returns-clause-obeys c = obeys_open rules.market_halt (rw (c.market_halt-to.ensures, c.brakes.ensures) at c.turn_to.ensures.says) (turned-gives turns.market_halt c.args.self.now c.args.step.now)

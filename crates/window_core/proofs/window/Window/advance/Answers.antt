@@ -2,7 +2,7 @@ use Rattle.std.proofs.Common.{◌≤◌, refl, sym, ap, ◌∙◌, subst}
 use Rattle.window_core.specs.Deals.{is_live, live}
 use Rattle.window_core.specs.WindowState.{WindowState}
 use Rattle.window_core.proofs.Order.{IsOrdered-filter}
-use Rattle.window_core.proofs.Standing.{stands-advanced}
+use Rattle.window_core.proofs.RepresentsCalls.{represents-advanced}
 use Rattle.window_core.proofs.window.Window.advance.Goals as goal
 
 pub invariant_of-self : goal.invariant_of-self
@@ -11,4 +11,4 @@ invariant_of-self c =
 
 pub returns-clause-stands : goal.returns-clause-stands
 returns-clause-stands c = λ calls stands.
-    stands-advanced c.args.self.now _ c.args.t calls c.requires refl (c.keep_live.ensures.deals ∙ ap (λ (held : WindowState). live c.args.t held.deals) c.self.view_is) stands
+    represents-advanced c.args.self.now _ c.args.t calls c.requires refl (c.keep_live.ensures.deals ∙ ap (λ (held : WindowState). live c.args.t held.deals) c.self.view_is) stands

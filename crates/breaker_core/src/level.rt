@@ -1,12 +1,11 @@
-// The levels of the market-wide circuit breakers (NYSE Rule 7.12).
 ghost use Rattle.std.specs.Prelude.{◌≡◌};
 ghost use Rattle.breaker_core.specs.Levels.{percent_of, is_brief, is_over, ends, level_reached, may_declare, declares};
 
-use breaker_core::Halt;
+use crate::breaker::Halt;
 use price_core::{Index, fell};
-use session_core::{Day, Level, Moment, breaker_open, in_session};
+use session_core::{Day, FIFTEEN_MINUTES, Level, Moment, breaker_open, in_session};
 
-/// The decline of the index that reaches a level, in per cent.
+/// The decline of the index that reaches a level, in per cent (NYSE Rule 7.12(a)).
 pub fn percent_of(level: Level) -> u32
     ensures { result ≡ percent_of level }
 {
@@ -27,14 +26,14 @@ fn is_brief(level: Level) -> bool
     }
 }
 
-/// Whether a halt is over at a moment.
+/// Whether a halt is over at a moment: one of Level 1 or 2 after 15 minutes.
 fn is_over(t: Moment, halt: Halt) -> bool
     ensures { result ≡ is_over t halt }
 {
-    is_brief(halt.level) && halt.since.nanos() + 900_000_000_000 <= t.nanos()
+    is_brief(halt.level) && halt.since.nanos() + FIFTEEN_MINUTES <= t.nanos()
 }
 
-/// Whether there is a halt that is over at a moment.
+/// Whether there is a halt that is over at a moment: one of Level 1 or 2 after 15 minutes (NYSE Rule 7.12(b)).
 pub fn ends(t: Moment, halt: Option<Halt>) -> bool
     ensures { result ≡ ends t halt }
 {
@@ -44,15 +43,15 @@ pub fn ends(t: Moment, halt: Option<Halt>) -> bool
     }
 }
 
-/// The greatest level that an index value reaches.
-fn level_reached(value: Index, close: Index) -> Option<Level>
-    ensures { result ≡ level_reached value close }
+/// The greatest level that an index value reaches, both in hundredths of an index point (NYSE Rule 7.12(a)).
+pub fn level_reached(value: Index, index_close: Index) -> Option<Level>
+    ensures { result ≡ level_reached value index_close }
 {
-    if fell(value, close, 20) {
+    if fell(value, index_close, percent_of(Level::Three)) {
         Some(Level::Three)
-    } else if fell(value, close, 13) {
+    } else if fell(value, index_close, percent_of(Level::Two)) {
         Some(Level::Two)
-    } else if fell(value, close, 7) {
+    } else if fell(value, index_close, percent_of(Level::One)) {
         Some(Level::One)
     } else {
         None
@@ -60,8 +59,8 @@ fn level_reached(value: Index, close: Index) -> Option<Level>
 }
 
 /// Whether a level may be declared at a moment, with this halt in effect, where greatest is the percentage of the
-/// greatest level declared today, 0 for none.
-fn may_declare(halt: Option<Halt>, greatest: u32, day: &Day, t: Moment, level: Level) -> bool
+/// greatest level declared today, 0 for none (NYSE Rule 7.12(b)).
+pub fn may_declare(halt: Option<Halt>, greatest: u32, day: &Day, t: Moment, level: Level) -> bool
     ensures { result ≡ may_declare halt greatest day.now t level }
 {
     in_session(t, day)
@@ -70,18 +69,19 @@ fn may_declare(halt: Option<Halt>, greatest: u32, day: &Day, t: Moment, level: L
         && (!is_brief(level) || breaker_open(t, day))
 }
 
-/// The level that an index value declares at a moment.
+/// The level that an index value declares at a moment, both in hundredths of an index point, where greatest is the
+/// percentage of the greatest level declared today, 0 for none; None exactly where it declares none (NYSE Rule 7.12).
 pub fn declares(
     halt: Option<Halt>,
     greatest: u32,
-    close: Index,
+    index_close: Index,
     day: &Day,
     t: Moment,
     value: Index,
 ) -> Option<Level>
-    ensures { result ≡ declares halt greatest close day.now t value }
+    ensures { result ≡ declares halt greatest index_close day.now t value }
 {
-    let level = level_reached(value, close)?;
+    let level = level_reached(value, index_close)?;
     if may_declare(halt, greatest, day, t, level) {
         Some(level)
     } else {

@@ -1,10 +1,10 @@
--- Where a name stands in a list of names.
+-- A name has a position in a list exactly where it is among the names.
 use Rattle.std.proofs.Common.{◌≡◌, ℕ, ◌+◌, Bool, true, false, cond, List, [], ◌∷◌, ◌++◌, length, Option, Some, None, is_some, refl, sym, ap, ◌∙◌}
 use Rattle.std.specs.Prelude.{nat_le, ◌||◌}
 use Rattle.std.specs.List.{list_any, position, position_from}
 use Rattle.std.proofs.lemmas.Iterator.Adapters.{position_from-zero}
 
--- a place is found exactly where some element passes
+-- a position is found exactly where some element passes
 pub is_some-position_from : {X : Type 0} (p : X → Bool) (i : ℕ) (xs : List X) → is_some (position_from p i xs) ≡ list_any p xs
 is_some-position_from p i [] = refl
 is_some-position_from p i (x ∷ xs) = by (p x) (is_some-position_from p (i + 1) xs) where

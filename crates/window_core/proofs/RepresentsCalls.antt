@@ -5,16 +5,16 @@ use Rattle.window_core.specs.Calls.{Call, Advance, Cancel, moment_in, deals_in}
 use Rattle.window_core.specs.WindowState.{WindowState, Represents}
 use Rattle.window_core.proofs.Deals.{live-live, live-cancelled}
 
-pub stands-advanced : (held next : WindowState) (t : ℕ) (calls : List Call) → held.moment ≤ t → next.moment ≡ t → next.deals ≡ live t held.deals → Represents held calls
+pub represents-advanced : (held next : WindowState) (t : ℕ) (calls : List Call) → held.moment ≤ t → next.moment ≡ t → next.deals ≡ live t held.deals → Represents held calls
     → Represents next (Advance t ∷ calls)
-stands-advanced held next t calls later is items s = record {
+represents-advanced held next t calls later is items s = record {
   moment = is;
   deals = items ∙ ap (live t) s.deals ∙ live-live (moment_in calls) t (subst (λ (n : ℕ). n ≤ t) s.moment later) (deals_in [] calls);
 }
 
-pub stands-cancelled : (held next : WindowState) (number : ℕ) (calls : List Call) → next.moment ≡ held.moment → next.deals ≡ filter (stays number) held.deals → Represents held calls
+pub represents-cancelled : (held next : WindowState) (number : ℕ) (calls : List Call) → next.moment ≡ held.moment → next.deals ≡ filter (stays number) held.deals → Represents held calls
     → Represents next (Cancel number ∷ calls)
-stands-cancelled held next number calls is items s = record {
+represents-cancelled held next number calls is items s = record {
   moment = is ∙ s.moment;
   deals = items ∙ ap (filter (stays number)) s.deals ∙ sym (live-cancelled (moment_in calls) number calls);
 }

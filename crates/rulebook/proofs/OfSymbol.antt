@@ -1,4 +1,4 @@
--- Whom the messages of a step speak of.
+-- Each message of a rule of a symbol is of that symbol.
 use Rattle.std.proofs.Common.{◌≡◌, ℕ, zero, suc, ◌≤◌, Bool, true, false, cond, List, [], ◌∷◌, ◌++◌, Option, Some, None, is_some, not, refl, sym, ap, subst, ◌∙◌, append_assoc, arith}
 use Rattle.std.specs.Prelude.{◌==◌, filter}
 use Rattle.std.specs.Option.{option_map_or}
@@ -29,7 +29,7 @@ use Rattle.rulebook.specs.declared.symbol.Banded.{Banded}
 use Rattle.rulebook.specs.Auction.{is_paused, last_round}
 use Rattle.rulebook.specs.Book.{Named, context, obeyed, all_obeyed, symbol_rules, announced, named, ids_below}
 use Rattle.rulebook.specs.History.{today, records, publish}
-use Rattle.rulebook.specs.Market.{day_record, halt_in, market_halt, greatest_in, greatest_declared, is_market_halted, resume_at, declare_at, declare_on, breaks}
+use Rattle.rulebook.specs.Market.{day_record, market_halt_in, market_halt, greatest_in, greatest_declared, is_market_halted, resume_at, declare_at, declare_on, breaks}
 use Rattle.rulebook.specs.Rules as rules
 use Rattle.rulebook.specs.Rules.{Context, is_carried, phase_now, becomes}
 use Rattle.rulebook.specs.Symbol.{phase, last_band, terms, was_straddling}
@@ -121,8 +121,8 @@ AllSpeak (rule ∷ rules) = ((c : Context) → AllBy (Some c.symbol) (rule c)) �
 
 pub rules_speak : AllSpeak symbol_rules
 rules_speak = (
-  turned-by turns.close,
-  (turned-by turns.stop, (turned-by turns.start, (turned-by turns.halt, (pause-by, (reopen-by, (leave_limit-by, (publish_band-by, (enter_limit-by, (straddle-by, (restrict-by, tt)))))))))),
+  turned-by turns.session_close,
+  (turned-by turns.market_halt, (turned-by turns.start, (turned-by turns.regulatory_halt, (pause-by, (reopen-by, (leave_limit-by, (publish_band-by, (enter_limit-by, (straddle-by, (restrict-by, tt)))))))))),
 )
 
 obeyed-by : (day : Day) (s : Named) (x : Record) (rule : Context → List Message) (h : List Event) → ((c : Context) → AllBy (Some c.symbol) (rule c)) → AllBy (Some s.symbol) (obeyed day s x rule h)
