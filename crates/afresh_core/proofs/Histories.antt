@@ -7,7 +7,7 @@ use Rattle.wire_in.specs.declared.record.Record.{Record}
 use Rattle.wire_in.specs.Records.{is_day, is_tick}
 use Rattle.rulebook.specs.declared.event.Event.{Event}
 use Rattle.rulebook.specs.declared.event.Event.TheVariants.{Accepted}
-use Rattle.rulebook.specs.Admission.{names, IsLawful}
+use Rattle.rulebook.specs.Admission.{names, most_names, IsLawful}
 use Rattle.rulebook.specs.History.{records, publish}
 use Rattle.rulebook.specs.Market.{resume_at, declare_at, day_record}
 use Rattle.rulebook.specs.Book.{Named, all_obeyed, symbol_rules, evaluate, announced, evaluate_own, named, evaluate_all, listed_ids, evaluate_market, target, evaluate_record, step, history}
@@ -85,9 +85,9 @@ timely_history (x ∷ A) = timely_step x (history A) (timely_history A)
 pub timely_before : (earlier : List Record) (h : List Event) → h ≡ history earlier → AreTimely h
 timely_before earlier h is = subst AreTimely (sym is) (timely_history earlier)
 
--- with the last record opened it has at most 16,384 names
+-- with the last record opened it has few enough names
 pub few_names_opened : (limit : ℕ) (accepted earlier : List Record) (x : Record) (h : List Event) → IsLawful limit accepted → accepted ≡ x ∷ earlier → h ≡ history earlier
-    → length (names (x ∷ records h)) ≤ 16384
+    → length (names (x ∷ records h)) ≤ most_names
 few_names_opened limit accepted earlier x h lawful last is =
     let same : accepted ≡ x ∷ records h = last ∙ ap (λ (older : List Record). x ∷ older) (sym (ap records is ∙ records-history earlier)) in
-    subst (λ (newer : List Record). length (names newer) ≤ 16384) same (few_names limit accepted lawful)
+    subst (λ (newer : List Record). length (names newer) ≤ most_names) same (few_names limit accepted lawful)

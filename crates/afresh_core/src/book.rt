@@ -3,7 +3,7 @@ ghost use Rattle.std.specs.Prelude.{◌≡◌, ◌≤◌, ◌∷◌, [], IfOk, i
 ghost use Rattle.std.specs.Option.{option_map_or};
 ghost use Rattle.wire_out.specs.declared.message.Message.TheVariants.{Short};
 ghost use Rattle.wire_out.specs.declared.message.ShortKind.TheVariants.{Carried};
-ghost use Rattle.rulebook.specs.Admission.{names, is_listed, IsLawful};
+ghost use Rattle.rulebook.specs.Admission.{names, is_listed, most_names, IsLawful};
 ghost use Rattle.rulebook.specs.History.{records};
 ghost use Rattle.rulebook.specs.Book.{evaluate, ids_below, announcement, announced, evaluate_own, named, evaluate_all, listed_ids, evaluate_market, target, evaluate_record, step, history};
 ghost use Rattle.rulebook.specs.Rules.{is_carried};
@@ -15,8 +15,7 @@ use crate::context::followed;
 use crate::restriction::is_carried;
 use crate::rules::{Named, RULES, obey_all, publish};
 use history_core::{
-    day_record, declare_at, id_of, is_day, is_listed, is_tick, names, records, resume_at,
-    symbol_of, with_first,
+    day_record, declare_at, id_of, is_listed, names, records, resume_at, with_first,
 };
 use price_core::NoMemory;
 use rulebook::Event;
@@ -162,7 +161,7 @@ fn listed_below(alloc: Global, accepted: &[Record], n: u16) -> Result<Vec<u16>, 
 
 /// The ids that are listed today, in order.
 fn listed_ids(alloc: Global, h: &[Event]) -> Result<Vec<u16>, NoMemory>
-    requires { length (names (records h.now)) ≤ 16384 }
+    requires { length (names (records h.now)) ≤ most_names }
     ensures { IfOk result (λ listed. listed.items ≡ listed_ids (records h.now)) }
 {
     let accepted = records(alloc, h)?;
@@ -172,11 +171,11 @@ fn listed_ids(alloc: Global, h: &[Event]) -> Result<Vec<u16>, NoMemory>
 
 /// The id that a record names.
 fn target(alloc: Global, h: &[Event], x: &Record) -> Result<Option<u16>, NoMemory>
-    requires { length (names (records h.now)) ≤ 16384 }
+    requires { length (names (records h.now)) ≤ most_names }
     ensures { IfOk result (λ id. id ≡ target (records h.now) x.now) }
 {
     let Record::Listing { name, .. } = *x else {
-        return Ok(symbol_of(x));
+        return Ok(x.symbol());
     };
     let accepted = records(alloc, h)?;
     match id_of(alloc, &accepted, name)? {
@@ -198,7 +197,7 @@ fn evaluate_market(x: &Record, h: Vec<Event>) -> Result<Vec<Event>, NoMemory>
 /// Evaluates the open step of a clock or an index tick.
 fn evaluate_tick(alloc: Global, x: &Record, h: Vec<Event>) -> Result<Vec<Event>, NoMemory>
     requires timely { AreTimely h.items }
-    requires few { length (names (records h.items)) ≤ 16384 }
+    requires few { length (names (records h.items)) ≤ most_names }
     ensures { IfOk result (λ evaluated. evaluated.items ≡ evaluate_all x.now (listed_ids (records h.items)) (evaluate_market x.now h.items)) }
 {
     let ids = listed_ids(alloc, &h)?;
@@ -209,7 +208,7 @@ fn evaluate_tick(alloc: Global, x: &Record, h: Vec<Event>) -> Result<Vec<Event>,
 /// Evaluates the open step of a record of one symbol.
 fn evaluate_named(alloc: Global, x: &Record, h: Vec<Event>) -> Result<Vec<Event>, NoMemory>
     requires timely { AreTimely h.items }
-    requires few { length (names (records h.items)) ≤ 16384 }
+    requires few { length (names (records h.items)) ≤ most_names }
     ensures { IfOk result (λ evaluated. evaluated.items ≡ option_map_or (λ s. evaluate_own x.now (named (records h.items) s) h.items) (target (records h.items) x.now) h.items) }
 {
     match target(alloc, &h, x)? {
@@ -221,12 +220,12 @@ fn evaluate_named(alloc: Global, x: &Record, h: Vec<Event>) -> Result<Vec<Event>
 /// Evaluates the open step of a record.
 fn evaluate_record(alloc: Global, x: &Record, h: Vec<Event>) -> Result<Vec<Event>, NoMemory>
     requires timely { AreTimely h.items }
-    requires few { length (names (records h.items)) ≤ 16384 }
+    requires few { length (names (records h.items)) ≤ most_names }
     ensures { IfOk result (λ evaluated. evaluated.items ≡ evaluate_record x.now h.items) }
 {
-    if is_day(x) {
+    if x.is_day() {
         Ok(h)
-    } else if is_tick(x) {
+    } else if x.is_tick() {
         evaluate_tick(alloc, x, h)
     } else {
         evaluate_named(alloc, x, h)
@@ -236,7 +235,7 @@ fn evaluate_record(alloc: Global, x: &Record, h: Vec<Event>) -> Result<Vec<Event
 /// The history with one more step.
 fn step(alloc: Global, x: &Record, h: Vec<Event>) -> Result<Vec<Event>, NoMemory>
     requires timely { AreTimely h.items }
-    requires few { length (names (x.now ∷ records h.items)) ≤ 16384 }
+    requires few { length (names (x.now ∷ records h.items)) ≤ most_names }
     ensures { IfOk result (λ stepped. stepped.items ≡ step x.now h.items) }
 {
     let opened = with_first(Some(Event::Accepted(*x)), h)?;

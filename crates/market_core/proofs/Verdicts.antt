@@ -12,7 +12,7 @@ use Rattle.wire_in.specs.declared.record.Record.TheVariants as in_
 use Rattle.wire_in.specs.declared.record.Refusal.{Refusal}
 use Rattle.wire_in.specs.declared.record.Refusal.TheVariants.{NoDay, OutOfOrder, UnknownSymbol, AlreadyListed, DirectoryFull, JournalFull}
 use Rattle.wire_in.specs.Records.{symbol_of, is_day}
-use Rattle.rulebook.specs.Admission.{verdict, names, last_day, is_listed_name, is_listed, is_early, is_unknown, lists_again, finds_no_id}
+use Rattle.rulebook.specs.Admission.{verdict, names, most_names, last_day, is_listed_name, is_listed, is_early, is_unknown, lists_again, finds_no_id}
 use Rattle.market_core.specs.Dated.{is_on}
 use Rattle.market_core.specs.AdmissionState.{AdmissionState, Represents, refusal_of, last_moment, is_out_of_order, is_listed_id, names_unlisted, lists_twice, lacks_room}
 use Rattle.rulebook.proofs.Places.{is_some-position}
@@ -66,7 +66,7 @@ is_none-is_some (Some x) = refl
 
 pub no_room : (A : List Record) (x : Record) → lacks_room (names A) x ≡ finds_no_id A x
 no_room A (in_.Listing t name k l c) =
-    ap (λ b. b && nat_le 16384 (length (names A))) (is_none-is_some (position (bytes_eq name) (names A)) ∙ ap not (is_some-position (bytes_eq name) (names A)))
+    ap (λ b. b && nat_le most_names (length (names A))) (is_none-is_some (position (bytes_eq name) (names A)) ∙ ap not (is_some-position (bytes_eq name) (names A)))
 no_room A (in_.Day t d c) = refl
 no_room A (in_.Trade t s n p q f) = refl
 no_room A (in_.Cancel t s n) = refl

@@ -9,7 +9,7 @@ use Rattle.wire_in.specs.declared.record.Record.TheVariants as in_
 use Rattle.wire_in.specs.declared.record.Refusal.{Refusal}
 use Rattle.wire_in.specs.declared.record.Refusal.TheVariants.{NoDay, OutOfOrder, UnknownSymbol, AlreadyListed, DirectoryFull, JournalFull}
 use Rattle.wire_in.specs.Records.{moment_of, is_day, symbol_of}
-use Rattle.rulebook.specs.Admission.{last_day, names, is_listed_name}
+use Rattle.rulebook.specs.Admission.{last_day, names, is_listed_name, most_names}
 use Rattle.market_core.specs.Dated.{is_on, are_up_to}
 
 -- The capacity of records, how many were admitted, the last day, the moment of the last record, the names ever listed,
@@ -59,7 +59,7 @@ lists_twice day dates directory (in_.Listing t name k l c) = option_map_or (is_l
 lists_twice day dates directory x = false
 
 abbrev pub is_full_for : List (List ℕ) → List ℕ → Bool
-is_full_for directory name = is_none (position (bytes_eq name) directory) && nat_le 16384 (length directory)
+is_full_for directory name = is_none (position (bytes_eq name) directory) && nat_le most_names (length directory)
 
 abbrev pub lacks_room : List (List ℕ) → Record → Bool
 lacks_room directory (in_.Listing t name k l c) = is_full_for directory name

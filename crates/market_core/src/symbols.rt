@@ -1,6 +1,7 @@
 // The symbols of a market, evaluated one after the other.
 ghost use Rattle.std.specs.Prelude.{◌≡◌, ◌+◌, ◌*◌, ◌≤◌, ◌++◌, ◌∷◌, [], false, OnOk, OnErr, IsOk, vec_len, vec_capacity, length};
 ghost use Rattle.wire_in.specs.Records.{moment_of};
+ghost use Rattle.symbol_core.specs.Evaluates.{most_of_symbol};
 ghost use Rattle.market_core.specs.Applied.{Appends, AppendsBelow};
 ghost use Rattle.market_core.specs.Kinds.{is_trade};
 ghost use Rattle.market_core.specs.Ruled.{stamped};
@@ -41,14 +42,14 @@ pub(crate) fn evaluate(
     said: &mut Vec<Message>,
     out: &mut Vec<Stamped>,
 ) -> Result<(), NoMemory>
-    requires said { 16 ≤ vec_capacity said.old }
-    requires room { vec_len out.old + 16 ≤ vec_capacity out.old }
+    requires said { most_of_symbol ≤ vec_capacity said.old }
+    requires room { vec_len out.old + most_of_symbol ≤ vec_capacity out.old }
     ensures ok { OnOk result (Appends market.now x.now symbol.old symbol.new out.old.items out.new.items) }
     ensures err { OnErr result ((symbol.new ≡ symbol.old) × (out.new.items ≡ out.old.items)) }
     ensures succeeds { is_trade x.now ≡ false → IsOk result }
-    ensures said { 16 ≤ vec_capacity said.new }
+    ensures said { most_of_symbol ≤ vec_capacity said.new }
     ensures room { vec_capacity out.old ≤ vec_capacity out.new }
-    ensures len { vec_len out.new ≤ vec_len out.old + 16 }
+    ensures len { vec_len out.new ≤ vec_len out.old + most_of_symbol }
 {
     said.clear();
     symbol.evaluate(x, market, said)?;
@@ -65,12 +66,12 @@ pub(crate) fn evaluate_each(
     out: &mut Vec<Stamped>,
 )
     requires kind { is_trade x.now ≡ false }
-    requires said { 16 ≤ vec_capacity said.old }
-    requires room { vec_len out.old + 16 * length symbols.old ≤ vec_capacity out.old }
+    requires said { most_of_symbol ≤ vec_capacity said.old }
+    requires room { vec_len out.old + most_of_symbol * length symbols.old ≤ vec_capacity out.old }
     ensures appends { AppendsBelow (length symbols.old) market.now x.now symbols.old symbols.new out.old.items out.new.items }
-    ensures said { 16 ≤ vec_capacity said.new }
+    ensures said { most_of_symbol ≤ vec_capacity said.new }
     ensures room { vec_capacity out.old ≤ vec_capacity out.new }
-    ensures len { vec_len out.new ≤ vec_len out.old + 16 * length symbols.old }
+    ensures len { vec_len out.new ≤ vec_len out.old + most_of_symbol * length symbols.old }
 {
     for i in 0..symbols.len() {
         let symbol = &mut symbols[i];

@@ -242,7 +242,11 @@ fn listings(alloc: Global, moment: Moment, end: u16) -> Result<Vec<Record>, Fail
 }
 
 /// An admission of a day and of these listings, each of which is admitted.
-fn admitted<R: Abort + AllocGlobal>(rt: &R, capacity: u64, xs: &[Record]) -> Result<Admission, Fail> {
+fn admitted<R: Abort + AllocGlobal>(
+    rt: &R,
+    capacity: u64,
+    xs: &[Record],
+) -> Result<Admission, Fail> {
     let mut admission = expect_verdicts(rt, capacity, &[(day(3)?, None)])?;
     for x in xs {
         assert_eq!(rt; tried(&mut admission, x)?, None, "at {x:?}");

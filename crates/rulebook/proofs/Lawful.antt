@@ -7,7 +7,7 @@ use Rattle.wire_in.specs.declared.record.Record.TheVariants as in_
 use Rattle.wire_in.specs.declared.record.Refusal.{Refusal}
 use Rattle.wire_in.specs.Records.{is_day}
 use Rattle.rulebook.specs.declared.event.Event.{Event}
-use Rattle.rulebook.specs.Admission.{names, with_name, is_among, is_early, is_unknown, lists_again, finds_no_id, verdict, IsLawful}
+use Rattle.rulebook.specs.Admission.{names, with_name, is_among, is_early, is_unknown, lists_again, finds_no_id, most_names, verdict, IsLawful}
 use Rattle.rulebook.specs.History.{records}
 use Rattle.rulebook.specs.Book.{history}
 use Rattle.rulebook.proofs.Histories.{records-history}
@@ -25,17 +25,17 @@ finds_id capacity A x e =
     let after_again = (passed (lists_again A x) _ _ after_unknown).1 in
     (passed (finds_no_id A x) _ _ after_again).0
 
-with_one_more : (ns : List (List ℕ)) (name : List ℕ) → length ns ≤ 16384 → (not (is_among ns name) && nat_le 16384 (length ns)) ≡ false → length (with_name ns name) ≤ 16384
+with_one_more : (ns : List (List ℕ)) (name : List ℕ) → length ns ≤ most_names → (not (is_among ns name) && nat_le most_names (length ns)) ≡ false → length (with_name ns name) ≤ most_names
 with_one_more ns name few room = by (is_among ns name) room where
-  at_number : (n : ℕ) → nat_le 16384 n ≡ false → n + 1 ≤ 16384
+  at_number : (n : ℕ) → nat_le most_names n ≡ false → n + 1 ≤ most_names
   at_number n e = grind (arith, nat_tests)
 
-  by : (b : Bool) → (not b && nat_le 16384 (length ns)) ≡ false → length (cond b ns (ns ++ name ∷ [])) ≤ 16384
+  by : (b : Bool) → (not b && nat_le most_names (length ns)) ≡ false → length (cond b ns (ns ++ name ∷ [])) ≤ most_names
   by true e = few
-  by false e = subst (λ (n : ℕ). n ≤ 16384) (sym (length-append ns (name ∷ []))) (at_number (length ns) e)
+  by false e = subst (λ (n : ℕ). n ≤ most_names) (sym (length-append ns (name ∷ []))) (at_number (length ns) e)
 
--- a lawful list has at most 16,384 names
-pub few_names : (capacity : ℕ) (A : List Record) → IsLawful capacity A → length (names A) ≤ 16384
+-- a lawful list has few enough names
+pub few_names : (capacity : ℕ) (A : List Record) → IsLawful capacity A → length (names A) ≤ most_names
 few_names capacity [] lawful = omega arith
 few_names capacity (in_.Listing t name k l c ∷ A) lawful = with_one_more (names A) name (few_names capacity A lawful.1) (finds_id capacity A (in_.Listing t name k l c) lawful.0)
 few_names capacity (in_.Day t d c ∷ A) lawful = few_names capacity A lawful.1
@@ -49,7 +49,7 @@ few_names capacity (in_.Indication t s p u ∷ A) lawful = few_names capacity A 
 
 -- and so has the history of all but its last record, with that one opened
 pub few_names_opened : (capacity : ℕ) (accepted earlier : List Record) (x : Record) (h : List Event) → IsLawful capacity accepted → accepted ≡ x ∷ earlier → h ≡ history earlier
-    → length (names (x ∷ records h)) ≤ 16384
+    → length (names (x ∷ records h)) ≤ most_names
 few_names_opened capacity accepted earlier x h lawful last is =
     let same : accepted ≡ x ∷ records h = last ∙ ap (λ (older : List Record). x ∷ older) (sym (ap records is ∙ records-history earlier)) in
-    subst (λ (newer : List Record). length (names newer) ≤ 16384) same (few_names capacity accepted lawful)
+    subst (λ (newer : List Record). length (names newer) ≤ most_names) same (few_names capacity accepted lawful)

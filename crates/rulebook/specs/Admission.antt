@@ -35,6 +35,10 @@ names [] = []
 names (in_.Listing t name k l c ∷ earlier) = with_name (names earlier) name
 names (x ∷ earlier) = names earlier
 
+-- the most names that are ever listed
+abbrev pub most_names : ℕ
+most_names = 16384
+
 abbrev pub id_of : List Record → List ℕ → Option ℕ
 id_of accepted name = position (bytes_eq name) (names accepted)
 
@@ -62,7 +66,7 @@ lists_again accepted (in_.Listing t name k l c) = is_listed_name accepted name
 lists_again accepted x = false
 
 abbrev pub finds_no_id : List Record → Record → Bool
-finds_no_id accepted (in_.Listing t name k l c) = not (is_among (names accepted) name) && nat_le 16384 (length (names accepted))
+finds_no_id accepted (in_.Listing t name k l c) = not (is_among (names accepted) name) && nat_le most_names (length (names accepted))
 finds_no_id accepted x = false
 
 -- the first refusal that applies after these records, under this capacity of records

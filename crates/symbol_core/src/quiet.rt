@@ -8,7 +8,6 @@ ghost use Rattle.symbol_core.specs.Pricing.{reference, time_changes};
 ghost use Rattle.symbol_core.specs.Quiet.{IsQuiet, IsRested, IsSettled, Lasts, SameAwaited};
 
 use crate::kept::{Kept, Step};
-use crate::records::is_tick;
 use crate::symbol::MarketView;
 use crate::turns::at_band;
 use refprice_core::is_in_opening_period;
@@ -118,7 +117,8 @@ impl Kept {
         match self.band {
             Some(last) if self.adoption(&last).has_stood(t) => u64::MAX,
             Some(_) => self.adopted.nanos() + THIRTY_SECONDS,
-            None if is_in_opening_period(self.begun_at(), t) => self.begun_at().nanos() + FIVE_MINUTES,
+            None if is_in_opening_period(self.begun_at(), t) => self.begun_at().nanos()
+                + FIVE_MINUTES,
             None => u64::MAX,
         }
     }
@@ -135,7 +135,7 @@ impl Kept {
     pub fn quiet(&self, step: &Step, deals: &SummedDeals) -> Option<Quiet>
         ensures { IsQuiet result self.now deals.now.deals }
     {
-        if !is_tick(&step.input)
+        if !step.input.is_tick()
             || !self.is_rested()
             || !self.is_settled(step)
             || !self.is_priced(step, deals)
