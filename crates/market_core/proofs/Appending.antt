@@ -1,6 +1,6 @@
 -- Symbols that are evaluated one after the other.
-use Rattle.std.proofs.Common.{◌≡◌, ℕ, Bool, true, zero, suc, ◌+◌, ◌<◌, ◌≤◌, ◌≢◌, List, [], ◌∷◌, length, get_or, ◌++◌, length-append, Option, Some, None, Result, Ok, Err, is_ok, cond, refl, sym, ap, subst, ◌∙◌, add-one, arith}
-use Rattle.std.specs.Prelude.{OnOk, slice_get, slice_set, position, unwrap_or}
+use Rattle.std.proofs.Common.{◌≡◌, ℕ, Bool, true, false, zero, suc, ◌+◌, ◌<◌, ◌≤◌, ◌≢◌, List, [], ◌∷◌, length, get_or, ◌++◌, length-append, Option, Some, None, Result, Ok, Err, is_ok, cond, refl, sym, ap, subst, ◌∙◌, add-one, true≢false, arith}
+use Rattle.std.specs.Prelude.{OnOk, slice_get, slice_set, position, unwrap_or, ◌==◌}
 use Rattle.std.specs.Str.{bytes_eq}
 use Rattle.std.proofs.lemmas.List.Quantifiers.{position-Some}
 use Rattle.std.proofs.lemmas.Option.{slice_get-get_or, slice_get_read}
@@ -9,13 +9,15 @@ use Rattle.price_core.specs.declared.error.NoMemory.{NoMemory}
 use Rattle.wire_in.specs.declared.record.Record.{Record}
 use Rattle.wire_in.specs.declared.record.Record.TheVariants as in_
 use Rattle.wire_in.specs.Records.{is_tick, symbol_of}
+use Rattle.wire_in.proofs.RecordKinds.{IsOther, of_symbol, tick}
 use Rattle.wire_out.specs.declared.message.Stamped.{Stamped}
 use Rattle.symbol_core.specs.declared.symbol.MarketView.{MarketView}
 use Rattle.rulebook.specs.declared.event.Event.{Event}
+use Rattle.rulebook.proofs.Ids.{same_id}
 use Rattle.symbol_core.specs.Rests.{Held, Rests}
 use Rattle.symbol_core.specs.Silent.{SaysNothing}
 use Rattle.market_core.specs.declared.market.Today.{Today}
-use Rattle.market_core.specs.Applied.{Appends, AppendsBelow, OneEvaluated, Evaluated, Ticks, Applies, Finds, Lists, OnToday}
+use Rattle.market_core.specs.Applied.{Appends, AppendsBelow, OneEvaluated, Evaluated, Ticks, ByTarget, Applies, Finds, Lists, OnToday}
 use Rattle.market_core.specs.AdmissionState.{added}
 use Rattle.market_core.specs.MarketState.{MarketState}
 use Rattle.market_core.specs.Ruled.{view_of}
@@ -31,6 +33,18 @@ pub get-set_same : {X : Type 0} (xs : List X) (i : ℕ) (v : X) → i < length x
 get-set_same [] i v lt = absurd (omega arith)
 get-set_same (x ∷ xs) zero v lt = refl
 get-set_same (x ∷ xs) (suc i) v lt = get-set_same xs i v (omega arith)
+
+-- what holds of the element at s, and of each other element at its index, holds of each
+pub at_each : {X : Type 0} (P : ℕ → X → Type 0) (s : ℕ) (is : X) (xs : List X) → slice_get xs s ≡ Some is → P s is
+    → ((k : ℕ) (x : X) → (k == s) ≡ false → slice_get xs k ≡ Some x → P k x) → (k : ℕ) (x : X) → slice_get xs k ≡ Some x → P k x
+at_each P s is xs at here others k x e = by (k == s) refl where
+  by : (b : Bool) → (k == s) ≡ b → P k x
+  by true same =
+      let index : k ≡ s = same_id k s same in
+      let there : slice_get xs k ≡ Some is = subst (λ (j : ℕ). slice_get xs j ≡ Some is) (sym index) at in
+      let element : is ≡ x = cc in
+      subst (P k) element (subst (λ (j : ℕ). P j is) (sym index) here)
+  by false apart = others k x apart e
 
 below_set : (n : ℕ) (market : MarketView) (x : Record) (old new : List Held) (i : ℕ) (v : Held) (before after : List Stamped) → n ≤ i
     → AppendsBelow n market x old new before after → AppendsBelow n market x old (slice_set new i v) before after
@@ -75,31 +89,31 @@ one_evaluated (Ok u) s x old directory on today symbols market was is begun befo
     })
 one_evaluated (Err u) s x old directory on today symbols market was is begun before after seen day view lt item unsaid appends = tt
 
--- a record that names its symbol by an id is applied to that
+-- a record that begins no day and lists no name is applied to the symbol that it names, or to all
+applies_other : (x : Record) (old new : MarketState) (before after : List Stamped) → IsOther x → ByTarget (symbol_of x) x old new before after
+    → Applies x old new before after
+applies_other (in_.Day t d c) old new before after is by = absurd (true≢false is.no_day)
+applies_other (in_.Listing t n k l c) old new before after is by = absurd (let no = is.no_name in cc)
+applies_other (in_.Trade t i n p q f) old new before after is by = by
+applies_other (in_.Cancel t i n) old new before after is by = by
+applies_other (in_.Quote t i b o y z) old new before after is by = by
+applies_other (in_.IndexTick t v) old new before after is by = by
+applies_other (in_.Clock t) old new before after is by = by
+applies_other (in_.Notice t i k) old new before after is by = by
+applies_other (in_.Indication t i p u) old new before after is by = by
+
 pub own_applies : (r : Result (Unit {0}) NoMemory) (s : ℕ) (x : Record) (old new : MarketState) (before after : List Stamped) → symbol_of x ≡ Some s
     → OnOk r (Evaluated s x old new before after) → OnOk r (Applies x old new before after)
 own_applies (Err u) s x old new before after e one = tt
-own_applies (Ok u) s (in_.Day t d c) old new before after e one = absurd cc
-own_applies (Ok u) s (in_.Listing t n k l c) old new before after e one = absurd cc
-own_applies (Ok u) s (in_.IndexTick t v) old new before after e one = absurd cc
-own_applies (Ok u) s (in_.Clock t) old new before after e one = absurd cc
-own_applies (Ok u) s (in_.Trade t i n p q f) old new before after e one = let same : s ≡ i = cc in subst (λ (k : ℕ). Evaluated k (in_.Trade t i n p q f) old new before after) same one
-own_applies (Ok u) s (in_.Cancel t i n) old new before after e one = let same : s ≡ i = cc in subst (λ (k : ℕ). Evaluated k (in_.Cancel t i n) old new before after) same one
-own_applies (Ok u) s (in_.Quote t i b o y z) old new before after e one = let same : s ≡ i = cc in subst (λ (k : ℕ). Evaluated k (in_.Quote t i b o y z) old new before after) same one
-own_applies (Ok u) s (in_.Notice t i k) old new before after e one = let same : s ≡ i = cc in subst (λ (j : ℕ). Evaluated j (in_.Notice t i k) old new before after) same one
-own_applies (Ok u) s (in_.Indication t i p w) old new before after e one = let same : s ≡ i = cc in subst (λ (k : ℕ). Evaluated k (in_.Indication t i p w) old new before after) same one
+own_applies (Ok u) s x old new before after e one =
+    applies_other x old new before after (of_symbol x s e).other (subst (λ (o : Option ℕ). ByTarget o x old new before after) (sym e) one)
 
-pub tick_applies : (r : Result (Unit {0}) NoMemory) (x : Record) (old new : MarketState) (before after : List Stamped) → is_tick x ≡ true → OnOk r (Ticks x old new before after) → OnOk r (Applies x old new before after)
+pub tick_applies : (r : Result (Unit {0}) NoMemory) (x : Record) (old new : MarketState) (before after : List Stamped) → is_tick x ≡ true
+    → OnOk r (Ticks x old new before after) → OnOk r (Applies x old new before after)
 tick_applies (Err u) x old new before after e ticks = tt
-tick_applies (Ok u) (in_.IndexTick t v) old new before after e ticks = ticks
-tick_applies (Ok u) (in_.Clock t) old new before after e ticks = ticks
-tick_applies (Ok u) (in_.Day t d c) old new before after e ticks = absurd cc
-tick_applies (Ok u) (in_.Listing t n k l c) old new before after e ticks = absurd cc
-tick_applies (Ok u) (in_.Trade t i n p q f) old new before after e ticks = absurd cc
-tick_applies (Ok u) (in_.Cancel t i n) old new before after e ticks = absurd cc
-tick_applies (Ok u) (in_.Quote t i b o y z) old new before after e ticks = absurd cc
-tick_applies (Ok u) (in_.Notice t i k) old new before after e ticks = absurd cc
-tick_applies (Ok u) (in_.Indication t i p w) old new before after e ticks = absurd cc
+tick_applies (Ok u) x old new before after e ticks =
+    let only = tick x e in
+    applies_other x old new before after only.other (subst (λ (o : Option ℕ). ByTarget o x old new before after) (sym only.no_symbol) ticks)
 
 -- the id that is found for a name is that of a symbol
 pub id_within : (name : List ℕ) (s : ℕ) (old new : MarketState) → Finds name s old new → s < length new.symbols

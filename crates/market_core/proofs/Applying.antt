@@ -15,6 +15,7 @@ use Rattle.session_core.specs.declared.state.Level.{Level}
 use Rattle.wire_in.specs.declared.record.Record.{Record}
 use Rattle.wire_in.specs.declared.record.Record.TheVariants as in_
 use Rattle.wire_in.specs.Records.{moment_of, is_day, is_tick, symbol_of}
+use Rattle.wire_in.proofs.RecordKinds.{by_name, by_tick}
 use Rattle.wire_out.specs.declared.message.Message.{Message}
 use Rattle.wire_out.specs.declared.message.Message.TheVariants.{MarketResume}
 use Rattle.wire_out.specs.declared.message.Stamped.{Stamped}
@@ -29,6 +30,7 @@ use Rattle.rulebook.specs.Market.{day_record, halt_in, market_halt, greatest_in,
 use Rattle.rulebook.proofs.Histories.{own_part, parts, market_part, tick-part, publish-append, records-history, in_order, step_messages-publish, last_day-day_record, first_part}
 use Rattle.rulebook.proofs.Ids.{listed-below}
 use Rattle.rulebook.proofs.Listings.{own_name}
+use Rattle.rulebook.proofs.OtherRecords.{day_record-same, names-same}
 use Rattle.rulebook.proofs.Places.{is_some-position}
 use Rattle.rulebook.proofs.Speakers.{AllOfSymbols, of_symbol, own_part-by, by_other, parts-of_symbols, greatest-publish, market_halt-publish}
 use Rattle.symbol_core.specs.Rests.{Held, Rests}
@@ -40,7 +42,7 @@ use Rattle.market_core.specs.MarketState.{MarketState, Represents, SymbolsRepres
 use Rattle.market_core.specs.Ruled.{stamped, resumption, with_level_on, ruled, ruling, view_of}
 use Rattle.market_core.proofs.Admitting.{passes, added_name}
 use Rattle.market_core.proofs.Resting.{says-on, of_others, of_none}
-use Rattle.market_core.proofs.Stepping.{opened, day-kept, Begun, own_step, own_symbol, agree-before}
+use Rattle.market_core.proofs.Stepping.{opened, Begun, own_step, own_symbol, agree-before}
 use Rattle.market_core.proofs.Appending.{id_within}
 use Rattle.market_core.proofs.Ticking.{Ticked, ToldBelow, told_below, day_below, ruled_history, parts_to, before_id, history-before, none-before}
 use Rattle.market_core.proofs.Verdicts.{no_room}
@@ -150,33 +152,25 @@ clock_kept false t h d = refl
 
 -- they publish what the definitions say
 ruling-part : (x : Record) (A : List Record) (d : Day × ℕ) → is_tick x ≡ true → day_record A ≡ Some d → ruling x (day_of A d) ≡ market_part x (opened x A)
-ruling-part (in_.Clock t) A d e on = sym (append-nil (resumption t (day_of A d)))
-ruling-part (in_.IndexTick t value) A d e on =
-    ap (λ (ms : List Message). resumption t (day_of A d) ++ ms) (sym (declared (ends t (market_halt (history A))) t value (history A) d (day_recorded A d on)))
-ruling-part (in_.Day t day c) A d e on = absurd cc
-ruling-part (in_.Listing t n k l c) A d e on = absurd cc
-ruling-part (in_.Trade t s n p q f) A d e on = absurd cc
-ruling-part (in_.Cancel t s n) A d e on = absurd cc
-ruling-part (in_.Quote t s b o y z) A d e on = absurd cc
-ruling-part (in_.Notice t s k) A d e on = absurd cc
-ruling-part (in_.Indication t s p u) A d e on = absurd cc
+ruling-part x A d e on =
+    by_tick (λ y. ruling y (day_of A d) ≡ market_part y (opened y A)) (λ t. sym (append-nil (resumption t (day_of A d))))
+    (λ t value. ap (λ (ms : List Message). resumption t (day_of A d) ++ ms)
+    (sym (declared (ends t (market_halt (history A))) t value (history A) d (day_recorded A d on)))) x e
 
 -- and leave the day as the history has it
 ruled-history : (x : Record) (A : List Record) (d : Day × ℕ) → is_tick x ≡ true → day_record A ≡ Some d → ruled x (day_of A d) ≡ day_in (ruled_history x A) d
-ruled-history (in_.Clock t) A d e on =
-    clock_kept (ends t (market_halt (history A))) t (history A) d
-    ∙ ap (λ (ms : List Message). day_in (publish ms (opened (in_.Clock t) A)) d) (sym (append-nil (resumption t (day_of A d))))
-ruled-history (in_.IndexTick t value) A d e on =
-    let x = in_.IndexTick t value in
-    tick_kept (ends t (market_halt (history A))) t value A d on
-    ∙ ap (λ (h : List Event). day_in h d) (sym (publish-append (resume_at x (opened x A)) (declare_at x (publish (resume_at x (opened x A)) (opened x A))) (opened x A)))
-ruled-history (in_.Day t day c) A d e on = absurd cc
-ruled-history (in_.Listing t n k l c) A d e on = absurd cc
-ruled-history (in_.Trade t s n p q f) A d e on = absurd cc
-ruled-history (in_.Cancel t s n) A d e on = absurd cc
-ruled-history (in_.Quote t s b o y z) A d e on = absurd cc
-ruled-history (in_.Notice t s k) A d e on = absurd cc
-ruled-history (in_.Indication t s p u) A d e on = absurd cc
+ruled-history x A d e on = by_tick (λ y. ruled y (day_of A d) ≡ day_in (ruled_history y A) d) clock index x e where
+  clock : (t : ℕ) → ruled (in_.Clock t) (day_of A d) ≡ day_in (ruled_history (in_.Clock t) A) d
+  clock t =
+      clock_kept (ends t (market_halt (history A))) t (history A) d
+      ∙ ap (λ (ms : List Message). day_in (publish ms (opened (in_.Clock t) A)) d) (sym (append-nil (resumption t (day_of A d))))
+
+  index : (t value : ℕ) → ruled (in_.IndexTick t value) (day_of A d) ≡ day_in (ruled_history (in_.IndexTick t value) A) d
+  index t value =
+      let x = in_.IndexTick t value in
+      tick_kept (ends t (market_halt (history A))) t value A d on
+      ∙ ap (λ (h : List Event). day_in h d)
+      (sym (publish-append (resume_at x (opened x A)) (declare_at x (publish (resume_at x (opened x A)) (opened x A))) (opened x A)))
 
 -- messages of symbols leave it
 day_in-publish : (ms : List Message) (h : List Event) (d : Day × ℕ) → AllOfSymbols ms → day_in (publish ms h) d ≡ day_in h d
@@ -199,25 +193,20 @@ on_day kept A d s on = s.today ∙ ap (option_map (day_of A)) on
 
 -- the day of the list with one more record
 next_day : (x : Record) (A : List Record) (d : Day × ℕ) (kept : Today) → is_day x ≡ false → day_record A ≡ Some d → kept ≡ day_of (x ∷ A) d → Some kept ≡ option_map (day_of (x ∷ A)) (day_record (x ∷ A))
-next_day x A d kept no_day on e = ap (λ (today : Today). Some today) e ∙ sym (ap (option_map (day_of (x ∷ A))) (day-kept x A no_day ∙ on))
+next_day x A d kept no_day on e = ap (λ (today : Today). Some today) e ∙ sym (ap (option_map (day_of (x ∷ A))) (day_record-same x A no_day ∙ on))
 
 -- what an admissible record leaves
 abbrev pub Goes : Record → List Record → MarketState → List Stamped → List Stamped → Type 0
 Goes x A new before after = (after ≡ before ++ newest_messages (x ∷ A)) × Represents new (x ∷ A)
 
 names-grow : (x : Record) (A : List Record) → length (names A) ≤ length (names (x ∷ A))
-names-grow (in_.Listing t n k l c) A = by (is_among (names A) n) where
-  by : (b : Bool) → length (names A) ≤ length (cond b (names A) (names A ++ n ∷ []))
-  by true = omega arith
-  by false = omega (arith, length-append (names A) (n ∷ []))
-names-grow (in_.Day t d c) A = omega arith
-names-grow (in_.Trade t s n p q f) A = omega arith
-names-grow (in_.Cancel t s n) A = omega arith
-names-grow (in_.Quote t s b o y z) A = omega arith
-names-grow (in_.IndexTick t v) A = omega arith
-names-grow (in_.Clock t) A = omega arith
-names-grow (in_.Notice t s k) A = omega arith
-names-grow (in_.Indication t s p u) A = omega arith
+names-grow x A =
+    by_name (λ y. length (names A) ≤ length (names (y ∷ A))) (λ t n k l c. by n (is_among (names A) n))
+    (λ y e. let same = names-same y A e in subst (λ (ns : List (List ℕ)). length (names A) ≤ length ns) (sym same) (omega arith)) x
+  where
+    by : (n : List ℕ) (b : Bool) → length (names A) ≤ length (cond b (names A) (names A ++ n ∷ []))
+    by n true = omega arith
+    by n false = omega (arith, length-append (names A) (n ∷ []))
 
 -- A record of one symbol.
 

@@ -267,13 +267,10 @@ impl Market {
                 self.begin_day(Today { day, breaker }, x, out)
             }
             Record::Listing { name, .. } => self.list(name, x, out),
-            Record::IndexTick { .. } => self.tick(x, out),
-            Record::Clock { .. } => self.tick(x, out),
-            Record::Trade { symbol, .. }
-            | Record::Cancel { symbol, .. }
-            | Record::Quote { symbol, .. }
-            | Record::Notice { symbol, .. }
-            | Record::Indication { symbol, .. } => self.evaluate(symbol, x, out),
+            _ => match x.symbol() {
+                Some(symbol) => self.evaluate(symbol, x, out),
+                None => self.tick(x, out),
+            },
         }
     }
 

@@ -1,6 +1,6 @@
 -- The history of a list of accepted records, the newest first: each step is evaluated afresh from the whole history before
 -- it.
-use Rattle.std.specs.Prelude.{ℕ, zero, suc, Bool, true, false, Option, Some, None, List, [], ◌∷◌, ◌++◌, ◌==◌, if◌then◌else◌, length, filter}
+use Rattle.std.specs.Prelude.{ℕ, zero, suc, Bool, false, Option, Some, None, List, [], ◌∷◌, ◌++◌, ◌==◌, if◌then◌else◌, length, filter}
 use Rattle.std.specs.Option.{option_map_or}
 use Rattle.session_core.specs.declared.day.Day.{Day}
 use Rattle.wire_in.specs.declared.record.Record.{Record}
@@ -12,7 +12,7 @@ use Rattle.wire_out.specs.declared.message.ShortKind.TheVariants.{Carried}
 use Rattle.wire_out.specs.declared.message.Stamped.{Stamped}
 use Rattle.pause_core.specs.Phases.{is_done}
 use Rattle.rulebook.specs.declared.event.Event.{Event}
-use Rattle.rulebook.specs.declared.event.Event.TheVariants.{Accepted, Published}
+use Rattle.rulebook.specs.declared.event.Event.TheVariants.{Accepted}
 use Rattle.rulebook.specs.Admission.{names, id_of, is_listed}
 use Rattle.rulebook.specs.History.{now, records, messages, step_messages, publish}
 use Rattle.rulebook.specs.Market.{resume_at, declare_at, day_record}

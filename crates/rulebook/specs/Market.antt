@@ -1,5 +1,5 @@
 -- The market-wide circuit breakers (NYSE Rule 7.12).
-use Rattle.std.specs.Prelude.{ℕ, Bool, true, false, Option, Some, None, List, [], ◌∷◌, if◌then◌else◌, ◌&&◌, is_some, max}
+use Rattle.std.specs.Prelude.{ℕ, Bool, Option, Some, None, List, [], ◌∷◌, if◌then◌else◌, ◌&&◌, is_some, max}
 use Rattle.std.specs.Option.{option_map_or}
 use Rattle.session_core.specs.declared.day.Day.{Day}
 use Rattle.session_core.specs.declared.state.Level.{Level}
@@ -11,7 +11,7 @@ use Rattle.wire_out.specs.declared.message.Message.TheVariants.{Breaker, MarketR
 use Rattle.breaker_core.specs.declared.breaker.Halt.{Halt}
 use Rattle.breaker_core.specs.Levels.{percent_of, ends, declares}
 use Rattle.rulebook.specs.declared.event.Event.{Event}
-use Rattle.rulebook.specs.declared.event.Event.TheVariants.{Accepted, Published}
+use Rattle.rulebook.specs.declared.event.Event.TheVariants.{Published}
 use Rattle.rulebook.specs.History.{now, today, records}
 
 -- the last day record's day, and its index close
