@@ -14,9 +14,10 @@ use Rattle.session_core.specs.Dates.{Civil, date_number}
 use Rattle.wire_in.specs.declared.record.Record.{Record}
 use Rattle.wire_in.specs.declared.record.Record.TheVariants as in_
 use Rattle.wire_in.specs.declared.record.Refusal.{Refusal}
+use Rattle.wire_in.specs.Records.{moment_of}
 use Rattle.rulebook.specs.Admission.{names, is_listed_name, with_name}
 use Rattle.market_core.specs.Dated.{is_on, is_up_to, are_up_to}
-use Rattle.market_core.specs.AdmissionState.{AdmissionState, Represents, refusal_of, is_date_early, added, dates_listed, admitted_with}
+use Rattle.market_core.specs.AdmissionState.{AdmissionState, Represents, refusal_of, is_date_early, added, day_after, directory_after, dates_after, dates_listed, admitted_with}
 use Rattle.rulebook.proofs.Listings.{own_name}
 use Rattle.rulebook.proofs.Places.{is_some-position}
 use Rattle.rulebook.proofs.Ids.{one_place}
@@ -151,7 +152,12 @@ stands-admitted a A (in_.Clock t) s passed = record { count = omega (arith, s.co
 stands-admitted a A (in_.Notice t y k) s passed = record { count = omega (arith, s.count); day = s.day; last = refl; directory = s.directory; listed = s.listed; dated = s.dated }
 stands-admitted a A (in_.Indication t y p u) s passed = record { count = omega (arith, s.count); day = s.day; last = refl; directory = s.directory; listed = s.listed; dated = s.dated }
 
-pub kept_stands : (r : Result (Unit {0}) NoMemory) (old new : AdmissionState) (A : List Record) (x : Record) → Represents old A → refusal_of old x ≡ None
-    → OnOk r (new ≡ admitted_with old x) → OnOk r (Represents new (x ∷ A))
-kept_stands (Ok y) old new A x s passed is = subst (λ v. Represents v (x ∷ A)) (sym is) (stands-admitted old A x s passed)
-kept_stands (Err e) old new A x s passed is = tt
+-- what is kept once the last moment is kept, and one more record is counted
+abbrev counted : AdmissionState → ℕ → AdmissionState
+counted a moment = record a { count = a.count + 1; last = moment }
+
+pub counted_stands : (kept old : AdmissionState) (moment : ℕ) (A : List Record) (x : Record) → Represents old A → refusal_of old x ≡ None
+    → kept ≡ record old { day = day_after old.day x; directory = directory_after old.directory x; dates = dates_after old x }
+    → moment ≡ moment_of x → Represents (counted kept moment) (x ∷ A)
+counted_stands kept old moment A x s passed is at =
+    subst (λ v. Represents v (x ∷ A)) (sym (λ i. counted (is i) (at i))) (stands-admitted old A x s passed)

@@ -1,15 +1,13 @@
 ghost use Rattle.std.specs.Prelude.{◌≡◌, ◌<◌, ◌≤◌, ◌∷◌, ◌++◌, [], None, length, position, OnOk, OnErr, IfOk};
 ghost use Rattle.std.specs.Str.{bytes_eq};
 ghost use Rattle.rulebook.specs.Admission.{most_names};
-ghost use Rattle.market_core.specs.AdmissionState.{is_full_for};
 
 use indexmap::IndexSet;
 use price_core::NoMemory;
-use rulebook::MOST_NAMES;
 use std::alloc::Global;
 use std::marker::Model;
 
-/// The names that were ever listed, in order of their first listing: the place of a name is its id.
+/// The names that were ever listed, in order of their first listing: the index of a name is its id.
 #[derive(Drop)]
 pub struct Directory {
     names: IndexSet<[u8; 8]>,
@@ -62,11 +60,4 @@ impl Directory {
         let (id, _) = self.names.insert_full(name)?;
         Ok(id as u16)
     }
-}
-
-/// Whether a name is new to names that are full.
-pub(crate) fn is_full_for(directory: &Directory, name: [u8; 8]) -> bool
-    ensures { result ≡ is_full_for directory.now name }
-{
-    directory.id(name).is_none() && directory.len() >= MOST_NAMES
 }

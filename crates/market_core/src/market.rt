@@ -1,4 +1,4 @@
-ghost use Rattle.std.specs.Prelude.{◌≡◌, ◌+◌, ◌*◌, ◌<◌, ◌≤◌, ◌++◌, ◌∷◌, ℕ, [], true, false, List, None, OnOk, OnErr, IfOk, IsOk, IsSome, vec_len, vec_capacity, position, option_map, length};
+ghost use Rattle.std.specs.Prelude.{◌≡◌, ◌+◌, ◌*◌, ◌<◌, ◌≤◌, ◌++◌, ◌∷◌, ℕ, [], true, false, List, None, OnOk, OnErr, IfOk, IsOk, IsSome, IsSomeAnd, vec_len, vec_capacity, position, option_map, length};
 ghost use Rattle.std.specs.Str.{bytes_eq};
 ghost use Rattle.wire_in.specs.declared.record.Record.{Record};
 ghost use Rattle.wire_in.specs.Records.{moment_of, name_of, is_day, is_tick};
@@ -12,8 +12,8 @@ ghost use Rattle.market_core.specs.Kinds.{is_trade};
 ghost use Rattle.market_core.specs.Isolation.{newest_isolated};
 ghost use Rattle.market_core.specs.AdmissionState.{is_full_for, lacks_room, added};
 
-use crate::directory::{Directory, is_full_for};
-use crate::symbols::{evaluate, evaluate_each, put};
+use crate::directory::Directory;
+use crate::symbols::{append, evaluate, evaluate_each};
 use breaker_core::Breaker;
 use price_core::{Index, NoMemory};
 use rulebook::MOST_NAMES;
@@ -68,7 +68,7 @@ impl Today {
         ensures len { vec_len out.new ≤ vec_len out.old + 1 }
     {
         if self.breaker.time(t) {
-            put(out, t, Message::MarketResume);
+            append(out, t, Message::MarketResume);
         }
     }
 
@@ -81,7 +81,7 @@ impl Today {
         ensures len { vec_len out.new ≤ vec_len out.old + 1 }
     {
         if let Some(level) = self.breaker.index(t, index, &self.day) {
-            put(out, t, Message::Breaker { level, index });
+            append(out, t, Message::Breaker { level, index });
         }
     }
 
@@ -155,7 +155,8 @@ impl Market {
         ensures room { vec_len out.old + most_of_symbol * length self.old.directory ≤ vec_capacity out.old → IsOk result }
         ensures keeps_room { vec_capacity out.old ≤ vec_capacity out.new }
     {
-        let _day = matches!(x, Record::Day { .. });
+        // For the proof: it says of the record what the condition says.
+        let _day = x.is_day();
         out.reserve(MOST_OF_SYMBOL * self.symbols.len())?;
         let market = today.view();
         self.today = Some(today);
@@ -194,12 +195,12 @@ impl Market {
             return Ok(());
         };
         let market = today.view();
-        let place = id as usize;
-        if self.symbols.len() <= place {
+        let index = id as usize;
+        if self.symbols.len() <= index {
             return Ok(());
         }
         out.reserve(MOST_OF_SYMBOL)?;
-        let symbol = &mut self.symbols[place];
+        let symbol = &mut self.symbols[index];
         evaluate(symbol, x, &market, &mut self.said, out)
     }
 
@@ -217,20 +218,22 @@ impl Market {
         Ok(id)
     }
 
-    /// The symbol of a name, which is made where the name is new.
-    fn find(&mut self, name: [u8; 8]) -> Result<u16, NoMemory>
-        requires { is_full_for self.old.directory name ≡ false }
-        ensures ok { IfOk result (λ id. Finds name id self.old self.new) }
+    /// The symbol of a name, which is made where the name is new. A new name that finds no room has none, and leaves all
+    /// as it was.
+    fn find(&mut self, name: [u8; 8]) -> Result<Option<u16>, NoMemory>
+        ensures ok { is_full_for self.old.directory name ≡ false → IfOk result (λ found. IsSomeAnd found (λ id. Finds name id self.old self.new)) }
         ensures err { OnErr result (self.new ≡ self.old) }
     {
+        // For the proof: it has the invariant, that there are as many symbols as names.
         let _symbols = self.symbols.len();
         match self.directory.id(name) {
-            Some(id) => Ok(id),
-            None => self.make(name),
+            Some(id) => Ok(Some(id)),
+            None if self.directory.len() >= MOST_NAMES => Ok(None),
+            None => Ok(Some(self.make(name)?)),
         }
     }
 
-    /// Lists a name, and evaluates its symbol. A new name is let alone where the directory is full, since admission
+    /// Lists a name, and evaluates its symbol. Where the directory is full it leaves a new name out, since admission
     /// refuses it.
     fn list(&mut self, name: [u8; 8], x: &Record, out: &mut Vec<Stamped>) -> Result<(), NoMemory>
         requires { is_trade x.now ≡ false }
@@ -239,16 +242,16 @@ impl Market {
         ensures len { vec_len out.new ≤ vec_len out.old + most_of_symbol }
         ensures keeps_room { vec_capacity out.old ≤ vec_capacity out.new }
     {
-        if is_full_for(&self.directory, name) {
-            return Ok(());
-        }
         out.reserve(MOST_OF_SYMBOL)?;
-        let id = self.find(name)?;
+        let Some(id) = self.find(name)? else {
+            return Ok(());
+        };
         self.evaluate(id, x, out).unwrap();
         Ok(())
     }
 
-    /// Applies a record, by what is kept.
+    /// Applies a record, by what is kept. It is a function of its own so that what the code does at a record is one fact, from
+    /// which the clauses of `apply` follow.
     fn keep(&mut self, x: &Record, out: &mut Vec<Stamped>) -> Result<(), NoMemory>
         ensures ok { lacks_room self.old.directory x.now ≡ false → OnOk result (Applies x.now self.old self.new out.old.items out.new.items) }
         ensures err { OnErr result ((self.new ≡ self.old) × (out.new.items ≡ out.old.items)) }
@@ -256,6 +259,7 @@ impl Market {
         ensures room { name_of x.now ≡ None → is_trade x.now ≡ false → vec_len out.old + most_of_names (length self.old.directory) ≤ vec_capacity out.old → IsOk result }
         ensures keeps_room { vec_capacity out.old ≤ vec_capacity out.new }
     {
+        // For the proof: it has the invariant, that the names are few enough.
         let _names = self.directory.len();
         match *x {
             Record::Day {
@@ -277,7 +281,7 @@ impl Market {
     /// Applies a record that is admissible after the applied ones, and appends the messages of its step. What it appends
     /// of one symbol is what that symbol says alone, over its own records and the market-wide ones. An error
     /// leaves market and list as they were. It takes no memory where the record is neither a Listing nor a Trade and
-    /// the list has room for 2 messages and 16 for each name. The list keeps its room.
+    /// the list has room for two messages and 16 for each name. The list keeps its room.
     pub fn apply(&mut self, x: &Record, out: &mut Vec<Stamped>) -> Result<(), NoMemory>
         ensures given { (capacity : ℕ) (applied : List Record) → Represents self.old applied → verdict capacity applied x.now ≡ None
             → OnOk result (out.new.items ≡ out.old.items ++ newest_messages (x.now ∷ applied)) }

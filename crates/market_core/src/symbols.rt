@@ -12,8 +12,8 @@ use symbol_core::{MarketView, Symbol};
 use wire_in::Record;
 use wire_out::{Message, Stamped};
 
-/// Puts a message into a list that has room for it.
-pub(crate) fn put(out: &mut Vec<Stamped>, moment: Moment, message: Message)
+/// Appends a message to a list that has room for it.
+pub(crate) fn append(out: &mut Vec<Stamped>, moment: Moment, message: Message)
     requires { vec_len out.old + 1 ≤ vec_capacity out.old }
     ensures items { out.new.items ≡ out.old.items ++ record { moment = moment; message = message } ∷ [] }
     ensures room { vec_capacity out.old ≤ vec_capacity out.new }
@@ -22,7 +22,7 @@ pub(crate) fn put(out: &mut Vec<Stamped>, moment: Moment, message: Message)
     out.push(Stamped { moment, message }).unwrap();
 }
 
-/// Puts messages of one moment into a list that has room for them.
+/// Appends messages of one moment to a list that has room for them.
 fn stamp(said: &[Message], moment: Moment, out: &mut Vec<Stamped>)
     requires { vec_len out.old + length said.now ≤ vec_capacity out.old }
     ensures items { out.new.items ≡ out.old.items ++ stamped moment said.now }
@@ -30,7 +30,7 @@ fn stamp(said: &[Message], moment: Moment, out: &mut Vec<Stamped>)
     ensures len { vec_len out.new ≡ vec_len out.old + length said.now }
 {
     for message in said {
-        put(out, moment, *message);
+        append(out, moment, *message);
     }
 }
 
