@@ -52,7 +52,7 @@ below_set zero market x old new i v before after le t = t
 below_set (suc n) market x old new i v before after le (middle, earlier, last) =
     (middle, below_set n market x old new i v before middle (omega arith) earlier, record { was = last.was; is = last.is; found = last.found; left = get-set_other new i v n (omega arith) ∙ last.left; appends = last.appends })
 
--- the next symbol, where the code has it as the element at its place
+-- the next symbol, where the code has it as the element at its index
 pub one_more : (r : Result (Unit {0}) NoMemory) (y : Unit {0}) (i : ℕ) (market : MarketView) (x : Record) (old new : List Held) (d is : Held) (before middle after : List Stamped) → i < length new
     → ((k : ℕ) → i ≤ k → slice_get new k ≡ slice_get old k) → AppendsBelow i market x old new before middle
     → r ≡ Ok y → OnOk r (Appends market x (get_or new i d) is middle after) → AppendsBelow (i + 1) market x old (slice_set new i is) before after
@@ -65,7 +65,7 @@ one_more (Err u) y i market x old new d is before middle after lt later earlier 
 pub later_more : (i : ℕ) (old new : List Held) (is : Held) → ((k : ℕ) → i ≤ k → slice_get new k ≡ slice_get old k) → (k : ℕ) → i + 1 ≤ k → slice_get (slice_set new i is) k ≡ slice_get old k
 later_more i old new is later k le = get-set_other new i is k (omega arith) ∙ later k (omega arith)
 
--- one symbol of a market is evaluated, and the others are let alone
+-- one symbol of a market is evaluated, and the others are left as they were
 pub one_evaluated : (r : Result (Unit {0}) NoMemory) (s : ℕ) (x : Record) (old : MarketState) (directory : List (List ℕ)) (on : Option Today) (today : Today) (symbols : List Held) (market : MarketView)
     (was is : Held) (begun before after : List Stamped) → record { directory = directory; today = on; symbols = symbols } ≡ old → on ≡ Some today → market ≡ view_of today → s < length symbols
     → was ≡ get_or symbols s was → begun ≡ before → OnOk r (Appends market x was is begun after)
@@ -147,12 +147,12 @@ get-last [] y z (suc k) le e = absurd cc
 get-last (x ∷ xs) y z zero le e = absurd (omega arith)
 get-last (x ∷ xs) y z (suc k) le e = let rest = get-last xs y z k (omega arith) e in (ap suc rest.0, rest.1)
 
-pub makes : {E : Type 0} (r : Result (Unit {0}) E) (u : Unit {0}) (name : List ℕ) (id place : ℕ) (old : MarketState) (directory with_name : List (List ℕ)) (on : Option Today) (symbols room with_symbol : List Held) (held : Held)
-    → record { directory = directory; today = on; symbols = symbols } ≡ old → position (bytes_eq name) old.directory ≡ None → length symbols ≡ length directory → id ≡ length directory → place ≡ length directory
-    → held.kept.id ≡ place → ((own : List ℕ → Bool) (h : List Event) → SaysNothing own place h → Rests own held h) → with_name ≡ directory ++ name ∷ [] → room ≡ symbols
+pub makes : {E : Type 0} (r : Result (Unit {0}) E) (u : Unit {0}) (name : List ℕ) (id index : ℕ) (old : MarketState) (directory with_name : List (List ℕ)) (on : Option Today) (symbols room with_symbol : List Held) (held : Held)
+    → record { directory = directory; today = on; symbols = symbols } ≡ old → position (bytes_eq name) old.directory ≡ None → length symbols ≡ length directory → id ≡ length directory → index ≡ length directory
+    → held.kept.id ≡ index → ((own : List ℕ → Bool) (h : List Event) → SaysNothing own index h → Rests own held h) → with_name ≡ directory ++ name ∷ [] → room ≡ symbols
     → r ≡ Ok u → with_symbol ≡ cond (is_ok r) (room ++ held ∷ []) room
     → Finds name id old (record { directory = with_name; today = on; symbols = with_symbol })
-makes r u name id place old directory with_name on symbols room with_symbol held seen fresh as_many id_is place_is held_is rests named same done pushed =
+makes r u name id index old directory with_name on symbols room with_symbol held seen fresh as_many id_is index_is held_is rests named same done pushed =
     subst (λ (xs : List Held). Finds name id old (record { directory = with_name; today = on; symbols = xs })) (sym last)
     (subst (λ (k : MarketState). Finds name id k (record { directory = with_name; today = on; symbols = symbols ++ held ∷ [] })) seen found)
   where
@@ -171,9 +171,9 @@ makes r u name id place old directory with_name on symbols room with_symbol held
       earlier = λ k below. get-before symbols held k below;
       later = λ k other behind e.
           let at = get-last symbols held other k behind e in
-          let is_place : place ≡ k = place_is ∙ sym as_many ∙ sym at.0 in
+          let is_index : index ≡ k = index_is ∙ sym as_many ∙ sym at.0 in
           record {
-            id = ap (λ (q : Held). q.kept.id) at.1 ∙ held_is ∙ is_place;
-            rests = λ own h nothing. subst (λ (q : Held). Rests own q h) (sym at.1) (rests own h (subst (λ (n : ℕ). SaysNothing own n h) (sym is_place) nothing));
+            id = ap (λ (q : Held). q.kept.id) at.1 ∙ held_is ∙ is_index;
+            rests = λ own h nothing. subst (λ (q : Held). Rests own q h) (sym at.1) (rests own h (subst (λ (n : ℕ). SaysNothing own n h) (sym is_index) nothing));
           };
     }

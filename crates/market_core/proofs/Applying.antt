@@ -30,6 +30,7 @@ use Rattle.rulebook.specs.Market.{day_record, halt_in, market_halt, greatest_in,
 use Rattle.rulebook.proofs.Histories.{own_part, parts, market_part, tick-part, publish-append, records-history, in_order, step_messages-publish, last_day-day_record, first_part}
 use Rattle.rulebook.proofs.Ids.{listed-below}
 use Rattle.rulebook.proofs.Listings.{own_name}
+use Rattle.rulebook.proofs.Lawful.{passes}
 use Rattle.rulebook.proofs.OtherRecords.{day_record-same, names-same}
 use Rattle.rulebook.proofs.Places.{is_some-position}
 use Rattle.rulebook.proofs.Speakers.{AllOfSymbols, of_symbol, own_part-by, by_other, parts-of_symbols, greatest-publish, market_halt-publish}
@@ -40,11 +41,11 @@ use Rattle.market_core.specs.AdmissionState.{lacks_room, added}
 use Rattle.market_core.specs.Applied.{EachEvaluated, OneEvaluated, Finds, Ticks, Evaluated, Applies}
 use Rattle.market_core.specs.MarketState.{MarketState, Represents, SymbolsRepresent, day_of}
 use Rattle.market_core.specs.Ruled.{stamped, resumption, with_level_on, ruled, ruling, view_of}
-use Rattle.market_core.proofs.Admitting.{passes, added_name}
-use Rattle.market_core.proofs.Resting.{says-on, of_others, of_none}
-use Rattle.market_core.proofs.Stepping.{opened, Begun, own_step, own_symbol, agree-before}
+use Rattle.market_core.proofs.Admitting.{added_name}
+use Rattle.market_core.proofs.RecordsOfOthers.{says-on, of_others, of_none}
+use Rattle.market_core.proofs.OwnSteps.{opened, Begun, own_step, own_symbol, agree-before}
 use Rattle.market_core.proofs.Appending.{id_within}
-use Rattle.market_core.proofs.Ticking.{Ticked, ToldBelow, told_below, day_below, ruled_history, parts_to, before_id, history-before, none-before}
+use Rattle.market_core.proofs.MarketSteps.{Ticked, ToldBelow, told_below, day_below, ruled_history, parts_to, before_id, history-before, none-before}
 use Rattle.market_core.proofs.Verdicts.{no_room}
 
 -- What an admissible record finds.
@@ -83,7 +84,7 @@ has_room capacity A kept x s passed =
     let after_again = (passes (lists_again A x) _ _ after_unknown).1 in
     ap (λ ns. lacks_room ns x) s.directory ∙ no_room A x ∙ (passes (finds_no_id A x) _ _ after_again).0
 
--- A listing has the place of its name.
+-- A listing has the index of its name.
 
 position_push : {X : Type 0} (p : X → Bool) (j : ℕ) (xs : List X) (y : X) → list_any p xs ≡ false → p y ≡ true → position_from p j (xs ++ y ∷ []) ≡ Some (j + length xs)
 position_push p j [] y none own = ap (λ b. cond b (Some j) None) own ∙ ap (λ (n : ℕ). Some n) (omega arith)
@@ -93,9 +94,9 @@ position_push p j (x ∷ xs) y none own = by (p x) none (position_push p (j + 1)
   by true none rest = absurd (true≢false none)
   by false none rest = rest none own ∙ ap (λ (n : ℕ). Some n) (omega arith)
 
--- the place of a name after it is listed
-place_listed : (ns : List (List ℕ)) (name : List ℕ) → position (bytes_eq name) (with_name ns name) ≡ Some (unwrap_or (position (bytes_eq name) ns) (length ns))
-place_listed ns name = by (position (bytes_eq name) ns) refl where
+-- the index of a name after it is listed
+index_listed : (ns : List (List ℕ)) (name : List ℕ) → position (bytes_eq name) (with_name ns name) ≡ Some (unwrap_or (position (bytes_eq name) ns) (length ns))
+index_listed ns name = by (position (bytes_eq name) ns) refl where
   among : (o : Option ℕ) → position (bytes_eq name) ns ≡ o → is_among ns name ≡ is_some o
   among o e = sym (is_some-position (bytes_eq name) ns) ∙ ap is_some e
 
@@ -292,7 +293,7 @@ listing_goes capacity t name k l c A old new before after stands passed listed =
     let count : length lists.with_name.symbols ≡ length (names (x ∷ A)) = found.count ∙ ap length directory in
     let id : lists.symbol ≡ unwrap_or (position (bytes_eq name) (names A)) (length (names A)) = found.id ∙ ap (λ ns. unwrap_or (position (bytes_eq name) ns) (length ns)) stands.directory in
     own_goes x A day.0 lists.symbol lists.with_name new before after refl refl day.1 (in_order A x refl (not_early capacity A x passed))
-    (place_listed (names A) name ∙ ap (λ (n : ℕ). Some n) (sym id))
+    (index_listed (names A) name ∙ ap (λ (n : ℕ). Some n) (sym id))
     (subst (λ (n : ℕ). lists.symbol < n) count (id_within name lists.symbol old lists.with_name found)) directory (found.today ∙ on) count (found-stand A name lists.symbol old lists.with_name stands found) stands.others lists.evaluated
 
 -- A clock or an index tick.

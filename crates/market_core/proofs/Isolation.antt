@@ -41,9 +41,9 @@ use Rattle.market_core.specs.Applied.{Applies}
 use Rattle.market_core.specs.MarketState.{MarketState, Represents}
 use Rattle.market_core.specs.Ruled.{stamped}
 use Rattle.market_core.proofs.Applying.{declared, goes, not_early, open_day, step_tick}
-use Rattle.market_core.proofs.Resting.{of_another, rests-on, rests-publish, silent}
-use Rattle.market_core.proofs.Stepping.{agree-before, apart_ids, opened, own_listing, own_said, own_step, ready}
-use Rattle.market_core.proofs.Ticking.{Ticked, before_id, history-before, history_to, listed-open, part_of-tick, parts-more, parts_to, ruled_history, said_if, said_if-own, tick_name}
+use Rattle.market_core.proofs.RecordsOfOthers.{of_another, rests-on, rests-publish, silent}
+use Rattle.market_core.proofs.OwnSteps.{agree-before, apart_ids, opened, own_listing, own_said, own_step, ready}
+use Rattle.market_core.proofs.MarketSteps.{Ticked, before_id, history-before, history_to, listed-open, part_of-tick, parts-more, parts_to, ruled_history, said_if, said_if-own, tick_name}
 use Rattle.market_core.proofs.Views.{NotFor, NotFor-append, filter-all, filter-none, for-stamped, market_for, none_by, not_for, others_for, own_for, records-isolated, terms-isolated, view-more}
 
 -- alone, every name is the symbol's
@@ -637,23 +637,23 @@ all_go capacity s [] lawful =
     }
 all_go capacity s (x ∷ A) lawful = (one_goes capacity s x A lawful.0 (all_go capacity s A lawful.1)).speaks
 
-pub speaks_alone : IsIsolated
-speaks_alone capacity accepted s lawful = (all_go capacity s accepted lawful).said
+pub is_isolated : IsIsolated
+is_isolated capacity accepted s lawful = (all_go capacity s accepted lawful).said
 
-pub each_step_alone : EachStepIsIsolated
-each_step_alone capacity [] s lawful = refl
-each_step_alone capacity (x ∷ A) s lawful = (one_goes capacity s x A lawful.0 (all_go capacity s A lawful.1)).newest
+pub each_step_is_isolated : EachStepIsIsolated
+each_step_is_isolated capacity [] s lawful = refl
+each_step_is_isolated capacity (x ∷ A) s lawful = (one_goes capacity s x A lawful.0 (all_go capacity s A lawful.1)).newest
 
 -- a symbol's messages depend on its view alone
-pub hears_its_view : DependsOnItsView
-hears_its_view capacity a b s first second same =
-    speaks_alone capacity a s first ∙ ap (λ (v : List Record). messages (isolated_history s v)) same ∙ sym (speaks_alone capacity b s second)
+pub depends_on_its_view : DependsOnItsView
+depends_on_its_view capacity a b s first second same =
+    is_isolated capacity a s first ∙ ap (λ (v : List Record). messages (isolated_history s v)) same ∙ sym (is_isolated capacity b s second)
 
 -- the same of a call that may have found no memory
-pub call_alone : (r : Result (Unit {0}) NoMemory) (capacity : ℕ) (x : Record) (A : List Record) (s : ℕ) (old new : MarketState) (before after : List Stamped) → Represents old A → IsLawful capacity (x ∷ A)
+pub call_is_isolated : (r : Result (Unit {0}) NoMemory) (capacity : ℕ) (x : Record) (A : List Record) (s : ℕ) (old new : MarketState) (before after : List Stamped) → Represents old A → IsLawful capacity (x ∷ A)
     → OnOk r (Applies x old new before after) → OnOk r (for_symbol s after ≡ for_symbol s before ++ newest_isolated s (x ∷ A))
-call_alone (Ok y) capacity x A s old new before after stands lawful a =
+call_is_isolated (Ok y) capacity x A s old new before after stands lawful a =
     ap (for_symbol s) (goes capacity x A old new before after stands lawful.0 a).0
     ∙ filter-append _ before (newest_messages (x ∷ A))
-    ∙ ap (λ (ms : List Stamped). for_symbol s before ++ ms) (each_step_alone capacity (x ∷ A) s lawful)
-call_alone (Err y) capacity x A s old new before after stands lawful a = tt
+    ∙ ap (λ (ms : List Stamped). for_symbol s before ++ ms) (each_step_is_isolated capacity (x ∷ A) s lawful)
+call_is_isolated (Err y) capacity x A s old new before after stands lawful a = tt

@@ -22,7 +22,7 @@ option_map_or-option_map : {X Y : Type 0} (f : X → Y) (test : Y → Bool) (o :
 option_map_or-option_map f test None = refl
 option_map_or-option_map f test (Some x) = refl
 
--- a test of the element at a place is the element at that place of the tests
+-- a test of the element at an index is the element at that index of the tests
 tested : {X : Type 0} (f : X → Bool) (xs : List X) (i : ℕ) → option_map_or f (slice_get xs i) false ≡ option_map_or (λ b. b) (slice_get (map f xs) i) false
 tested f xs i = sym (option_map_or-option_map f (λ b. b) (slice_get xs i)) ∙ ap (λ o. option_map_or (λ b. b) o false) (sym (slice_get-map f xs i))
 

@@ -53,7 +53,7 @@ filter-agree own other s (x ∷ A) e =
     let rest = filter-agree own other s A (earlier_agree own other x A e) in
     λ i. cond (by-agree own other s x A e i) (x ∷ rest i) (rest i)
 
--- a further record changes no earlier one's place in the view
+-- a further record changes for no earlier one whether it is in the view
 view-kept : (x : Record) (A : List Record) (s : ℕ) → filter (concerns (x ∷ A) s) A ≡ view A s
 view-kept x A s =
     (λ i. filter (λ y. concerns-by (x ∷ A) s y i) A)

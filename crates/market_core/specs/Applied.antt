@@ -44,7 +44,7 @@ pub record EachEvaluated (today : Today) (x : Record) (old new : MarketState) (b
   pub count : length new.symbols ≡ length old.symbols
   pub appends : AppendsBelow (length old.symbols) (view_of today) x old.symbols new.symbols before after
 
--- one symbol is evaluated, and the others are let alone
+-- one symbol is evaluated, and the others are left as they were
 pub record OneEvaluated (s : ℕ) (today : Today) (x : Record) (old new : MarketState) (before after : List Stamped) : Type 0 where
   pub directory : new.directory ≡ old.directory
   pub today_is : new.today ≡ old.today

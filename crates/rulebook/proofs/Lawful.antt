@@ -14,17 +14,17 @@ use Rattle.rulebook.proofs.OtherRecords.{names-same}
 use Rattle.rulebook.proofs.Histories.{records-history}
 
 -- a refusal that doesn't apply leaves the others to be tried
-passed : (b : Bool) (refusal : Refusal) (others : Option Refusal) → cond b (Some refusal) others ≡ None → (b ≡ false) × (others ≡ None)
-passed true refusal others e = absurd cc
-passed false refusal others e = (refl, e)
+pub passes : (b : Bool) (refusal : Refusal) (others : Option Refusal) → cond b (Some refusal) others ≡ None → (b ≡ false) × (others ≡ None)
+passes true refusal others e = absurd cc
+passes false refusal others e = (refl, e)
 
 finds_id : (capacity : ℕ) (A : List Record) (x : Record) → verdict capacity A x ≡ None → finds_no_id A x ≡ false
 finds_id capacity A x e =
-    let after_day = (passed _ _ _ e).1 in
-    let after_order = (passed (is_early A x) _ _ after_day).1 in
-    let after_unknown = (passed (is_unknown A x) _ _ after_order).1 in
-    let after_again = (passed (lists_again A x) _ _ after_unknown).1 in
-    (passed (finds_no_id A x) _ _ after_again).0
+    let after_day = (passes _ _ _ e).1 in
+    let after_order = (passes (is_early A x) _ _ after_day).1 in
+    let after_unknown = (passes (is_unknown A x) _ _ after_order).1 in
+    let after_again = (passes (lists_again A x) _ _ after_unknown).1 in
+    (passes (finds_no_id A x) _ _ after_again).0
 
 with_one_more : (ns : List (List ℕ)) (name : List ℕ) → length ns ≤ most_names → (not (is_among ns name) && nat_le most_names (length ns)) ≡ false → length (with_name ns name) ≤ most_names
 with_one_more ns name few room = by (is_among ns name) room where

@@ -30,8 +30,8 @@ use Rattle.market_core.specs.Applied.{AppendsAt, AppendsBelow}
 use Rattle.market_core.specs.MarketState.{SymbolsRepresent}
 use Rattle.market_core.specs.Ruled.{stamped}
 use Rattle.market_core.proofs.Appending.{at_each}
-use Rattle.market_core.proofs.Resting.{rests-publish}
-use Rattle.market_core.proofs.Stepping.{opened, records-opened, part-on, same_named, Begun, ready, apart_ids, swap_ids}
+use Rattle.market_core.proofs.RecordsOfOthers.{rests-publish}
+use Rattle.market_core.proofs.OwnSteps.{opened, records-opened, part-on, same_named, Begun, ready, apart_ids, swap_ids}
 
 -- the open step of a tick after the market-wide rules
 abbrev pub ruled_history : Record → List Record → List Event

@@ -28,7 +28,7 @@ use Rattle.market_core.specs.Applied.{AppendsAt}
 use Rattle.market_core.specs.MarketState.{SymbolsRepresent}
 use Rattle.market_core.specs.Ruled.{stamped}
 use Rattle.market_core.proofs.Appending.{at_each}
-use Rattle.market_core.proofs.Resting.{silent, rests-agree, rests-on, of_others}
+use Rattle.market_core.proofs.RecordsOfOthers.{silent, rests-agree, rests-on, of_others}
 
 pub apart_ids : (a b : ℕ) → (a == b) ≡ false → a ≢ b
 apart_ids a b e same = true≢false (sym (sym (ap (λ (n : ℕ). a == n) same) ∙ own_id a) ∙ e)
