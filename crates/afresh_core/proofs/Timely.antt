@@ -1,6 +1,6 @@
 -- The rounds of reopening auctions stand at their times, whatever the rules publish.
-use Rattle.std.proofs.Common.{◌≡◌, ℕ, ◌+◌, ◌*◌, ◌<◌, ◌≤◌, Bool, true, false, cond, List, [], ◌∷◌, ◌++◌, map, Option, Some, None, refl, sym, ap, subst, ◌∙◌, arith}
-use Rattle.std.specs.Prelude.{◌==◌, if◌then◌else◌, nat_lt, not, ◌&&◌, ◌||◌, option_map, IfSome}
+use Rattle.std.proofs.Common.{◌≡◌, ℕ, ◌+◌, ◌*◌, ◌≤◌, Bool, true, false, cond, List, [], ◌∷◌, map, Option, Some, None, refl, sym, ap, subst, ◌∙◌, arith}
+use Rattle.std.specs.Prelude.{◌==◌, if◌then◌else◌, nat_lt, not, ◌&&◌, option_map, IfSome}
 use Rattle.std.specs.Option.{option_map_or}
 use Rattle.std.proofs.lemmas.Bool.Decides.{nat_tests}
 use Rattle.price_core.specs.declared.quote.Cause.{Cause}
@@ -11,7 +11,6 @@ use Rattle.session_core.specs.declared.state.Phase.{Phase}
 use Rattle.session_core.specs.declared.state.Level.{Level}
 use Rattle.session_core.specs.declared.state.Phase.TheVariants.{Trading, LimitLow, LimitHigh}
 use Rattle.session_core.specs.Durations.{five_minutes}
-use Rattle.session_core.specs.Times.{in_last_10_minutes}
 use Rattle.wire_in.specs.declared.record.Record.{Record}
 use Rattle.wire_in.specs.declared.record.Record.TheVariants as in_
 use Rattle.wire_in.specs.Records.{is_day, is_tick}
@@ -26,19 +25,18 @@ use Rattle.refprice_core.specs.declared.reference.Priced.{Priced}
 use Rattle.reopen_core.specs.declared.auction.Round.{Round}
 use Rattle.reopen_core.specs.declared.auction.Trial.{Trial}
 use Rattle.reopen_core.specs.declared.auction.Trial.TheVariants as trial
-use Rattle.reopen_core.specs.Collars.{auction_reference}
-use Rattle.reopen_core.specs.Trials as trials
 use Rattle.rulebook.specs.declared.event.Event.{Event}
 use Rattle.rulebook.specs.declared.event.Event.TheVariants.{Accepted, Published}
 use Rattle.rulebook.specs.declared.symbol.Banded.{Banded}
-use Rattle.rulebook.specs.Auction.{collar_of, round_of, last_round, is_paused, origin, indication}
-use Rattle.rulebook.specs.History.{Found, now, today, records, publish, last}
+use Rattle.rulebook.specs.Auction.{collar_of, round_of, last_round, is_paused}
+use Rattle.rulebook.specs.History.{now, today, records, publish, last}
 use Rattle.rulebook.specs.Market.{market_halt, greatest_declared, resume_at, declare_at, declare_on, breaks, day_record}
 use Rattle.rulebook.specs.Symbol.{last_band, phase, terms, was_straddling}
 use Rattle.rulebook.specs.Rules as rules
 use Rattle.rulebook.specs.Rules.{Context}
-use Rattle.rulebook.specs.Book.{Named, context, obeyed, all_obeyed, symbol_rules, evaluate, announcement, announced, evaluate_own, evaluate_market}
+use Rattle.rulebook.specs.Book.{Named, context, obeyed, all_obeyed, symbol_rules, evaluate, announced, evaluate_market}
 use Rattle.rulebook.proofs.Histories.{now-today}
+use Rattle.rulebook.proofs.Histories.{publish-append}
 use Rattle.afresh_core.specs.declared.rules.Rule.{Rule}
 use Rattle.afresh_core.specs.declared.rules.Rule.TheVariants as rule
 use Rattle.afresh_core.specs.Ordered.{rule_of}
@@ -165,10 +163,6 @@ at_rule rule.Restrict c t =
 
 pub timely_obeyed : (day : Day) (s : Named) (x : Record) (r : Rule) (h : List Event) → AreTimely h → AreTimely (publish (obeyed day s x (rule_of r) h) h)
 timely_obeyed day s x r h t = timely-publish (obeyed day s x (rule_of r) h) h (at_choice (now h) (is_done (phase h s.symbol)) [] (rule_of r (context day s x h)) tt (at_rule r (context day s x h) t)) t
-
-publish-append : (a b : List Message) (h : List Event) → publish (a ++ b) h ≡ publish b (publish a h)
-publish-append [] b h = refl
-publish-append (m ∷ a) b h = publish-append a b (Published m ∷ h)
 
 -- one rule after the other
 pub obeyed_more : (day : Day) (s : Named) (x : Record) (r : Context → List Message) (later : List (Context → List Message)) (h : List Event)

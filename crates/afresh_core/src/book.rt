@@ -3,7 +3,7 @@ ghost use Rattle.std.specs.Prelude.{◌≡◌, ◌≤◌, ◌∷◌, [], IfOk, i
 ghost use Rattle.std.specs.Option.{option_map_or};
 ghost use Rattle.wire_out.specs.declared.message.Message.TheVariants.{Short};
 ghost use Rattle.wire_out.specs.declared.message.ShortKind.TheVariants.{Carried};
-ghost use Rattle.rulebook.specs.Admission.{names, is_listed, IsLawful, most_names};
+ghost use Rattle.rulebook.specs.Admission.{names, is_listed, most_names, IsLawful};
 ghost use Rattle.rulebook.specs.History.{records};
 ghost use Rattle.rulebook.specs.Book.{evaluate, ids_below, announcement, announced, evaluate_own, named, evaluate_all, listed_ids, evaluate_market, target, evaluate_record, step, history};
 ghost use Rattle.rulebook.specs.Rules.{is_carried};
@@ -15,8 +15,7 @@ use crate::context::followed;
 use crate::restriction::is_carried;
 use crate::rules::{Named, RULES, obey_all, publish};
 use history_core::{
-    day_record, declare_at, id_of, is_day, is_listed, is_tick, names, records, resume_at,
-    symbol_of, with_first,
+    day_record, declare_at, id_of, is_listed, names, records, resume_at, with_first,
 };
 use price_core::NoMemory;
 use rulebook::Event;
@@ -176,7 +175,7 @@ fn target(alloc: Global, h: &[Event], x: &Record) -> Result<Option<u16>, NoMemor
     ensures { IfOk result (λ id. id ≡ target (records h.now) x.now) }
 {
     let Record::Listing { name, .. } = *x else {
-        return Ok(symbol_of(x));
+        return Ok(x.symbol());
     };
     let accepted = records(alloc, h)?;
     match id_of(alloc, &accepted, name)? {
@@ -224,9 +223,9 @@ fn evaluate_record(alloc: Global, x: &Record, h: Vec<Event>) -> Result<Vec<Event
     requires few { length (names (records h.items)) ≤ most_names }
     ensures { IfOk result (λ evaluated. evaluated.items ≡ evaluate_record x.now h.items) }
 {
-    if is_day(x) {
+    if x.is_day() {
         Ok(h)
-    } else if is_tick(x) {
+    } else if x.is_tick() {
         evaluate_tick(alloc, x, h)
     } else {
         evaluate_named(alloc, x, h)

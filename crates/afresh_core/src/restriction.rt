@@ -6,7 +6,7 @@ ghost use Rattle.history_core.specs.Names.{own_in};
 ghost use Rattle.afresh_core.specs.Contexts.{context_of};
 
 use crate::context::Context;
-use history_core::{before_step, day_record, is_day, prior_close_of, terms, traded_price};
+use history_core::{before_step, day_record, prior_close_of, terms, traded_price};
 use rulebook::{Event, Terms};
 use session_core::Day;
 use wire_in::Record;
@@ -32,7 +32,7 @@ fn triggered_in(names: &[[u8; 8]], day: &Day, symbol: u16, h: &[Event]) -> bool
     match last {
         Event::Published(_) => triggered_in(names, day, symbol, earlier),
         Event::Accepted(x) => {
-            !is_day(x)
+            !x.is_day()
                 && (triggers(day, symbol, x, terms(earlier, names, symbol))
                     || triggered_in(names, day, symbol, earlier))
         }
@@ -72,7 +72,7 @@ fn before_day(h: &[Event]) -> &[Event]
     match last {
         Event::Published(_) => before_day(earlier),
         Event::Accepted(x) => {
-            if is_day(x) {
+            if x.is_day() {
                 earlier
             } else {
                 before_day(earlier)

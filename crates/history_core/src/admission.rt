@@ -1,34 +1,13 @@
 // What may follow a list of accepted records, which has the newest first.
 ghost use Rattle.std.specs.Prelude.{◌≡◌, IfOk, OnOk, position};
 ghost use Rattle.std.specs.Str.{bytes_eq};
-ghost use Rattle.wire_in.specs.Records.{is_day, symbol_of};
 ghost use Rattle.rulebook.specs.Admission.{last_day, is_among, with_name, names, id_of, is_listed_name, is_listed, is_early, is_unknown, lists_again, finds_no_id, verdict};
 
 use price_core::NoMemory;
+use rulebook::MOST_NAMES;
 use session_core::Day;
 use std::alloc::Global;
 use wire_in::{Record, Refusal};
-
-/// Whether a record begins a day.
-pub fn is_day(x: &Record) -> bool
-    ensures { result ≡ is_day x.now }
-{
-    matches!(x, Record::Day { .. })
-}
-
-/// The symbol that a record names by its id.
-pub fn symbol_of(x: &Record) -> Option<u16>
-    ensures { result ≡ symbol_of x.now }
-{
-    match *x {
-        Record::Trade { symbol, .. }
-        | Record::Cancel { symbol, .. }
-        | Record::Quote { symbol, .. }
-        | Record::Notice { symbol, .. }
-        | Record::Indication { symbol, .. } => Some(symbol),
-        _ => None,
-    }
-}
 
 /// The day of the last Day record.
 fn last_day(accepted: &[Record]) -> Option<Day>
@@ -127,7 +106,7 @@ fn is_early(accepted: &[Record], x: &Record) -> bool
 fn is_unknown(alloc: Global, accepted: &[Record], x: &Record) -> Result<bool, NoMemory>
     ensures { IfOk result (λ unknown. unknown ≡ is_unknown accepted.now x.now) }
 {
-    match symbol_of(x) {
+    match x.symbol() {
         Some(id) => Ok(!is_listed(alloc, accepted, id)?),
         None => Ok(false),
     }
@@ -149,7 +128,7 @@ fn finds_no_id(alloc: Global, accepted: &[Record], x: &Record) -> Result<bool, N
         return Ok(false);
     };
     let listed = names(alloc, accepted)?;
-    Ok(!is_among(&listed, name) && listed.len() >= 16_384)
+    Ok(!is_among(&listed, name) && listed.len() >= MOST_NAMES)
 }
 
 /// The first refusal that applies to a record after these, under a limit of records.
@@ -161,7 +140,7 @@ pub fn verdict(
 ) -> Result<Option<Refusal>, NoMemory>
     ensures { IfOk result (λ refusal. refusal ≡ verdict limit accepted.now x.now) }
 {
-    if !is_day(x) && last_day(accepted).is_none() {
+    if !x.is_day() && last_day(accepted).is_none() {
         Ok(Some(Refusal::NoDay))
     } else if is_early(accepted, x) {
         Ok(Some(Refusal::OutOfOrder))

@@ -1,6 +1,5 @@
 // The market-wide circuit breakers (NYSE Rule 7.12), by a search of the history, which has the newest event first.
 ghost use Rattle.std.specs.Prelude.{◌≡◌, option_to_list};
-ghost use Rattle.wire_in.specs.Records.{is_tick};
 ghost use Rattle.rulebook.specs.History.{records};
 ghost use Rattle.rulebook.specs.Market.{day_record, market_halt_in, market_halt, is_market_halted, greatest_in, greatest_declared, resume_at, declare_on, declare_at};
 
@@ -74,18 +73,11 @@ fn greatest_declared(h: &[Event]) -> u32
     greatest_in(today(h))
 }
 
-/// A clock or an index tick.
-pub fn is_tick(x: &Record) -> bool
-    ensures { result ≡ is_tick x.now }
-{
-    matches!(x, Record::IndexTick { .. } | Record::Clock { .. })
-}
-
 /// The resumption at a record.
 pub fn resume_at(x: &Record, h: &[Event]) -> Option<Message>
     ensures { option_to_list result ≡ resume_at x.now h.now }
 {
-    if is_tick(x) && ends(now(h), market_halt(h)) {
+    if x.is_tick() && ends(now(h), market_halt(h)) {
         Some(Message::MarketResume)
     } else {
         None

@@ -1,31 +1,26 @@
 -- An admission that stands for a list stands for the list with one more record.
-use Rattle.std.proofs.Common.{◌≡◌, ℕ, zero, suc, ◌+◌, ◌*◌, Bool, true, false, cond, List, [], ◌∷◌, ◌++◌, length, map, Option, Some, None, Result, Ok, Err, is_some, is_none, refl, sym, ap, subst, ◌∙◌, true≢false, arith}
-use Rattle.std.specs.Prelude.{IsTrue, OnOk, slice_set, position, nat_le, ◌&&◌, ◌==◌}
+use Rattle.std.proofs.Common.{◌≡◌, ℕ, zero, suc, ◌+◌, ◌*◌, Bool, true, false, cond, List, [], ◌∷◌, ◌++◌, length, map, Option, Some, None, is_some, is_none, refl, sym, ap, subst, ◌∙◌, true≢false, arith}
+use Rattle.std.specs.Prelude.{IsTrue, slice_set, position, nat_le, ◌&&◌, ◌==◌}
 use Rattle.std.specs.List.{list_any}
 use Rattle.std.specs.Option.{option_map_or}
 use Rattle.std.specs.Str.{bytes_eq}
 use Rattle.std.proofs.lemmas.Bool.{false≢true}
 use Rattle.std.proofs.lemmas.Bool.Decides.{nat_tests}
 use Rattle.std.proofs.lemmas.List.{length-map, map-append, map-set}
-use Rattle.price_core.specs.declared.error.NoMemory.{NoMemory}
 use Rattle.price_core.specs.declared.quote.Tier.{Tier}
 use Rattle.session_core.specs.declared.day.Day.{Day}
 use Rattle.session_core.specs.Dates.{Civil, date_number}
 use Rattle.wire_in.specs.declared.record.Record.{Record}
 use Rattle.wire_in.specs.declared.record.Record.TheVariants as in_
-use Rattle.wire_in.specs.declared.record.Refusal.{Refusal}
+use Rattle.wire_in.specs.Records.{moment_of}
 use Rattle.rulebook.specs.Admission.{names, is_listed_name, with_name}
 use Rattle.market_core.specs.Dated.{is_on, is_up_to, are_up_to}
-use Rattle.market_core.specs.AdmissionState.{AdmissionState, Represents, refusal_of, is_date_early, added, dates_listed, admitted_with}
+use Rattle.market_core.specs.AdmissionState.{AdmissionState, Represents, refusal_of, is_date_early, added, day_after, directory_after, dates_after, dates_listed, admitted_with}
 use Rattle.rulebook.proofs.Listings.{own_name}
+use Rattle.rulebook.proofs.Lawful.{passes}
 use Rattle.rulebook.proofs.Positions.{is_some-position}
 use Rattle.rulebook.proofs.Ids.{one_place}
-use Rattle.market_core.proofs.Marks.{marked, map-marked, map-marked_none}
-
--- a refusal that doesn't apply leaves the others to be tried
-pub passes : (b : Bool) (refusal : Refusal) (others : Option Refusal) → cond b (Some refusal) others ≡ None → (b ≡ false) × (others ≡ None)
-passes true refusal others e = absurd cc
-passes false refusal others e = (refl, e)
+use Rattle.market_core.proofs.MarkedNames.{marked, map-marked, map-marked_none}
 
 map-constant : {X Y Z : Type 0} (z : Z) (xs : List X) (ys : List Y) → length xs ≡ length ys → map (λ _. z) xs ≡ map (λ _. z) ys
 map-constant z [] [] e = refl
@@ -65,9 +60,9 @@ own_date day = at_numbers day.date.year day.date.month day.date.day where
   at_numbers y m d = grind (arith, nat_tests)
 
 -- the dates after a listing show the name as listed, and the others as before
-dates_show : (day : Day) (dates : List Civil) (A : List Record) (name : List ℕ) (place : Option ℕ) → position (bytes_eq name) (names A) ≡ place
+dates_show : (day : Day) (dates : List Civil) (A : List Record) (name : List ℕ) (index : Option ℕ) → position (bytes_eq name) (names A) ≡ index
     → map (is_on (Some day)) dates ≡ map (is_listed_name A) (names A)
-    → map (is_on (Some day)) (dates_listed day dates place) ≡ map (marked (bytes_eq name) (is_listed_name A)) (added (names A) place name)
+    → map (is_on (Some day)) (dates_listed day dates index) ≡ map (marked (bytes_eq name) (is_listed_name A)) (added (names A) index name)
 dates_show day dates A name None e same =
     let none : list_any (bytes_eq name) (names A) ≡ false = sym (is_some-position (bytes_eq name) (names A)) ∙ ap is_some e in
     map-append (is_on (Some day)) dates (day.date ∷ [])
@@ -80,8 +75,8 @@ dates_show day dates A name (Some i) e same =
     ∙ ap (λ b. slice_set (map (is_listed_name A) (names A)) i b) (own_date day)
     ∙ sym (map-marked (bytes_eq name) (is_listed_name A) (names A) i (one_place A name) e)
 
--- a name after the listed ones is added where it has no place among them
-pub added_name : (ns : List (List ℕ)) (name : List ℕ) (place : Option ℕ) → position (bytes_eq name) ns ≡ place → added ns place name ≡ with_name ns name
+-- a name after the listed ones is added where it has no index among them
+pub added_name : (ns : List (List ℕ)) (name : List ℕ) (index : Option ℕ) → position (bytes_eq name) ns ≡ index → added ns index name ≡ with_name ns name
 added_name ns name None e = ap (λ b. cond b ns (ns ++ name ∷ [])) (sym (sym (is_some-position (bytes_eq name) ns) ∙ ap is_some e))
 added_name ns name (Some i) e = ap (λ b. cond b ns (ns ++ name ∷ [])) (sym (sym (is_some-position (bytes_eq name) ns) ∙ ap is_some e))
 
@@ -90,34 +85,34 @@ up_to_own day = at_number (date_number day.date) where
   at_number : (n : ℕ) → nat_le n n ≡ true
   at_number n = grind (arith, nat_tests)
 
-put_up_to : (day : Day) (dates : List Civil) (place : Option ℕ) → IsTrue (are_up_to (Some day) dates) → IsTrue (are_up_to (Some day) (dates_listed day dates place))
-put_up_to day [] None past = ap (λ b. b && true) (up_to_own day)
-put_up_to day [] (Some i) past = refl
-put_up_to day (date ∷ dates) None past =
+set_up_to : (day : Day) (dates : List Civil) (index : Option ℕ) → IsTrue (are_up_to (Some day) dates) → IsTrue (are_up_to (Some day) (dates_listed day dates index))
+set_up_to day [] None past = ap (λ b. b && true) (up_to_own day)
+set_up_to day [] (Some i) past = refl
+set_up_to day (date ∷ dates) None past =
     let parts = both (is_up_to (Some day) date) (are_up_to (Some day) dates) past in
-    ap (λ b. b && are_up_to (Some day) (dates ++ day.date ∷ [])) parts.0 ∙ put_up_to day dates None parts.1
-put_up_to day (date ∷ dates) (Some zero) past =
+    ap (λ b. b && are_up_to (Some day) (dates ++ day.date ∷ [])) parts.0 ∙ set_up_to day dates None parts.1
+set_up_to day (date ∷ dates) (Some zero) past =
     let parts = both (is_up_to (Some day) date) (are_up_to (Some day) dates) past in
     ap (λ b. b && are_up_to (Some day) dates) (up_to_own day) ∙ parts.1
-put_up_to day (date ∷ dates) (Some (suc i)) past =
+set_up_to day (date ∷ dates) (Some (suc i)) past =
     let parts = both (is_up_to (Some day) date) (are_up_to (Some day) dates) past in
-    ap (λ b. b && are_up_to (Some day) (slice_set dates i day.date)) parts.0 ∙ put_up_to day dates (Some i) parts.1
+    ap (λ b. b && are_up_to (Some day) (slice_set dates i day.date)) parts.0 ∙ set_up_to day dates (Some i) parts.1
 
 listing_stands : (a : AdmissionState) (A : List Record) (day : Day) (t : ℕ) (name : List ℕ) (k : Tier) (l : ℕ) (c : Option ℕ) → a.day ≡ Some day
     → Represents a A → Represents (admitted_with a (in_.Listing t name k l c)) (in_.Listing t name k l c ∷ A)
 listing_stands a A day t name k l c on s =
-    let place = position (bytes_eq name) (names A) in
+    let index = position (bytes_eq name) (names A) in
     let same : map (is_on (Some day)) a.dates ≡ map (is_listed_name A) (names A) = subst (λ d. map (is_on d) a.dates ≡ map (is_listed_name A) (names A)) on s.listed in
     let past : IsTrue (are_up_to (Some day) a.dates) = subst (λ d. IsTrue (are_up_to d a.dates)) on s.dated in
-    let shown = dates_show day a.dates A name place refl same in
-    let known = added_name (names A) name place refl in
+    let shown = dates_show day a.dates A name index refl same in
+    let known = added_name (names A) name index refl in
     record {
       count = omega (arith, s.count);
       day = s.day;
       last = refl;
       directory = ap (λ ns. added ns (position (bytes_eq name) ns) name) s.directory ∙ known;
       listed = (λ i. map (is_on (on i)) (option_map_or (λ d. dates_listed d a.dates (position (bytes_eq name) (s.directory i))) (on i) a.dates)) ∙ shown ∙ ap (map (marked (bytes_eq name) (is_listed_name A))) known;
-      dated = (λ i. are_up_to (on i) (option_map_or (λ d. dates_listed d a.dates (position (bytes_eq name) (s.directory i))) (on i) a.dates)) ∙ put_up_to day a.dates place past;
+      dated = (λ i. are_up_to (on i) (option_map_or (λ d. dates_listed d a.dates (position (bytes_eq name) (s.directory i))) (on i) a.dates)) ∙ set_up_to day a.dates index past;
     }
 
 day_stands : (a : AdmissionState) (A : List Record) (t : ℕ) (day : Day) (close : ℕ) → is_date_early a.day day ≡ false
@@ -151,7 +146,12 @@ stands-admitted a A (in_.Clock t) s passed = record { count = omega (arith, s.co
 stands-admitted a A (in_.Notice t y k) s passed = record { count = omega (arith, s.count); day = s.day; last = refl; directory = s.directory; listed = s.listed; dated = s.dated }
 stands-admitted a A (in_.Indication t y p u) s passed = record { count = omega (arith, s.count); day = s.day; last = refl; directory = s.directory; listed = s.listed; dated = s.dated }
 
-pub kept_stands : (r : Result (Unit {0}) NoMemory) (old new : AdmissionState) (A : List Record) (x : Record) → Represents old A → refusal_of old x ≡ None
-    → OnOk r (new ≡ admitted_with old x) → OnOk r (Represents new (x ∷ A))
-kept_stands (Ok y) old new A x s passed is = subst (λ v. Represents v (x ∷ A)) (sym is) (stands-admitted old A x s passed)
-kept_stands (Err e) old new A x s passed is = tt
+-- what is kept once the last moment is kept, and one more record is counted
+abbrev counted : AdmissionState → ℕ → AdmissionState
+counted a moment = record a { count = a.count + 1; last = moment }
+
+pub counted_stands : (kept old : AdmissionState) (moment : ℕ) (A : List Record) (x : Record) → Represents old A → refusal_of old x ≡ None
+    → kept ≡ record old { day = day_after old.day x; directory = directory_after old.directory x; dates = dates_after old x }
+    → moment ≡ moment_of x → Represents (counted kept moment) (x ∷ A)
+counted_stands kept old moment A x s passed is at =
+    subst (λ v. Represents v (x ∷ A)) (sym (λ i. counted (is i) (at i))) (stands-admitted old A x s passed)

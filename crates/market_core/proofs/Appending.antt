@@ -1,6 +1,6 @@
 -- Symbols that are evaluated one after the other.
-use Rattle.std.proofs.Common.{◌≡◌, ℕ, Bool, true, zero, suc, ◌+◌, ◌<◌, ◌≤◌, ◌≢◌, List, [], ◌∷◌, length, get_or, ◌++◌, length-append, Option, Some, None, Result, Ok, Err, is_ok, cond, refl, sym, ap, subst, ◌∙◌, add-one, arith}
-use Rattle.std.specs.Prelude.{OnOk, slice_get, slice_set, position, unwrap_or}
+use Rattle.std.proofs.Common.{◌≡◌, ℕ, Bool, true, false, zero, suc, ◌+◌, ◌<◌, ◌≤◌, ◌≢◌, List, [], ◌∷◌, length, get_or, ◌++◌, length-append, Option, Some, None, Result, Ok, Err, is_ok, cond, refl, sym, ap, subst, ◌∙◌, add-one, true≢false, arith}
+use Rattle.std.specs.Prelude.{OnOk, slice_get, slice_set, position, unwrap_or, ◌==◌}
 use Rattle.std.specs.Str.{bytes_eq}
 use Rattle.std.proofs.lemmas.List.Quantifiers.{position-Some}
 use Rattle.std.proofs.lemmas.Option.{slice_get-get_or, slice_get_read}
@@ -9,13 +9,15 @@ use Rattle.price_core.specs.declared.error.NoMemory.{NoMemory}
 use Rattle.wire_in.specs.declared.record.Record.{Record}
 use Rattle.wire_in.specs.declared.record.Record.TheVariants as in_
 use Rattle.wire_in.specs.Records.{is_tick, symbol_of}
+use Rattle.wire_in.proofs.RecordKinds.{IsOther, of_symbol, tick}
 use Rattle.wire_out.specs.declared.message.Stamped.{Stamped}
 use Rattle.symbol_core.specs.declared.symbol.MarketView.{MarketView}
 use Rattle.rulebook.specs.declared.event.Event.{Event}
+use Rattle.rulebook.proofs.Ids.{same_id}
 use Rattle.symbol_core.specs.Rests.{Held, Rests}
 use Rattle.symbol_core.specs.Silent.{SaysNothing}
 use Rattle.market_core.specs.declared.market.Today.{Today}
-use Rattle.market_core.specs.Applied.{Appends, AppendsBelow, OneEvaluated, Evaluated, Ticks, Applies, Finds, Lists, OnToday}
+use Rattle.market_core.specs.Applied.{Appends, AppendsBelow, OneEvaluated, Evaluated, Ticks, ByTarget, Applies, Finds, Lists, OnToday}
 use Rattle.market_core.specs.AdmissionState.{added}
 use Rattle.market_core.specs.MarketState.{MarketState}
 use Rattle.market_core.specs.Ruled.{view_of}
@@ -32,13 +34,25 @@ get-set_same [] i v lt = absurd (omega arith)
 get-set_same (x ∷ xs) zero v lt = refl
 get-set_same (x ∷ xs) (suc i) v lt = get-set_same xs i v (omega arith)
 
+-- what holds of the element at s, and of each other element at its index, holds of each
+pub at_each : {X : Type 0} (P : ℕ → X → Type 0) (s : ℕ) (is : X) (xs : List X) → slice_get xs s ≡ Some is → P s is
+    → ((k : ℕ) (x : X) → (k == s) ≡ false → slice_get xs k ≡ Some x → P k x) → (k : ℕ) (x : X) → slice_get xs k ≡ Some x → P k x
+at_each P s is xs at here others k x e = by (k == s) refl where
+  by : (b : Bool) → (k == s) ≡ b → P k x
+  by true same =
+      let index : k ≡ s = same_id k s same in
+      let there : slice_get xs k ≡ Some is = subst (λ (j : ℕ). slice_get xs j ≡ Some is) (sym index) at in
+      let element : is ≡ x = cc in
+      subst (P k) element (subst (λ (j : ℕ). P j is) (sym index) here)
+  by false apart = others k x apart e
+
 below_set : (n : ℕ) (market : MarketView) (x : Record) (old new : List Held) (i : ℕ) (v : Held) (before after : List Stamped) → n ≤ i
     → AppendsBelow n market x old new before after → AppendsBelow n market x old (slice_set new i v) before after
 below_set zero market x old new i v before after le t = t
 below_set (suc n) market x old new i v before after le (middle, earlier, last) =
     (middle, below_set n market x old new i v before middle (omega arith) earlier, record { was = last.was; is = last.is; found = last.found; left = get-set_other new i v n (omega arith) ∙ last.left; appends = last.appends })
 
--- the next symbol, where the code has it as the element at its place
+-- the next symbol, where the code has it as the element at its index
 pub one_more : (r : Result (Unit {0}) NoMemory) (y : Unit {0}) (i : ℕ) (market : MarketView) (x : Record) (old new : List Held) (d is : Held) (before middle after : List Stamped) → i < length new
     → ((k : ℕ) → i ≤ k → slice_get new k ≡ slice_get old k) → AppendsBelow i market x old new before middle
     → r ≡ Ok y → OnOk r (Appends market x (get_or new i d) is middle after) → AppendsBelow (i + 1) market x old (slice_set new i is) before after
@@ -51,7 +65,7 @@ one_more (Err u) y i market x old new d is before middle after lt later earlier 
 pub later_more : (i : ℕ) (old new : List Held) (is : Held) → ((k : ℕ) → i ≤ k → slice_get new k ≡ slice_get old k) → (k : ℕ) → i + 1 ≤ k → slice_get (slice_set new i is) k ≡ slice_get old k
 later_more i old new is later k le = get-set_other new i is k (omega arith) ∙ later k (omega arith)
 
--- one symbol of a market is evaluated, and the others are let alone
+-- one symbol of a market is evaluated, and the others are left as they were
 pub one_evaluated : (r : Result (Unit {0}) NoMemory) (s : ℕ) (x : Record) (old : MarketState) (directory : List (List ℕ)) (on : Option Today) (today : Today) (symbols : List Held) (market : MarketView)
     (was is : Held) (begun before after : List Stamped) → record { directory = directory; today = on; symbols = symbols } ≡ old → on ≡ Some today → market ≡ view_of today → s < length symbols
     → was ≡ get_or symbols s was → begun ≡ before → OnOk r (Appends market x was is begun after)
@@ -75,31 +89,31 @@ one_evaluated (Ok u) s x old directory on today symbols market was is begun befo
     })
 one_evaluated (Err u) s x old directory on today symbols market was is begun before after seen day view lt item unsaid appends = tt
 
--- a record that names its symbol by an id is applied to that
+-- a record that begins no day and lists no name is applied to the symbol that it names, or to all
+applies_other : (x : Record) (old new : MarketState) (before after : List Stamped) → IsOther x → ByTarget (symbol_of x) x old new before after
+    → Applies x old new before after
+applies_other (in_.Day t d c) old new before after is by = absurd (true≢false is.no_day)
+applies_other (in_.Listing t n k l c) old new before after is by = absurd (let no = is.no_name in cc)
+applies_other (in_.Trade t i n p q f) old new before after is by = by
+applies_other (in_.Cancel t i n) old new before after is by = by
+applies_other (in_.Quote t i b o y z) old new before after is by = by
+applies_other (in_.IndexTick t v) old new before after is by = by
+applies_other (in_.Clock t) old new before after is by = by
+applies_other (in_.Notice t i k) old new before after is by = by
+applies_other (in_.Indication t i p u) old new before after is by = by
+
 pub own_applies : (r : Result (Unit {0}) NoMemory) (s : ℕ) (x : Record) (old new : MarketState) (before after : List Stamped) → symbol_of x ≡ Some s
     → OnOk r (Evaluated s x old new before after) → OnOk r (Applies x old new before after)
 own_applies (Err u) s x old new before after e one = tt
-own_applies (Ok u) s (in_.Day t d c) old new before after e one = absurd cc
-own_applies (Ok u) s (in_.Listing t n k l c) old new before after e one = absurd cc
-own_applies (Ok u) s (in_.IndexTick t v) old new before after e one = absurd cc
-own_applies (Ok u) s (in_.Clock t) old new before after e one = absurd cc
-own_applies (Ok u) s (in_.Trade t i n p q f) old new before after e one = let same : s ≡ i = cc in subst (λ (k : ℕ). Evaluated k (in_.Trade t i n p q f) old new before after) same one
-own_applies (Ok u) s (in_.Cancel t i n) old new before after e one = let same : s ≡ i = cc in subst (λ (k : ℕ). Evaluated k (in_.Cancel t i n) old new before after) same one
-own_applies (Ok u) s (in_.Quote t i b o y z) old new before after e one = let same : s ≡ i = cc in subst (λ (k : ℕ). Evaluated k (in_.Quote t i b o y z) old new before after) same one
-own_applies (Ok u) s (in_.Notice t i k) old new before after e one = let same : s ≡ i = cc in subst (λ (j : ℕ). Evaluated j (in_.Notice t i k) old new before after) same one
-own_applies (Ok u) s (in_.Indication t i p w) old new before after e one = let same : s ≡ i = cc in subst (λ (k : ℕ). Evaluated k (in_.Indication t i p w) old new before after) same one
+own_applies (Ok u) s x old new before after e one =
+    applies_other x old new before after (of_symbol x s e).other (subst (λ (o : Option ℕ). ByTarget o x old new before after) (sym e) one)
 
-pub tick_applies : (r : Result (Unit {0}) NoMemory) (x : Record) (old new : MarketState) (before after : List Stamped) → is_tick x ≡ true → OnOk r (Ticks x old new before after) → OnOk r (Applies x old new before after)
+pub tick_applies : (r : Result (Unit {0}) NoMemory) (x : Record) (old new : MarketState) (before after : List Stamped) → is_tick x ≡ true
+    → OnOk r (Ticks x old new before after) → OnOk r (Applies x old new before after)
 tick_applies (Err u) x old new before after e ticks = tt
-tick_applies (Ok u) (in_.IndexTick t v) old new before after e ticks = ticks
-tick_applies (Ok u) (in_.Clock t) old new before after e ticks = ticks
-tick_applies (Ok u) (in_.Day t d c) old new before after e ticks = absurd cc
-tick_applies (Ok u) (in_.Listing t n k l c) old new before after e ticks = absurd cc
-tick_applies (Ok u) (in_.Trade t i n p q f) old new before after e ticks = absurd cc
-tick_applies (Ok u) (in_.Cancel t i n) old new before after e ticks = absurd cc
-tick_applies (Ok u) (in_.Quote t i b o y z) old new before after e ticks = absurd cc
-tick_applies (Ok u) (in_.Notice t i k) old new before after e ticks = absurd cc
-tick_applies (Ok u) (in_.Indication t i p w) old new before after e ticks = absurd cc
+tick_applies (Ok u) x old new before after e ticks =
+    let only = tick x e in
+    applies_other x old new before after only.other (subst (λ (o : Option ℕ). ByTarget o x old new before after) (sym only.no_symbol) ticks)
 
 -- the id that is found for a name is that of a symbol
 pub id_within : (name : List ℕ) (s : ℕ) (old new : MarketState) → Finds name s old new → s < length new.symbols
@@ -133,12 +147,12 @@ get-last [] y z (suc k) le e = absurd cc
 get-last (x ∷ xs) y z zero le e = absurd (omega arith)
 get-last (x ∷ xs) y z (suc k) le e = let rest = get-last xs y z k (omega arith) e in (ap suc rest.0, rest.1)
 
-pub makes : {E : Type 0} (r : Result (Unit {0}) E) (u : Unit {0}) (name : List ℕ) (id place : ℕ) (old : MarketState) (directory with_name : List (List ℕ)) (on : Option Today) (symbols room with_symbol : List Held) (held : Held)
-    → record { directory = directory; today = on; symbols = symbols } ≡ old → position (bytes_eq name) old.directory ≡ None → length symbols ≡ length directory → id ≡ length directory → place ≡ length directory
-    → held.kept.id ≡ place → ((own : List ℕ → Bool) (h : List Event) → SaysNothing own place h → Rests own held h) → with_name ≡ directory ++ name ∷ [] → room ≡ symbols
+pub makes : {E : Type 0} (r : Result (Unit {0}) E) (u : Unit {0}) (name : List ℕ) (id index : ℕ) (old : MarketState) (directory with_name : List (List ℕ)) (on : Option Today) (symbols room with_symbol : List Held) (held : Held)
+    → record { directory = directory; today = on; symbols = symbols } ≡ old → position (bytes_eq name) old.directory ≡ None → length symbols ≡ length directory → id ≡ length directory → index ≡ length directory
+    → held.kept.id ≡ index → ((own : List ℕ → Bool) (h : List Event) → SaysNothing own index h → Rests own held h) → with_name ≡ directory ++ name ∷ [] → room ≡ symbols
     → r ≡ Ok u → with_symbol ≡ cond (is_ok r) (room ++ held ∷ []) room
     → Finds name id old (record { directory = with_name; today = on; symbols = with_symbol })
-makes r u name id place old directory with_name on symbols room with_symbol held seen fresh as_many id_is place_is held_is rests named same done pushed =
+makes r u name id index old directory with_name on symbols room with_symbol held seen fresh as_many id_is index_is held_is rests named same done pushed =
     subst (λ (xs : List Held). Finds name id old (record { directory = with_name; today = on; symbols = xs })) (sym last)
     (subst (λ (k : MarketState). Finds name id k (record { directory = with_name; today = on; symbols = symbols ++ held ∷ [] })) seen found)
   where
@@ -157,9 +171,9 @@ makes r u name id place old directory with_name on symbols room with_symbol held
       earlier = λ k below. get-before symbols held k below;
       later = λ k other behind e.
           let at = get-last symbols held other k behind e in
-          let is_place : place ≡ k = place_is ∙ sym as_many ∙ sym at.0 in
+          let is_index : index ≡ k = index_is ∙ sym as_many ∙ sym at.0 in
           record {
-            id = ap (λ (q : Held). q.kept.id) at.1 ∙ held_is ∙ is_place;
-            rests = λ own h nothing. subst (λ (q : Held). Rests own q h) (sym at.1) (rests own h (subst (λ (n : ℕ). SaysNothing own n h) (sym is_place) nothing));
+            id = ap (λ (q : Held). q.kept.id) at.1 ∙ held_is ∙ is_index;
+            rests = λ own h nothing. subst (λ (q : Held). Rests own q h) (sym at.1) (rests own h (subst (λ (n : ℕ). SaysNothing own n h) (sym is_index) nothing));
           };
     }

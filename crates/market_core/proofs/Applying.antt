@@ -15,6 +15,7 @@ use Rattle.session_core.specs.declared.state.Level.{Level}
 use Rattle.wire_in.specs.declared.record.Record.{Record}
 use Rattle.wire_in.specs.declared.record.Record.TheVariants as in_
 use Rattle.wire_in.specs.Records.{moment_of, is_day, is_tick, symbol_of}
+use Rattle.wire_in.proofs.RecordKinds.{by_name, by_tick}
 use Rattle.wire_out.specs.declared.message.Message.{Message}
 use Rattle.wire_out.specs.declared.message.Message.TheVariants.{MarketResume}
 use Rattle.wire_out.specs.declared.message.Stamped.{Stamped}
@@ -29,6 +30,8 @@ use Rattle.rulebook.specs.Market.{day_record, market_halt_in, market_halt, great
 use Rattle.rulebook.proofs.Histories.{own_part, parts, market_part, tick-part, publish-append, records-history, in_order, step_messages-publish, last_day-day_record, first_part}
 use Rattle.rulebook.proofs.Ids.{listed-below}
 use Rattle.rulebook.proofs.Listings.{own_name}
+use Rattle.rulebook.proofs.Lawful.{passes}
+use Rattle.rulebook.proofs.OtherRecords.{day_record-same, names-same}
 use Rattle.rulebook.proofs.Positions.{is_some-position}
 use Rattle.rulebook.proofs.OfSymbol.{AllOfSymbols, of_symbol, own_part-by, by_other, parts-of_symbols, greatest-publish, market_halt-publish}
 use Rattle.symbol_core.specs.Rests.{Held, Rests}
@@ -38,11 +41,11 @@ use Rattle.market_core.specs.AdmissionState.{lacks_room, added}
 use Rattle.market_core.specs.Applied.{EachEvaluated, OneEvaluated, Finds, Ticks, Evaluated, Applies}
 use Rattle.market_core.specs.MarketState.{MarketState, Represents, SymbolsRepresent, day_of}
 use Rattle.market_core.specs.Ruled.{stamped, resumption, with_level_on, ruled, ruling, view_of}
-use Rattle.market_core.proofs.Admitting.{passes, added_name}
-use Rattle.market_core.proofs.Resting.{says-on, of_others, of_none}
-use Rattle.market_core.proofs.Stepping.{opened, day-kept, Begun, own_step, own_symbol, agree-before}
+use Rattle.market_core.proofs.Admitting.{added_name}
+use Rattle.market_core.proofs.RecordsOfOthers.{says-on, of_others, of_none}
+use Rattle.market_core.proofs.OwnSteps.{opened, Begun, own_step, own_symbol, agree-before}
 use Rattle.market_core.proofs.Appending.{id_within}
-use Rattle.market_core.proofs.Ticking.{Ticked, ToldBelow, told_below, day_below, ruled_history, parts_to, before_id, history-before, none-before}
+use Rattle.market_core.proofs.MarketSteps.{Ticked, ToldBelow, told_below, day_below, ruled_history, parts_to, before_id, history-before, none-before}
 use Rattle.market_core.proofs.Verdicts.{no_room}
 
 -- What an admissible record finds.
@@ -81,7 +84,7 @@ has_room capacity A kept x s passed =
     let after_again = (passes (lists_again A x) _ _ after_unknown).1 in
     ap (λ ns. lacks_room ns x) s.directory ∙ no_room A x ∙ (passes (finds_no_id A x) _ _ after_again).0
 
--- A listing has the place of its name.
+-- A listing has the index of its name.
 
 position_push : {X : Type 0} (p : X → Bool) (j : ℕ) (xs : List X) (y : X) → list_any p xs ≡ false → p y ≡ true → position_from p j (xs ++ y ∷ []) ≡ Some (j + length xs)
 position_push p j [] y none own = ap (λ b. cond b (Some j) None) own ∙ ap (λ (n : ℕ). Some n) (omega arith)
@@ -91,9 +94,9 @@ position_push p j (x ∷ xs) y none own = by (p x) none (position_push p (j + 1)
   by true none rest = absurd (true≢false none)
   by false none rest = rest none own ∙ ap (λ (n : ℕ). Some n) (omega arith)
 
--- the place of a name after it is listed
-place_listed : (ns : List (List ℕ)) (name : List ℕ) → position (bytes_eq name) (with_name ns name) ≡ Some (unwrap_or (position (bytes_eq name) ns) (length ns))
-place_listed ns name = by (position (bytes_eq name) ns) refl where
+-- the index of a name after it is listed
+index_listed : (ns : List (List ℕ)) (name : List ℕ) → position (bytes_eq name) (with_name ns name) ≡ Some (unwrap_or (position (bytes_eq name) ns) (length ns))
+index_listed ns name = by (position (bytes_eq name) ns) refl where
   among : (o : Option ℕ) → position (bytes_eq name) ns ≡ o → is_among ns name ≡ is_some o
   among o e = sym (is_some-position (bytes_eq name) ns) ∙ ap is_some e
 
@@ -150,33 +153,25 @@ clock_kept false t h d = refl
 
 -- they publish what the definitions say
 ruling-part : (x : Record) (A : List Record) (d : Day × ℕ) → is_tick x ≡ true → day_record A ≡ Some d → ruling x (day_of A d) ≡ market_part x (opened x A)
-ruling-part (in_.Clock t) A d e on = sym (append-nil (resumption t (day_of A d)))
-ruling-part (in_.IndexTick t value) A d e on =
-    ap (λ (ms : List Message). resumption t (day_of A d) ++ ms) (sym (declared (ends t (market_halt (history A))) t value (history A) d (day_recorded A d on)))
-ruling-part (in_.Day t day c) A d e on = absurd cc
-ruling-part (in_.Listing t n k l c) A d e on = absurd cc
-ruling-part (in_.Trade t s n p q f) A d e on = absurd cc
-ruling-part (in_.Cancel t s n) A d e on = absurd cc
-ruling-part (in_.Quote t s b o y z) A d e on = absurd cc
-ruling-part (in_.Notice t s k) A d e on = absurd cc
-ruling-part (in_.Indication t s p u) A d e on = absurd cc
+ruling-part x A d e on =
+    by_tick (λ y. ruling y (day_of A d) ≡ market_part y (opened y A)) (λ t. sym (append-nil (resumption t (day_of A d))))
+    (λ t value. ap (λ (ms : List Message). resumption t (day_of A d) ++ ms)
+    (sym (declared (ends t (market_halt (history A))) t value (history A) d (day_recorded A d on)))) x e
 
 -- and leave the day as the history has it
 ruled-history : (x : Record) (A : List Record) (d : Day × ℕ) → is_tick x ≡ true → day_record A ≡ Some d → ruled x (day_of A d) ≡ day_in (ruled_history x A) d
-ruled-history (in_.Clock t) A d e on =
-    clock_kept (ends t (market_halt (history A))) t (history A) d
-    ∙ ap (λ (ms : List Message). day_in (publish ms (opened (in_.Clock t) A)) d) (sym (append-nil (resumption t (day_of A d))))
-ruled-history (in_.IndexTick t value) A d e on =
-    let x = in_.IndexTick t value in
-    tick_kept (ends t (market_halt (history A))) t value A d on
-    ∙ ap (λ (h : List Event). day_in h d) (sym (publish-append (resume_at x (opened x A)) (declare_at x (publish (resume_at x (opened x A)) (opened x A))) (opened x A)))
-ruled-history (in_.Day t day c) A d e on = absurd cc
-ruled-history (in_.Listing t n k l c) A d e on = absurd cc
-ruled-history (in_.Trade t s n p q f) A d e on = absurd cc
-ruled-history (in_.Cancel t s n) A d e on = absurd cc
-ruled-history (in_.Quote t s b o y z) A d e on = absurd cc
-ruled-history (in_.Notice t s k) A d e on = absurd cc
-ruled-history (in_.Indication t s p u) A d e on = absurd cc
+ruled-history x A d e on = by_tick (λ y. ruled y (day_of A d) ≡ day_in (ruled_history y A) d) clock index x e where
+  clock : (t : ℕ) → ruled (in_.Clock t) (day_of A d) ≡ day_in (ruled_history (in_.Clock t) A) d
+  clock t =
+      clock_kept (ends t (market_halt (history A))) t (history A) d
+      ∙ ap (λ (ms : List Message). day_in (publish ms (opened (in_.Clock t) A)) d) (sym (append-nil (resumption t (day_of A d))))
+
+  index : (t value : ℕ) → ruled (in_.IndexTick t value) (day_of A d) ≡ day_in (ruled_history (in_.IndexTick t value) A) d
+  index t value =
+      let x = in_.IndexTick t value in
+      tick_kept (ends t (market_halt (history A))) t value A d on
+      ∙ ap (λ (h : List Event). day_in h d)
+      (sym (publish-append (resume_at x (opened x A)) (declare_at x (publish (resume_at x (opened x A)) (opened x A))) (opened x A)))
 
 -- messages of symbols leave it
 day_in-publish : (ms : List Message) (h : List Event) (d : Day × ℕ) → AllOfSymbols ms → day_in (publish ms h) d ≡ day_in h d
@@ -199,25 +194,20 @@ on_day kept A d s on = s.today ∙ ap (option_map (day_of A)) on
 
 -- the day of the list with one more record
 next_day : (x : Record) (A : List Record) (d : Day × ℕ) (kept : Today) → is_day x ≡ false → day_record A ≡ Some d → kept ≡ day_of (x ∷ A) d → Some kept ≡ option_map (day_of (x ∷ A)) (day_record (x ∷ A))
-next_day x A d kept no_day on e = ap (λ (today : Today). Some today) e ∙ sym (ap (option_map (day_of (x ∷ A))) (day-kept x A no_day ∙ on))
+next_day x A d kept no_day on e = ap (λ (today : Today). Some today) e ∙ sym (ap (option_map (day_of (x ∷ A))) (day_record-same x A no_day ∙ on))
 
 -- what an admissible record leaves
 abbrev pub Goes : Record → List Record → MarketState → List Stamped → List Stamped → Type 0
 Goes x A new before after = (after ≡ before ++ newest_messages (x ∷ A)) × Represents new (x ∷ A)
 
 names-grow : (x : Record) (A : List Record) → length (names A) ≤ length (names (x ∷ A))
-names-grow (in_.Listing t n k l c) A = by (is_among (names A) n) where
-  by : (b : Bool) → length (names A) ≤ length (cond b (names A) (names A ++ n ∷ []))
-  by true = omega arith
-  by false = omega (arith, length-append (names A) (n ∷ []))
-names-grow (in_.Day t d c) A = omega arith
-names-grow (in_.Trade t s n p q f) A = omega arith
-names-grow (in_.Cancel t s n) A = omega arith
-names-grow (in_.Quote t s b o y z) A = omega arith
-names-grow (in_.IndexTick t v) A = omega arith
-names-grow (in_.Clock t) A = omega arith
-names-grow (in_.Notice t s k) A = omega arith
-names-grow (in_.Indication t s p u) A = omega arith
+names-grow x A =
+    by_name (λ y. length (names A) ≤ length (names (y ∷ A))) (λ t n k l c. by n (is_among (names A) n))
+    (λ y e. let same = names-same y A e in subst (λ (ns : List (List ℕ)). length (names A) ≤ length ns) (sym same) (omega arith)) x
+  where
+    by : (n : List ℕ) (b : Bool) → length (names A) ≤ length (cond b (names A) (names A ++ n ∷ []))
+    by n true = omega arith
+    by n false = omega (arith, length-append (names A) (n ∷ []))
 
 -- A record of one symbol.
 
@@ -303,7 +293,7 @@ listing_goes capacity t name k l c A old new before after stands passed listed =
     let count : length lists.with_name.symbols ≡ length (names (x ∷ A)) = found.count ∙ ap length directory in
     let id : lists.symbol ≡ unwrap_or (position (bytes_eq name) (names A)) (length (names A)) = found.id ∙ ap (λ ns. unwrap_or (position (bytes_eq name) ns) (length ns)) stands.directory in
     own_goes x A day.0 lists.symbol lists.with_name new before after refl refl day.1 (in_order A x refl (not_early capacity A x passed))
-    (place_listed (names A) name ∙ ap (λ (n : ℕ). Some n) (sym id))
+    (index_listed (names A) name ∙ ap (λ (n : ℕ). Some n) (sym id))
     (subst (λ (n : ℕ). lists.symbol < n) count (id_within name lists.symbol old lists.with_name found)) directory (found.today ∙ on) count (found-stand A name lists.symbol old lists.with_name stands found) stands.others lists.evaluated
 
 -- A clock or an index tick.

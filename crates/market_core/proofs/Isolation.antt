@@ -11,9 +11,11 @@ use Rattle.session_core.specs.declared.day.Day.{Day}
 use Rattle.wire_in.specs.declared.record.Record.{Record}
 use Rattle.wire_in.specs.declared.record.Record.TheVariants as in_
 use Rattle.wire_in.specs.Records.{moment_of, is_day, is_tick, name_of}
+use Rattle.wire_in.proofs.RecordKinds.{IsOther, by_listing, by_tick, tick as only_ticks}
 use Rattle.wire_out.specs.declared.message.Message.{Message}
 use Rattle.wire_out.specs.declared.message.Message.TheVariants as out
 use Rattle.wire_out.specs.declared.message.Stamped.{Stamped}
+use Rattle.breaker_core.specs.declared.breaker.Halt.{Halt}
 use Rattle.breaker_core.specs.Levels.{ends, declares, percent_of}
 use Rattle.rulebook.specs.declared.event.Event.{Event}
 use Rattle.rulebook.specs.declared.event.Event.TheVariants.{Accepted, Published}
@@ -25,6 +27,7 @@ use Rattle.rulebook.specs.Market.{breaks, day_record, greatest_declared, greates
 use Rattle.rulebook.specs.Symbol.{terms, terms_in}
 use Rattle.rulebook.proofs.Histories.{evaluate-part, evaluate_market-part, evaluate_own-part, in_order, market_part, messages-publish, now-publish, now-today, own_part, part, publish-append, records-history, records-publish, step_messages-publish}
 use Rattle.rulebook.proofs.Ids.{listed-below, same_id}
+use Rattle.rulebook.proofs.OtherRecords.{day_record-same}
 use Rattle.rulebook.proofs.OfSymbol.{AllOfSymbols, NoneBy, NoneBy-append, by_market, greatest-publish, market_halt-publish, market_part-by, of_symbol, own_part-by, parts-below, parts-of_symbols}
 use Rattle.symbol_core.specs.declared.symbol.MarketView.{MarketView}
 use Rattle.symbol_core.specs.Evaluates.{Opens, part_of, step_of}
@@ -38,9 +41,9 @@ use Rattle.market_core.specs.Applied.{Applies}
 use Rattle.market_core.specs.MarketState.{MarketState, Represents}
 use Rattle.market_core.specs.Ruled.{stamped}
 use Rattle.market_core.proofs.Applying.{declared, goes, not_early, open_day, step_tick}
-use Rattle.market_core.proofs.Resting.{rests-on, rests-publish, silent}
-use Rattle.market_core.proofs.Stepping.{agree-before, apart_ids, day-kept, opened, own_listing, own_said, own_step, ready}
-use Rattle.market_core.proofs.Ticking.{Ticked, before_id, history-before, history_to, listed-open, part_of-tick, parts-more, parts_to, ruled_history, said_if, said_if-own, tick_day, tick_name}
+use Rattle.market_core.proofs.RecordsOfOthers.{of_another, rests-on, rests-publish, silent}
+use Rattle.market_core.proofs.OwnSteps.{agree-before, apart_ids, opened, own_listing, own_said, own_step, ready}
+use Rattle.market_core.proofs.MarketSteps.{Ticked, before_id, history-before, history_to, listed-open, part_of-tick, parts-more, parts_to, ruled_history, said_if, said_if-own, tick_name}
 use Rattle.market_core.proofs.Views.{NotFor, NotFor-append, filter-all, filter-none, for-stamped, market_for, none_by, not_for, others_for, own_for, records-isolated, terms-isolated, view-more}
 
 -- alone, every name is the symbol's
@@ -48,15 +51,10 @@ abbrev every : List ℕ → Bool
 every name = true
 
 every_name : (x : Record) → option_map_or every (name_of x) true ≡ true
-every_name (in_.Day t d c) = refl
-every_name (in_.Listing t n k l c) = refl
-every_name (in_.Trade t i n p q f) = refl
-every_name (in_.Cancel t i n) = refl
-every_name (in_.Quote t i b o y z) = refl
-every_name (in_.IndexTick t v) = refl
-every_name (in_.Clock t) = refl
-every_name (in_.Notice t i k) = refl
-every_name (in_.Indication t i p u) = refl
+every_name x = by (name_of x) where
+  by : (o : Option (List ℕ)) → option_map_or every o true ≡ true
+  by None = refl
+  by (Some name) = refl
 
 -- the symbol's own history
 abbrev solo : ℕ → List Record → List Event
@@ -193,7 +191,7 @@ market_of capacity s x A no_day passed so = by (open_day capacity A x no_day pas
       greatest = greatest-record x (history A) no_day ∙ so.greatest ∙ sym (greatest-record x (solo s A) no_day);
       later = later;
       later_alone = let before = so.later in let after = later in omega arith;
-      day = day-kept x A no_day ∙ so.day ∙ sym (day-kept x (view A s) no_day);
+      day = day_record-same x A no_day ∙ so.day ∙ sym (day_record-same x (view A s) no_day);
     },
   )
 
@@ -203,7 +201,7 @@ part-isolated : (s : ℕ) (x : Record) (A : List Record) (d : Day × ℕ) (ms : 
 part-isolated s x A d ms k =
     let h = publish ms (opened_alone x s A) in
     ap (λ (o : Option (Day × ℕ)). option_map_or (λ day. all_obeyed day.0 (isolated s) x symbol_rules h) o [])
-    (ap day_record (records-publish ms (opened_alone x s A)) ∙ day-kept x (records (solo s A)) k.no_day ∙ k.isolated)
+    (ap day_record (records-publish ms (opened_alone x s A)) ∙ day_record-same x (records (solo s A)) k.no_day ∙ k.isolated)
 
 -- the kept state is ready for the record in both
 record Ready (s : ℕ) (x : Record) (A : List Record) (d : Day × ℕ) (others more : List Message) (held : Held) : Type 0 where
@@ -285,17 +283,6 @@ own_both s x A d no_tick own so k =
 
 -- A record of another symbol.
 
-of_another : (A : List Record) (x : Record) (s : ℕ) → is_day x ≡ false → is_tick x ≡ false → option_map_or (λ id. id == s) (target (x ∷ A) x) false ≡ false → IsOfOthers (named (x ∷ A) s).own s x
-of_another A (in_.Listing t n k l c) s no_day no_tick e = record { symbol = refl; name = e }
-of_another A (in_.Trade t i n p q f) s no_day no_tick e = record { symbol = e; name = refl }
-of_another A (in_.Cancel t i n) s no_day no_tick e = record { symbol = e; name = refl }
-of_another A (in_.Quote t i b o y z) s no_day no_tick e = record { symbol = e; name = refl }
-of_another A (in_.Notice t i k) s no_day no_tick e = record { symbol = e; name = refl }
-of_another A (in_.Indication t i p u) s no_day no_tick e = record { symbol = e; name = refl }
-of_another A (in_.Day t d c) s no_day no_tick e = absurd cc
-of_another A (in_.IndexTick t v) s no_day no_tick e = absurd cc
-of_another A (in_.Clock t) s no_day no_tick e = absurd cc
-
 record Another (s : ℕ) (x : Record) (A : List Record) : Type 0 where
   pub ms : List Message
   pub whole : history (x ∷ A) ≡ publish ms (opened x A)
@@ -328,13 +315,13 @@ another_goes s x A d no_tick apart e so k a =
               held = held;
               id = so.twins.id;
               one = rests-on (named A s).own (named (x ∷ A) s).own held x a.ms (history A) (agree-before x A s)
-                  (subst (λ (i : ℕ). IsOfOthers (named (x ∷ A) s).own i x) (sym so.twins.id) (of_another A x s k.no_day no_tick apart)) k.no_day k.later
+                  (subst (λ (i : ℕ). IsOfOthers (named (x ∷ A) s).own i x) (sym so.twins.id) (of_another A x s apart)) k.no_day k.later
                   (subst (λ (i : ℕ). NoneBy i a.ms) (sym so.twins.id) (none_by s a.ms a.none)) so.twins.one;
               two = so.twins.two;
             });
         halt = ap market_halt a.whole ∙ market_halt-publish a.ms H a.symbols ∙ halt-record x (history A) k.no_day ∙ so.halt ∙ sym (ap market_halt alone_is);
         greatest = ap greatest_declared a.whole ∙ greatest-publish a.ms H a.symbols ∙ greatest-record x (history A) k.no_day ∙ so.greatest ∙ sym (ap greatest_declared alone_is);
-        day = day-kept x A k.no_day ∙ so.day ∙ sym (ap day_record view_is);
+        day = day_record-same x A k.no_day ∙ so.day ∙ sym (ap day_record view_is);
         later = let here = ap now a.whole ∙ now-publish a.ms H in let there = ap now alone_is in let before = k.later_alone in omega arith;
         said =
             ap (for_symbol s) (ap messages a.whole ∙ messages-publish a.ms H)
@@ -368,18 +355,20 @@ another_goes s x A d no_tick apart e so k a =
 
 -- the market-wide rules publish the same
 market_same : (s : ℕ) (x : Record) (A : List Record) (d : Day × ℕ) → is_tick x ≡ true → InStep s A → MarketOf s x A d → market_part x (opened x A) ≡ market_part x (opened_alone x s A)
-market_same s (in_.Clock t) A d tick so k = ap (λ o. cond (ends t o) (out.MarketResume ∷ []) [] ++ []) so.halt
-market_same s (in_.IndexTick t value) A d tick so k =
-    ap (λ (ms : List Message). cond (ends t (market_halt (history A))) (out.MarketResume ∷ []) [] ++ ms) (declared (ends t (market_halt (history A))) t value (history A) d (ap day_record (records-history A) ∙ k.on))
-    ∙ (λ i. cond (ends t (so.halt i)) (out.MarketResume ∷ []) [] ++ breaks value (declares (cond (ends t (so.halt i)) None (so.halt i)) (so.greatest i) d.1 d.0 t value))
-    ∙ ap (λ (ms : List Message). cond (ends t (market_halt (solo s A))) (out.MarketResume ∷ []) [] ++ ms) (sym (declared (ends t (market_halt (solo s A))) t value (solo s A) d k.isolated))
-market_same s (in_.Day t day c) A d tick so k = absurd cc
-market_same s (in_.Listing t n q l c) A d tick so k = absurd cc
-market_same s (in_.Trade t i n p q f) A d tick so k = absurd cc
-market_same s (in_.Cancel t i n) A d tick so k = absurd cc
-market_same s (in_.Quote t i b o y z) A d tick so k = absurd cc
-market_same s (in_.Notice t i q) A d tick so k = absurd cc
-market_same s (in_.Indication t i p u) A d tick so k = absurd cc
+market_same s x A d tick so k = by_tick (λ y. market_part y (opened y A) ≡ market_part y (opened_alone y s A)) clock index x tick where
+  clock : (t : ℕ) → market_part (in_.Clock t) (opened (in_.Clock t) A) ≡ market_part (in_.Clock t) (opened_alone (in_.Clock t) s A)
+  clock t = ap (λ o. cond (ends t o) (out.MarketResume ∷ []) [] ++ []) so.halt
+
+  resumed : ℕ → Option Halt → List Message → List Message
+  resumed t halt ms = cond (ends t halt) (out.MarketResume ∷ []) [] ++ ms
+
+  index : (t v : ℕ) → market_part (in_.IndexTick t v) (opened (in_.IndexTick t v) A) ≡ market_part (in_.IndexTick t v) (opened_alone (in_.IndexTick t v) s A)
+  index t v =
+      let whole = market_halt (history A) in
+      let own = market_halt (solo s A) in
+      ap (resumed t whole) (declared (ends t whole) t v (history A) d (ap day_record (records-history A) ∙ k.on))
+      ∙ (λ i. resumed t (so.halt i) (breaks v (declares (cond (ends t (so.halt i)) None (so.halt i)) (so.greatest i) d.1 d.0 t v)))
+      ∙ ap (resumed t own) (sym (declared (ends t own) t v (solo s A) d k.isolated))
 
 -- what the symbol publishes after these messages of the tick
 abbrev mine_after : ℕ → Record → List Record → Day × ℕ → List Message → List Message
@@ -582,7 +571,7 @@ tick_both s x A d n count tick so k sp =
         ∙ ap (λ (ms : List Message). publish ms H) (append_assoc mp sp.before (mine ++ sp.after) ∙ ap (λ (ms : List Message). mp ++ ms) (sym sp.parts))
 
 tick_goes_alone : (capacity s : ℕ) (x : Record) (A : List Record) → is_tick x ≡ true → concerns (x ∷ A) s x ≡ true → verdict capacity A x ≡ None → InStep s A → Goes s x A
-tick_goes_alone capacity s x A tick e passed so = by (market_of capacity s x A (tick_day x tick) passed so) where
+tick_goes_alone capacity s x A tick e passed so = by (market_of capacity s x A (only_ticks x tick).other.no_day passed so) where
   n : ℕ
   n = length (names (x ∷ A))
 
@@ -627,15 +616,14 @@ day_goes_alone s t day c A so =
     })
 
 one_goes : (capacity s : ℕ) (x : Record) (A : List Record) → verdict capacity A x ≡ None → InStep s A → Goes s x A
-one_goes capacity s (in_.Day t day c) A passed so = day_goes_alone s t day c A so
-one_goes capacity s (in_.Clock t) A passed so = tick_goes_alone capacity s (in_.Clock t) A refl refl passed so
-one_goes capacity s (in_.IndexTick t value) A passed so = tick_goes_alone capacity s (in_.IndexTick t value) A refl refl passed so
-one_goes capacity s (in_.Listing t n k l c) A passed so = own_goes_alone capacity s (in_.Listing t n k l c) A refl refl passed so
-one_goes capacity s (in_.Trade t i n p q f) A passed so = own_goes_alone capacity s (in_.Trade t i n p q f) A refl refl passed so
-one_goes capacity s (in_.Cancel t i n) A passed so = own_goes_alone capacity s (in_.Cancel t i n) A refl refl passed so
-one_goes capacity s (in_.Quote t i b o y z) A passed so = own_goes_alone capacity s (in_.Quote t i b o y z) A refl refl passed so
-one_goes capacity s (in_.Notice t i k) A passed so = own_goes_alone capacity s (in_.Notice t i k) A refl refl passed so
-one_goes capacity s (in_.Indication t i p u) A passed so = own_goes_alone capacity s (in_.Indication t i p u) A refl refl passed so
+one_goes capacity s x A passed so =
+    by_listing (λ y. verdict capacity A y ≡ None → Goes s y A) (λ t day c passed. day_goes_alone s t day c A so)
+    (λ t n k l c passed. own_goes_alone capacity s (in_.Listing t n k l c) A refl refl passed so)
+    (λ y o passed. by y o (is_tick y) refl passed) x passed
+  where
+    by : (y : Record) → IsOther y → (b : Bool) → is_tick y ≡ b → verdict capacity A y ≡ None → Goes s y A
+    by y o true tick passed = tick_goes_alone capacity s y A tick (λ i. o.no_day i || tick i || option_map_or (λ id. id == s) (target (y ∷ A) y) false) passed so
+    by y o false no_tick passed = own_goes_alone capacity s y A o.no_day no_tick passed so
 
 all_go : (capacity s : ℕ) (A : List Record) → IsLawful capacity A → InStep s A
 all_go capacity s [] lawful =
@@ -649,23 +637,23 @@ all_go capacity s [] lawful =
     }
 all_go capacity s (x ∷ A) lawful = (one_goes capacity s x A lawful.0 (all_go capacity s A lawful.1)).speaks
 
-pub speaks_alone : IsIsolated
-speaks_alone capacity accepted s lawful = (all_go capacity s accepted lawful).said
+pub is_isolated : IsIsolated
+is_isolated capacity accepted s lawful = (all_go capacity s accepted lawful).said
 
-pub each_step_alone : EachStepIsIsolated
-each_step_alone capacity [] s lawful = refl
-each_step_alone capacity (x ∷ A) s lawful = (one_goes capacity s x A lawful.0 (all_go capacity s A lawful.1)).newest
+pub each_step_is_isolated : EachStepIsIsolated
+each_step_is_isolated capacity [] s lawful = refl
+each_step_is_isolated capacity (x ∷ A) s lawful = (one_goes capacity s x A lawful.0 (all_go capacity s A lawful.1)).newest
 
 -- a symbol's messages depend on its view alone
-pub hears_its_view : DependsOnItsView
-hears_its_view capacity a b s first second same =
-    speaks_alone capacity a s first ∙ ap (λ (v : List Record). messages (isolated_history s v)) same ∙ sym (speaks_alone capacity b s second)
+pub depends_on_its_view : DependsOnItsView
+depends_on_its_view capacity a b s first second same =
+    is_isolated capacity a s first ∙ ap (λ (v : List Record). messages (isolated_history s v)) same ∙ sym (is_isolated capacity b s second)
 
 -- the same of a call that may have found no memory
-pub call_alone : (r : Result (Unit {0}) NoMemory) (capacity : ℕ) (x : Record) (A : List Record) (s : ℕ) (old new : MarketState) (before after : List Stamped) → Represents old A → IsLawful capacity (x ∷ A)
+pub call_is_isolated : (r : Result (Unit {0}) NoMemory) (capacity : ℕ) (x : Record) (A : List Record) (s : ℕ) (old new : MarketState) (before after : List Stamped) → Represents old A → IsLawful capacity (x ∷ A)
     → OnOk r (Applies x old new before after) → OnOk r (for_symbol s after ≡ for_symbol s before ++ newest_isolated s (x ∷ A))
-call_alone (Ok y) capacity x A s old new before after stands lawful a =
+call_is_isolated (Ok y) capacity x A s old new before after stands lawful a =
     ap (for_symbol s) (goes capacity x A old new before after stands lawful.0 a).0
     ∙ filter-append _ before (newest_messages (x ∷ A))
-    ∙ ap (λ (ms : List Stamped). for_symbol s before ++ ms) (each_step_alone capacity (x ∷ A) s lawful)
-call_alone (Err y) capacity x A s old new before after stands lawful a = tt
+    ∙ ap (λ (ms : List Stamped). for_symbol s before ++ ms) (each_step_is_isolated capacity (x ∷ A) s lawful)
+call_is_isolated (Err y) capacity x A s old new before after stands lawful a = tt

@@ -1,10 +1,10 @@
 pub mod Verdicts
-pub mod Marks
+pub mod MarkedNames
 pub mod Admitting
 pub mod Appending
-pub mod Resting
-pub mod Stepping
-pub mod Ticking
+pub mod RecordsOfOthers
+pub mod OwnSteps
+pub mod MarketSteps
 pub mod Applying
 pub mod Views
 pub mod Isolation

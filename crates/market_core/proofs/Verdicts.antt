@@ -12,7 +12,7 @@ use Rattle.wire_in.specs.declared.record.Record.TheVariants as in_
 use Rattle.wire_in.specs.declared.record.Refusal.{Refusal}
 use Rattle.wire_in.specs.declared.record.Refusal.TheVariants.{NoDay, OutOfOrder, UnknownSymbol, AlreadyListed, DirectoryFull, JournalFull}
 use Rattle.wire_in.specs.Records.{symbol_of, is_day}
-use Rattle.rulebook.specs.Admission.{verdict, names, last_day, is_listed_name, is_listed, is_early, is_unknown, lists_again, finds_no_id}
+use Rattle.rulebook.specs.Admission.{verdict, names, most_names, last_day, is_listed_name, is_listed, is_early, is_unknown, lists_again, finds_no_id}
 use Rattle.market_core.specs.Dated.{is_on}
 use Rattle.market_core.specs.AdmissionState.{AdmissionState, Represents, refusal_of, last_moment, is_out_of_order, is_listed_id, names_unlisted, lists_twice, lacks_room}
 use Rattle.rulebook.proofs.Positions.{is_some-position}
@@ -22,7 +22,7 @@ option_map_or-option_map : {X Y : Type 0} (f : X → Y) (test : Y → Bool) (o :
 option_map_or-option_map f test None = refl
 option_map_or-option_map f test (Some x) = refl
 
--- a test of the element at a place is the element at that place of the tests
+-- a test of the element at an index is the element at that index of the tests
 tested : {X : Type 0} (f : X → Bool) (xs : List X) (i : ℕ) → option_map_or f (slice_get xs i) false ≡ option_map_or (λ b. b) (slice_get (map f xs) i) false
 tested f xs i = sym (option_map_or-option_map f (λ b. b) (slice_get xs i)) ∙ ap (λ o. option_map_or (λ b. b) o false) (sym (slice_get-map f xs i))
 
@@ -66,7 +66,7 @@ is_none-is_some (Some x) = refl
 
 pub no_room : (A : List Record) (x : Record) → lacks_room (names A) x ≡ finds_no_id A x
 no_room A (in_.Listing t name k l c) =
-    ap (λ b. b && nat_le 16384 (length (names A))) (is_none-is_some (position (bytes_eq name) (names A)) ∙ ap not (is_some-position (bytes_eq name) (names A)))
+    ap (λ b. b && nat_le most_names (length (names A))) (is_none-is_some (position (bytes_eq name) (names A)) ∙ ap not (is_some-position (bytes_eq name) (names A)))
 no_room A (in_.Day t d c) = refl
 no_room A (in_.Trade t s n p q f) = refl
 no_room A (in_.Cancel t s n) = refl

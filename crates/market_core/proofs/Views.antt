@@ -1,60 +1,51 @@
 -- The records that concern a symbol, and the messages for it.
-use Rattle.std.proofs.Common.{◌≡◌, ℕ, Bool, true, false, cond, List, [], ◌∷◌, ◌++◌, Some, None, is_some, refl, sym, ap, ◌∙◌}
-use Rattle.std.specs.Prelude.{◌==◌, filter}
+use Rattle.std.proofs.Common.{◌≡◌, ℕ, Bool, true, false, cond, List, [], ◌∷◌, ◌++◌, Option, Some, None, is_some, refl, sym, ap, ◌∙◌}
+use Rattle.std.specs.Prelude.{◌==◌, ◌||◌, filter}
+use Rattle.std.specs.List.{list_any}
+use Rattle.std.specs.Option.{option_map_or}
 use Rattle.wire_in.specs.declared.record.Record.{Record}
-use Rattle.wire_in.specs.declared.record.Record.TheVariants as in_
-use Rattle.wire_in.specs.Records.{is_day, is_tick}
+use Rattle.wire_in.specs.Records.{is_day, is_tick, name_of, symbol_of}
+use Rattle.wire_in.proofs.RecordKinds.{IsOther, by_listing, by_name}
 use Rattle.wire_out.specs.declared.message.Message.{Message}
 use Rattle.wire_out.specs.declared.message.Message.TheVariants as out
 use Rattle.wire_out.specs.declared.message.Stamped.{Stamped}
 use Rattle.rulebook.specs.declared.event.Event.{Event}
 use Rattle.rulebook.specs.declared.event.Event.TheVariants.{Accepted}
-use Rattle.rulebook.specs.Admission.{names}
-use Rattle.rulebook.specs.Isolation.{isolated, concerns, for_symbol, isolated_history, is_for, is_listed_in_view, view}
+use Rattle.rulebook.specs.Admission.{id_of, names, since_day}
+use Rattle.rulebook.specs.Isolation.{isolated, concerns, for_symbol, isolated_history, is_for, is_listed_in_view, is_listing, view}
 use Rattle.rulebook.specs.Book.{evaluate, evaluate_market, evaluate_own, named}
 use Rattle.rulebook.specs.History.{records}
 use Rattle.rulebook.specs.Symbol.{terms_in}
 use Rattle.rulebook.proofs.Histories.{evaluate-part, evaluate_market-part, evaluate_own-part, market_part, own_part, part, records-publish}
 use Rattle.rulebook.proofs.Ids.{Agree, earlier_agree, own-kept, own_id}
 use Rattle.rulebook.proofs.Listings.{among_own}
+use Rattle.rulebook.proofs.OtherRecords.{leaves}
 use Rattle.rulebook.proofs.OfSymbol.{AllBy, AllOfSymbols, NoneBy, by_other, is_by, of_symbol, speaker}
 use Rattle.market_core.specs.Ruled.{stamped}
 
 -- Records.
 
+-- whether a record names s, by a test of its name or by its id
+abbrev names_s : (List ℕ → Bool) → ℕ → Option ℕ → Option (List ℕ) → Bool
+names_s own s symbol None = option_map_or (λ id. id == s) symbol false
+names_s own s symbol (Some name) = own name
+
 -- a record is market-wide, or of s by its id or by a test of its name
 abbrev concerns_by : (List ℕ → Bool) → ℕ → Record → Bool
-concerns_by own s (in_.Day t d c) = true
-concerns_by own s (in_.Listing t name k l c) = own name
-concerns_by own s (in_.Trade t i n p q f) = i == s
-concerns_by own s (in_.Cancel t i n) = i == s
-concerns_by own s (in_.Quote t i b o y z) = i == s
-concerns_by own s (in_.IndexTick t v) = true
-concerns_by own s (in_.Clock t) = true
-concerns_by own s (in_.Notice t i k) = i == s
-concerns_by own s (in_.Indication t i p u) = i == s
+concerns_by own s x = is_day x || is_tick x || names_s own s (symbol_of x) (name_of x)
 
 concerns-by : (A : List Record) (s : ℕ) (x : Record) → concerns A s x ≡ concerns_by (named A s).own s x
-concerns-by A s (in_.Day t d c) = refl
-concerns-by A s (in_.Listing t name k l c) = refl
-concerns-by A s (in_.Trade t i n p q f) = refl
-concerns-by A s (in_.Cancel t i n) = refl
-concerns-by A s (in_.Quote t i b o y z) = refl
-concerns-by A s (in_.IndexTick t v) = refl
-concerns-by A s (in_.Clock t) = refl
-concerns-by A s (in_.Notice t i k) = refl
-concerns-by A s (in_.Indication t i p u) = refl
+concerns-by A s x = ap (λ (b : Bool). is_day x || is_tick x || b) (by (name_of x)) where
+  by : (o : Option (List ℕ)) → option_map_or (λ id. id == s) (elim o [ Some name ↦ id_of A name | None ↦ symbol_of x ]) false
+      ≡ names_s (named A s).own s (symbol_of x) o
+  by None = refl
+  by (Some name) = refl
 
 by-agree : (own other : List ℕ → Bool) (s : ℕ) (x : Record) (A : List Record) → Agree own other (x ∷ A) → concerns_by own s x ≡ concerns_by other s x
-by-agree own other s (in_.Listing t name k l c) A e = e.at name (among_own (names A) name)
-by-agree own other s (in_.Day t d c) A e = refl
-by-agree own other s (in_.Trade t i n p q f) A e = refl
-by-agree own other s (in_.Cancel t i n) A e = refl
-by-agree own other s (in_.Quote t i b o y z) A e = refl
-by-agree own other s (in_.IndexTick t v) A e = refl
-by-agree own other s (in_.Clock t) A e = refl
-by-agree own other s (in_.Notice t i k) A e = refl
-by-agree own other s (in_.Indication t i p u) A e = refl
+by-agree own other s x A e =
+    by_name (λ y. Agree own other (y ∷ A) → concerns_by own s y ≡ concerns_by other s y) (λ t name k l c e. e.at name (among_own (names A) name))
+    (λ y none e. (λ i. is_day y || is_tick y || names_s own s (symbol_of y) (none i))
+    ∙ sym (λ i. is_day y || is_tick y || names_s other s (symbol_of y) (none i))) x e
 
 filter-agree : (own other : List ℕ → Bool) (s : ℕ) (A : List Record) → Agree own other A → filter (concerns_by own s) A ≡ filter (concerns_by other s) A
 filter-agree own other s [] e = refl
@@ -62,7 +53,7 @@ filter-agree own other s (x ∷ A) e =
     let rest = filter-agree own other s A (earlier_agree own other x A e) in
     λ i. cond (by-agree own other s x A e i) (x ∷ rest i) (rest i)
 
--- a further record changes no earlier one's place in the view
+-- a further record changes for no earlier one whether it is in the view
 view-kept : (x : Record) (A : List Record) (s : ℕ) → filter (concerns (x ∷ A) s) A ≡ view A s
 view-kept x A s =
     (λ i. filter (λ y. concerns-by (x ∷ A) s y i) A)
@@ -92,15 +83,14 @@ records-isolated s (x ∷ v) = by (is_day x) (is_tick x) (is_listed_in_view (rec
 -- alone, a symbol has terms where there is a listing
 pub terms-isolated : (v : List Record) → is_some (terms_in (λ name. true) v) ≡ is_listed_in_view v
 terms-isolated [] = refl
-terms-isolated (in_.Day t d c ∷ v) = refl
-terms-isolated (in_.Listing t name k l c ∷ v) = refl
-terms-isolated (in_.Trade t i n p q f ∷ v) = terms-isolated v
-terms-isolated (in_.Cancel t i n ∷ v) = terms-isolated v
-terms-isolated (in_.Quote t i b o y z ∷ v) = terms-isolated v
-terms-isolated (in_.IndexTick t x ∷ v) = terms-isolated v
-terms-isolated (in_.Clock t ∷ v) = terms-isolated v
-terms-isolated (in_.Notice t i k ∷ v) = terms-isolated v
-terms-isolated (in_.Indication t i p u ∷ v) = terms-isolated v
+terms-isolated (x ∷ v) =
+    by_listing (λ y. is_some (terms_in (λ name. true) (y ∷ v)) ≡ is_listed_in_view (y ∷ v)) (λ t d c. refl) (λ t name k l c. refl)
+    (λ y o. ap is_some ((leaves y v o).terms (λ name. true)) ∙ terms-isolated v ∙ sym (unlisted y o)) x
+  where
+    unlisted : (y : Record) → IsOther y → is_listed_in_view (y ∷ v) ≡ is_listed_in_view v
+    unlisted y o =
+        ap (λ (b : Bool). list_any is_listing (cond b (y ∷ []) (y ∷ since_day v))) o.no_day
+        ∙ ap (λ (n : Option (List ℕ)). option_map_or (λ name. true) n false || list_any is_listing (since_day v)) o.no_name
 
 -- Messages.
 

@@ -9,7 +9,7 @@ use Rattle.wire_in.specs.declared.record.Record.TheVariants as in_
 use Rattle.wire_in.specs.declared.record.Refusal.{Refusal}
 use Rattle.wire_in.specs.declared.record.Refusal.TheVariants.{NoDay, OutOfOrder, UnknownSymbol, AlreadyListed, DirectoryFull, JournalFull}
 use Rattle.wire_in.specs.Records.{moment_of, is_day, symbol_of}
-use Rattle.rulebook.specs.Admission.{last_day, names, is_listed_name}
+use Rattle.rulebook.specs.Admission.{last_day, names, is_listed_name, most_names}
 use Rattle.market_core.specs.Dated.{is_on, are_up_to}
 
 -- The capacity of records, how many were admitted, the last day, the moment of the last record, the names ever listed,
@@ -59,11 +59,18 @@ lists_twice day dates directory (in_.Listing t name k l c) = option_map_or (is_l
 lists_twice day dates directory x = false
 
 abbrev pub is_full_for : List (List ℕ) → List ℕ → Bool
-is_full_for directory name = is_none (position (bytes_eq name) directory) && nat_le 16384 (length directory)
+is_full_for directory name = is_none (position (bytes_eq name) directory) && nat_le most_names (length directory)
 
 abbrev pub lacks_room : List (List ℕ) → Record → Bool
 lacks_room directory (in_.Listing t name k l c) = is_full_for directory name
 lacks_room directory x = false
+
+-- why the name of a listing is refused
+abbrev pub name_refusal_of : AdmissionState → Record → Option Refusal
+name_refusal_of a x =
+    if lists_twice a.day a.dates a.directory x then Some AlreadyListed
+    else if lacks_room a.directory x then Some DirectoryFull
+    else None
 
 -- the first refusal that applies
 abbrev pub refusal_of : AdmissionState → Record → Option Refusal
@@ -82,15 +89,15 @@ abbrev pub day_after : Option Day → Record → Option Day
 day_after day (in_.Day t d c) = Some d
 day_after day x = day
 
--- what is added for a name that isn't among these: nothing where it is
+-- what is appended for a name that isn't among these: nothing where it is
 abbrev pub added : {X : Type 0} → List X → Option ℕ → X → List X
 added xs None x = xs ++ x ∷ []
-added xs (Some place) x = xs
+added xs (Some index) x = xs
 
--- what is put at a place, or behind the others where there is none
-abbrev pub put_at : {X : Type 0} → List X → Option ℕ → X → List X
-put_at xs None x = xs ++ x ∷ []
-put_at xs (Some place) x = slice_set xs place x
+-- with this at an index, or appended where there is none
+abbrev pub set_at : {X : Type 0} → List X → Option ℕ → X → List X
+set_at xs None x = xs ++ x ∷ []
+set_at xs (Some index) x = slice_set xs index x
 
 abbrev pub directory_after : List (List ℕ) → Record → List (List ℕ)
 directory_after directory (in_.Listing t name k l c) = added directory (position (bytes_eq name) directory) name
@@ -98,7 +105,7 @@ directory_after directory x = directory
 
 -- the dates after a name is listed on this day
 abbrev pub dates_listed : Day → List Civil → Option ℕ → List Civil
-dates_listed day dates place = put_at dates place day.date
+dates_listed day dates index = set_at dates index day.date
 
 abbrev pub dates_after : AdmissionState → Record → List Civil
 dates_after a (in_.Listing t name k l c) = option_map_or (λ day. dates_listed day a.dates (position (bytes_eq name) a.directory)) a.day a.dates

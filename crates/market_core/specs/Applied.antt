@@ -1,9 +1,9 @@
 -- What the code does at a record, whatever the history. Private words: no public clause cites them.
-use Rattle.std.specs.Prelude.{◌≡◌, ◌≢◌, ℕ, zero, suc, ◌<◌, ◌≤◌, Bool, Some, List, [], ◌++◌, length, position, unwrap_or, slice_get}
+use Rattle.std.specs.Prelude.{◌≡◌, ◌≢◌, ℕ, zero, suc, ◌<◌, ◌≤◌, Bool, Option, Some, None, List, [], ◌++◌, length, position, unwrap_or, slice_get}
 use Rattle.std.specs.Str.{bytes_eq}
 use Rattle.wire_in.specs.declared.record.Record.{Record}
 use Rattle.wire_in.specs.declared.record.Record.TheVariants as in_
-use Rattle.wire_in.specs.Records.{moment_of}
+use Rattle.wire_in.specs.Records.{moment_of, symbol_of}
 use Rattle.wire_out.specs.declared.message.Message.{Message}
 use Rattle.wire_out.specs.declared.message.Stamped.{Stamped}
 use Rattle.breaker_core.specs.BreakerState.{started}
@@ -44,7 +44,7 @@ pub record EachEvaluated (today : Today) (x : Record) (old new : MarketState) (b
   pub count : length new.symbols ≡ length old.symbols
   pub appends : AppendsBelow (length old.symbols) (view_of today) x old.symbols new.symbols before after
 
--- one symbol is evaluated, and the others are let alone
+-- one symbol is evaluated, and the others are left as they were
 pub record OneEvaluated (s : ℕ) (today : Today) (x : Record) (old new : MarketState) (before after : List Stamped) : Type 0 where
   pub directory : new.directory ≡ old.directory
   pub today_is : new.today ≡ old.today
@@ -83,13 +83,12 @@ Ticks x old new before after = OnToday old (λ today. EachEvaluated (ruled x tod
 abbrev pub Evaluated : ℕ → Record → MarketState → MarketState → List Stamped → List Stamped → Type 0
 Evaluated s x old new before after = OnToday old (λ today. s < length old.symbols → OneEvaluated s today x old new before after)
 
+-- at a record of one symbol, or of the market
+abbrev pub ByTarget : Option ℕ → Record → MarketState → MarketState → List Stamped → List Stamped → Type 0
+ByTarget (Some s) x old new before after = Evaluated s x old new before after
+ByTarget None x old new before after = Ticks x old new before after
+
 abbrev pub Applies : Record → MarketState → MarketState → List Stamped → List Stamped → Type 0
 Applies (in_.Day t d c) old new before after = EachEvaluated (record { day = d; breaker = started c }) (in_.Day t d c) old new before after
 Applies (in_.Listing t name k l c) old new before after = OnToday old (λ today. Lists name today (in_.Listing t name k l c) old new before after)
-Applies (in_.Clock t) old new before after = Ticks (in_.Clock t) old new before after
-Applies (in_.IndexTick t value) old new before after = Ticks (in_.IndexTick t value) old new before after
-Applies (in_.Trade t s n p q f) old new before after = Evaluated s (in_.Trade t s n p q f) old new before after
-Applies (in_.Cancel t s n) old new before after = Evaluated s (in_.Cancel t s n) old new before after
-Applies (in_.Quote t s b o y z) old new before after = Evaluated s (in_.Quote t s b o y z) old new before after
-Applies (in_.Notice t s k) old new before after = Evaluated s (in_.Notice t s k) old new before after
-Applies (in_.Indication t s p u) old new before after = Evaluated s (in_.Indication t s p u) old new before after
+Applies x old new before after = ByTarget (symbol_of x) x old new before after

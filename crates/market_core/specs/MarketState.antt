@@ -1,10 +1,11 @@
 -- What a market keeps, and how it stands for the list of applied records, the newest first.
-use Rattle.std.specs.Prelude.{◌≡◌, ℕ, ◌≤◌, Option, Some, List, length, option_map, slice_get}
+use Rattle.std.specs.Prelude.{◌≡◌, ℕ, ◌+◌, ◌*◌, ◌≤◌, Option, Some, List, length, option_map, slice_get}
 use Rattle.session_core.specs.declared.day.Day.{Day}
 use Rattle.wire_in.specs.declared.record.Record.{Record}
-use Rattle.rulebook.specs.Admission.{names}
+use Rattle.rulebook.specs.Admission.{names, most_names}
 use Rattle.rulebook.specs.Book.{named, history}
 use Rattle.rulebook.specs.Market.{day_record, market_halt, greatest_declared}
+use Rattle.symbol_core.specs.Evaluates.{most_of_symbol}
 use Rattle.symbol_core.specs.Rests.{Held, Rests}
 use Rattle.symbol_core.specs.Silent.{SaysNothing}
 use Rattle.market_core.specs.declared.market.Today.{Today}
@@ -14,6 +15,14 @@ pub record MarketState : Type 0 where
   pub directory : List (List ℕ)
   pub today : Option Today
   pub symbols : List Held
+
+-- the most messages of a record, where so many names were ever listed: two of the market, and those of each symbol
+abbrev pub most_of_names : ℕ → ℕ
+most_of_names count = 2 + most_of_symbol * count
+
+-- the most messages of a record
+abbrev pub most_messages : ℕ
+most_messages = most_of_names most_names
 
 -- the day with the breakers that a history gives it
 abbrev pub day_of : List Record → Day × ℕ → Today

@@ -5,10 +5,11 @@ ghost use Rattle.wire_in.specs.declared.record.Record.{Record};
 ghost use Rattle.wire_in.specs.Records.{name_of, symbol_of};
 ghost use Rattle.rulebook.specs.Admission.{verdict};
 ghost use Rattle.market_core.specs.Dated.{is_on};
-ghost use Rattle.market_core.specs.AdmissionState.{AdmissionState, Represents, refusal_of, is_before_day, is_date_early, is_out_of_order, names_unlisted, lists_twice, lacks_room, is_listed_id, is_full_for, added, dates_listed, day_after, directory_after, dates_after, admitted_with};
+ghost use Rattle.market_core.specs.AdmissionState.{AdmissionState, Represents, refusal_of, is_before_day, is_date_early, is_out_of_order, names_unlisted, is_listed_id, name_refusal_of, is_full_for, added, dates_listed, day_after, directory_after, dates_after, admitted_with};
 
-use crate::directory::{Directory, is_full_for};
+use crate::directory::Directory;
 use price_core::NoMemory;
+use rulebook::MOST_NAMES;
 use session_core::{Date, Day, Moment};
 use std::alloc::Global;
 use std::marker::Model;
@@ -73,6 +74,7 @@ fn is_date_early(day: Option<Day>, next: &Day) -> bool
     }
 }
 
+/// Whether a record other than a Day comes before the first day.
 fn is_before_day(day: Option<Day>, x: &Record) -> bool
     ensures { result ≡ is_before_day day x.now }
 {
@@ -82,6 +84,7 @@ fn is_before_day(day: Option<Day>, x: &Record) -> bool
     }
 }
 
+/// Whether a record comes before the last one: by its moment, or a Day by its date.
 fn is_out_of_order(day: Option<Day>, last: Option<Moment>, x: &Record) -> bool
     ensures { result ≡ is_out_of_order day (unwrap_or last 0) x.now }
 {
@@ -91,52 +94,18 @@ fn is_out_of_order(day: Option<Day>, last: Option<Moment>, x: &Record) -> bool
     }
 }
 
-/// The symbol that a record names by its id.
-fn symbol_of(x: &Record) -> Option<u16>
-    ensures { result ≡ symbol_of x.now }
-{
-    match *x {
-        Record::Trade { symbol, .. }
-        | Record::Cancel { symbol, .. }
-        | Record::Quote { symbol, .. }
-        | Record::Notice { symbol, .. }
-        | Record::Indication { symbol, .. } => Some(symbol),
-        _ => None,
-    }
-}
-
+/// Whether a record names a symbol by an id that is not listed today.
 fn names_unlisted(day: Option<Day>, dates: &[Date], x: &Record) -> bool
     ensures { result ≡ names_unlisted day dates.now x.now }
 {
-    match symbol_of(x) {
+    match x.symbol() {
         Some(id) => !is_listed_id(day, dates, id),
         None => false,
     }
 }
 
-fn lists_twice(day: Option<Day>, dates: &[Date], directory: &Directory, x: &Record) -> bool
-    ensures { result ≡ lists_twice day dates.now directory.now x.now }
-{
-    let Record::Listing { name, .. } = *x else {
-        return false;
-    };
-    match directory.id(name) {
-        Some(id) => is_listed_id(day, dates, id),
-        None => false,
-    }
-}
-
-fn lacks_room(directory: &Directory, x: &Record) -> bool
-    ensures { result ≡ lacks_room directory.now x.now }
-{
-    let Record::Listing { name, .. } = *x else {
-        return false;
-    };
-    is_full_for(directory, name)
-}
-
 impl Admission {
-    /// An admission of no records, under a capacity of records. It takes no memory yet.
+    /// An admission of no records, under a capacity of records. It takes no memory yet, and so it always succeeds.
     pub fn new(alloc: Global, capacity: u64) -> Result<Admission, NoMemory>
         ensures succeeds { IsOk result }
         ensures stands { IfOk result (λ a. Represents a []) }
@@ -173,7 +142,22 @@ impl Admission {
         self.day
     }
 
-    /// The first refusal that applies to a record, by what is kept.
+    /// Why the name of a listing is refused: it is listed today, or it is new and the directory is full.
+    fn name_refusal(&self, x: &Record) -> Option<Refusal>
+        ensures { result ≡ name_refusal_of self.now x.now }
+    {
+        let Record::Listing { name, .. } = *x else {
+            return None;
+        };
+        match self.directory.id(name) {
+            Some(id) if is_listed_id(self.day, &self.listed_on, id) => Some(Refusal::AlreadyListed),
+            None if self.directory.len() >= MOST_NAMES => Some(Refusal::DirectoryFull),
+            _ => None,
+        }
+    }
+
+    /// The first refusal that applies to a record, by what is kept. It is a function of its own so that `verdict` has one
+    /// value to say its second clause of.
     fn refusal(&self, x: &Record) -> Option<Refusal>
         ensures { result ≡ refusal_of self.now x.now }
     {
@@ -183,10 +167,8 @@ impl Admission {
             Some(Refusal::OutOfOrder)
         } else if names_unlisted(self.day, &self.listed_on, x) {
             Some(Refusal::UnknownSymbol)
-        } else if lists_twice(self.day, &self.listed_on, &self.directory, x) {
-            Some(Refusal::AlreadyListed)
-        } else if lacks_room(&self.directory, x) {
-            Some(Refusal::DirectoryFull)
+        } else if let Some(refusal) = self.name_refusal(x) {
+            Some(refusal)
         } else if self.capacity <= self.count {
             Some(Refusal::JournalFull)
         } else {
@@ -244,18 +226,6 @@ impl Admission {
         }
     }
 
-    fn keep(&mut self, x: &Record) -> Result<(), NoMemory>
-        requires { refusal_of self.old x.now ≡ None }
-        ensures ok { OnOk result (self.new ≡ admitted_with self.old x.now) }
-        ensures err { OnErr result (self.new ≡ self.old) }
-        ensures succeeds { name_of x.now ≡ None → IsOk result }
-    {
-        self.take_in(x)?;
-        self.last = Some(x.moment());
-        self.count += 1;
-        Ok(())
-    }
-
     /// Admits a record that no refusal applies to. An error leaves the admission as it was; it comes only for a
     /// Listing.
     pub fn admit(&mut self, x: &Record) -> Result<(), NoMemory>
@@ -266,6 +236,9 @@ impl Admission {
         ensures err { OnErr result (self.new ≡ self.old) }
         ensures succeeds { name_of x.now ≡ None → IsOk result }
     {
-        self.keep(x)
+        self.take_in(x)?;
+        self.last = Some(x.moment());
+        self.count += 1;
+        Ok(())
     }
 }

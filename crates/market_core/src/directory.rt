@@ -1,16 +1,13 @@
 ghost use Rattle.std.specs.Prelude.{◌≡◌, ◌<◌, ◌≤◌, ◌∷◌, ◌++◌, [], None, length, position, OnOk, OnErr, IfOk};
 ghost use Rattle.std.specs.Str.{bytes_eq};
-ghost use Rattle.market_core.specs.AdmissionState.{is_full_for};
+ghost use Rattle.rulebook.specs.Admission.{most_names};
 
 use indexmap::IndexSet;
 use price_core::NoMemory;
 use std::alloc::Global;
 use std::marker::Model;
 
-/// The most names that are ever listed.
-pub const MOST_NAMES: usize = 16_384;
-
-/// The names that were ever listed, in order of their first listing: the place of a name is its id.
+/// The names that were ever listed, in order of their first listing: the index of a name is its id.
 #[derive(Drop)]
 pub struct Directory {
     names: IndexSet<[u8; 8]>,
@@ -18,12 +15,13 @@ pub struct Directory {
 
 impl Model for Directory {
     ghost use Rattle.std.specs.Prelude.{ℕ, ◌≤◌, List, length};
+    ghost use Rattle.rulebook.specs.Admission.{most_names};
 
     ghost Value = { List (List ℕ) };
 
     ghost view = { λ directory. directory.names.keys };
 
-    ghost invariant = { λ directory. length directory.names.keys ≤ 16384 };
+    ghost invariant = { λ directory. length directory.names.keys ≤ most_names };
 }
 
 impl Directory {
@@ -39,7 +37,7 @@ impl Directory {
     /// How many names there are.
     pub fn len(&self) -> usize
         ensures len { result ≡ length self.now }
-        ensures bound { result ≤ 16384 }
+        ensures bound { result ≤ most_names }
     {
         self.names.len()
     }
@@ -54,7 +52,7 @@ impl Directory {
     /// Lists a new name, and answers its id. An error leaves the names as they were.
     pub fn push(&mut self, name: [u8; 8]) -> Result<u16, NoMemory>
         requires new { position (bytes_eq name) self.old ≡ None }
-        requires room { length self.old < 16384 }
+        requires room { length self.old < most_names }
         ensures id { IfOk result (λ id. id ≡ length self.old) }
         ensures names { OnOk result (self.new ≡ self.old ++ name ∷ []) }
         ensures err { OnErr result (self.new ≡ self.old) }
@@ -62,11 +60,4 @@ impl Directory {
         let (id, _) = self.names.insert_full(name)?;
         Ok(id as u16)
     }
-}
-
-/// Whether a name is new to names that are full.
-pub(crate) fn is_full_for(directory: &Directory, name: [u8; 8]) -> bool
-    ensures { result ≡ is_full_for directory.now name }
-{
-    directory.id(name).is_none() && directory.len() >= MOST_NAMES
 }

@@ -12,4 +12,4 @@ mod tests;
 pub use admission::Admission;
 pub use directory::Directory;
 pub use law::a_symbol_is_isolated;
-pub use market::{Market, Today};
+pub use market::{MOST_MESSAGES, Market, Today};

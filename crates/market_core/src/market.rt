@@ -1,24 +1,26 @@
-ghost use Rattle.std.specs.Prelude.{◌≡◌, ◌+◌, ◌*◌, ◌<◌, ◌≤◌, ◌++◌, ◌∷◌, ℕ, [], true, false, List, None, OnOk, OnErr, IfOk, IsOk, IsSome, vec_len, vec_capacity, position, option_map, length};
+ghost use Rattle.std.specs.Prelude.{◌≡◌, ◌+◌, ◌*◌, ◌<◌, ◌≤◌, ◌++◌, ◌∷◌, ℕ, [], true, false, List, None, OnOk, OnErr, IfOk, IsOk, IsSome, IsSomeAnd, vec_len, vec_capacity, position, option_map, length};
 ghost use Rattle.std.specs.Str.{bytes_eq};
 ghost use Rattle.wire_in.specs.declared.record.Record.{Record};
 ghost use Rattle.wire_in.specs.Records.{moment_of, name_of, is_day, is_tick};
 ghost use Rattle.breaker_core.specs.BreakerState.{started};
-ghost use Rattle.rulebook.specs.Admission.{verdict, IsLawful};
+ghost use Rattle.rulebook.specs.Admission.{verdict, most_names, IsLawful};
 ghost use Rattle.rulebook.specs.Isolation.{for_symbol};
 ghost use Rattle.rulebook.specs.Market.{breaks};
 ghost use Rattle.rulebook.specs.Book.{newest_messages};
+ghost use Rattle.symbol_core.specs.Evaluates.{most_of_symbol};
 ghost use Rattle.market_core.specs.Kinds.{is_trade};
 ghost use Rattle.market_core.specs.Isolation.{newest_isolated};
 ghost use Rattle.market_core.specs.AdmissionState.{is_full_for, lacks_room, added};
 
-use crate::directory::{Directory, is_full_for};
-use crate::symbols::{evaluate, evaluate_each, put};
+use crate::directory::Directory;
+use crate::symbols::{append, evaluate, evaluate_each};
 use breaker_core::Breaker;
 use price_core::{Index, NoMemory};
+use rulebook::MOST_NAMES;
 use session_core::{Day, Moment};
 use std::alloc::Global;
 use std::marker::Model;
-use symbol_core::{MarketView, Symbol};
+use symbol_core::{MOST_OF_SYMBOL, MarketView, Symbol};
 use wire_in::Record;
 use wire_out::{Message, Stamped};
 
@@ -29,8 +31,8 @@ pub struct Today {
     pub breaker: Breaker,
 }
 
-/// The most messages that one record gives of one symbol.
-const MOST_SAID: usize = 16;
+/// The most messages of one record: two of the market, and those of each symbol.
+pub const MOST_MESSAGES: usize = 2 + MOST_OF_SYMBOL * MOST_NAMES;
 
 /// One market: the names ever listed, the day and its breakers, and the symbol of each name.
 #[derive(Drop)]
@@ -44,13 +46,14 @@ pub struct Market {
 
 impl Model for Market {
     ghost use Rattle.std.specs.Prelude.{◌≡◌, ◌≤◌, length, vec_len, vec_capacity};
+    ghost use Rattle.symbol_core.specs.Evaluates.{most_of_symbol};
     ghost use Rattle.market_core.specs.MarketState.{MarketState};
 
     ghost Value = { MarketState };
 
     ghost view = { λ market. record { directory = market.directory; today = market.today; symbols = market.symbols.items } };
 
-    ghost invariant = { λ market. (vec_len market.symbols ≡ length market.directory) × (16 ≤ vec_capacity market.said) };
+    ghost invariant = { λ market. (vec_len market.symbols ≡ length market.directory) × (most_of_symbol ≤ vec_capacity market.said) };
 }
 
 impl Today {
@@ -65,7 +68,7 @@ impl Today {
         ensures len { vec_len out.new ≤ vec_len out.old + 1 }
     {
         if self.breaker.time(t) {
-            put(out, t, Message::MarketResume);
+            append(out, t, Message::MarketResume);
         }
     }
 
@@ -78,7 +81,7 @@ impl Today {
         ensures len { vec_len out.new ≤ vec_len out.old + 1 }
     {
         if let Some(level) = self.breaker.index(t, index, &self.day) {
-            put(out, t, Message::Breaker { level, index });
+            append(out, t, Message::Breaker { level, index });
         }
     }
 
@@ -121,14 +124,14 @@ impl Today {
 }
 
 impl Market {
-    ghost use Rattle.market_core.specs.MarketState.{Represents};
+    ghost use Rattle.market_core.specs.MarketState.{Represents, most_messages, most_of_names};
     ghost use Rattle.market_core.specs.Applied.{EachEvaluated, OneEvaluated, Finds, Lists, OnToday, Ticks, Evaluated, Applies};
 
     /// A market with no names and no day.
     pub fn new(alloc: Global) -> Result<Market, NoMemory>
         ensures { IfOk result (λ market. Represents market []) }
     {
-        let said = Vec::with_capacity(alloc, MOST_SAID)?;
+        let said = Vec::with_capacity(alloc, MOST_OF_SYMBOL)?;
         Ok(Market {
             alloc,
             directory: Directory::new(alloc),
@@ -148,12 +151,13 @@ impl Market {
         requires { is_day x.now ≡ true }
         ensures ok { OnOk result (EachEvaluated today x.now self.old self.new out.old.items out.new.items) }
         ensures err { OnErr result ((self.new ≡ self.old) × (out.new.items ≡ out.old.items)) }
-        ensures len { vec_len out.new ≤ vec_len out.old + 16 * length self.old.directory }
-        ensures room { vec_len out.old + 16 * length self.old.directory ≤ vec_capacity out.old → IsOk result }
+        ensures len { vec_len out.new ≤ vec_len out.old + most_of_symbol * length self.old.directory }
+        ensures room { vec_len out.old + most_of_symbol * length self.old.directory ≤ vec_capacity out.old → IsOk result }
         ensures keeps_room { vec_capacity out.old ≤ vec_capacity out.new }
     {
-        let _day = matches!(x, Record::Day { .. });
-        out.reserve(MOST_SAID * self.symbols.len())?;
+        // For the proof: it says of the record what the condition says.
+        let _day = x.is_day();
+        out.reserve(MOST_OF_SYMBOL * self.symbols.len())?;
         let market = today.view();
         self.today = Some(today);
         evaluate_each(&mut self.symbols, x, &market, &mut self.said, out);
@@ -165,11 +169,11 @@ impl Market {
         requires { is_tick x.now ≡ true }
         ensures ok { OnOk result (Ticks x.now self.old self.new out.old.items out.new.items) }
         ensures err { OnErr result ((self.new ≡ self.old) × (out.new.items ≡ out.old.items)) }
-        ensures len { vec_len out.new ≤ vec_len out.old + (2 + 16 * length self.old.directory) }
-        ensures room { vec_len out.old + (2 + 16 * length self.old.directory) ≤ vec_capacity out.old → IsOk result }
+        ensures len { vec_len out.new ≤ vec_len out.old + most_of_names (length self.old.directory) }
+        ensures room { vec_len out.old + most_of_names (length self.old.directory) ≤ vec_capacity out.old → IsOk result }
         ensures keeps_room { vec_capacity out.old ≤ vec_capacity out.new }
     {
-        out.reserve(2 + MOST_SAID * self.symbols.len())?;
+        out.reserve(2 + MOST_OF_SYMBOL * self.symbols.len())?;
         if let Some(today) = &mut self.today {
             today.rule(x, out);
             let ruled = today.view();
@@ -182,28 +186,28 @@ impl Market {
     fn evaluate(&mut self, id: u16, x: &Record, out: &mut Vec<Stamped>) -> Result<(), NoMemory>
         ensures ok { OnOk result (Evaluated id x.now self.old self.new out.old.items out.new.items) }
         ensures err { OnErr result ((self.new ≡ self.old) × (out.new.items ≡ out.old.items)) }
-        ensures len { vec_len out.new ≤ vec_len out.old + 16 }
-        ensures room { is_trade x.now ≡ false → vec_len out.old + 16 ≤ vec_capacity out.old → IsOk result }
-        ensures room_for_all { is_trade x.now ≡ false → vec_len out.old + 16 * length self.old.directory ≤ vec_capacity out.old → IsOk result }
+        ensures len { vec_len out.new ≤ vec_len out.old + most_of_symbol }
+        ensures room { is_trade x.now ≡ false → vec_len out.old + most_of_symbol ≤ vec_capacity out.old → IsOk result }
+        ensures room_for_all { is_trade x.now ≡ false → vec_len out.old + most_of_symbol * length self.old.directory ≤ vec_capacity out.old → IsOk result }
         ensures keeps_room { vec_capacity out.old ≤ vec_capacity out.new }
     {
         let Some(today) = &self.today else {
             return Ok(());
         };
         let market = today.view();
-        let place = id as usize;
-        if self.symbols.len() <= place {
+        let index = id as usize;
+        if self.symbols.len() <= index {
             return Ok(());
         }
-        out.reserve(MOST_SAID)?;
-        let symbol = &mut self.symbols[place];
+        out.reserve(MOST_OF_SYMBOL)?;
+        let symbol = &mut self.symbols[index];
         evaluate(symbol, x, &market, &mut self.said, out)
     }
 
     /// Makes the symbol of a new name.
     fn make(&mut self, name: [u8; 8]) -> Result<u16, NoMemory>
         requires new { position (bytes_eq name) self.old.directory ≡ None }
-        requires room { length self.old.directory < 16384 }
+        requires room { length self.old.directory < most_names }
         ensures ok { IfOk result (λ id. Finds name id self.old self.new) }
         ensures err { OnErr result (self.new ≡ self.old) }
     {
@@ -214,45 +218,48 @@ impl Market {
         Ok(id)
     }
 
-    /// The symbol of a name, which is made where the name is new.
-    fn find(&mut self, name: [u8; 8]) -> Result<u16, NoMemory>
-        requires { is_full_for self.old.directory name ≡ false }
-        ensures ok { IfOk result (λ id. Finds name id self.old self.new) }
+    /// The symbol of a name, which is made where the name is new. A new name that finds no room has none, and leaves all
+    /// as it was.
+    fn find(&mut self, name: [u8; 8]) -> Result<Option<u16>, NoMemory>
+        ensures ok { is_full_for self.old.directory name ≡ false → IfOk result (λ found. IsSomeAnd found (λ id. Finds name id self.old self.new)) }
         ensures err { OnErr result (self.new ≡ self.old) }
     {
+        // For the proof: it has the invariant, that there are as many symbols as names.
         let _symbols = self.symbols.len();
         match self.directory.id(name) {
-            Some(id) => Ok(id),
-            None => self.make(name),
+            Some(id) => Ok(Some(id)),
+            None if self.directory.len() >= MOST_NAMES => Ok(None),
+            None => Ok(Some(self.make(name)?)),
         }
     }
 
-    /// Lists a name, and evaluates its symbol. A new name is let alone where the directory is full, since admission
+    /// Lists a name, and evaluates its symbol. Where the directory is full it leaves a new name out, since admission
     /// refuses it.
     fn list(&mut self, name: [u8; 8], x: &Record, out: &mut Vec<Stamped>) -> Result<(), NoMemory>
         requires { is_trade x.now ≡ false }
         ensures ok { is_full_for self.old.directory name ≡ false → OnOk result (OnToday self.old (λ today. Lists name today x.now self.old self.new out.old.items out.new.items)) }
         ensures err { OnErr result ((self.new ≡ self.old) × (out.new.items ≡ out.old.items)) }
-        ensures len { vec_len out.new ≤ vec_len out.old + 16 }
+        ensures len { vec_len out.new ≤ vec_len out.old + most_of_symbol }
         ensures keeps_room { vec_capacity out.old ≤ vec_capacity out.new }
     {
-        if is_full_for(&self.directory, name) {
+        out.reserve(MOST_OF_SYMBOL)?;
+        let Some(id) = self.find(name)? else {
             return Ok(());
-        }
-        out.reserve(MOST_SAID)?;
-        let id = self.find(name)?;
+        };
         self.evaluate(id, x, out).unwrap();
         Ok(())
     }
 
-    /// Applies a record, by what is kept.
+    /// Applies a record, by what is kept. It is a function of its own so that what the code does at a record is one fact, from
+    /// which the clauses of `apply` follow.
     fn keep(&mut self, x: &Record, out: &mut Vec<Stamped>) -> Result<(), NoMemory>
         ensures ok { lacks_room self.old.directory x.now ≡ false → OnOk result (Applies x.now self.old self.new out.old.items out.new.items) }
         ensures err { OnErr result ((self.new ≡ self.old) × (out.new.items ≡ out.old.items)) }
-        ensures len { vec_len out.new ≤ vec_len out.old + (2 + 16 * 16384) }
-        ensures room { name_of x.now ≡ None → is_trade x.now ≡ false → vec_len out.old + (2 + 16 * length self.old.directory) ≤ vec_capacity out.old → IsOk result }
+        ensures len { vec_len out.new ≤ vec_len out.old + most_messages }
+        ensures room { name_of x.now ≡ None → is_trade x.now ≡ false → vec_len out.old + most_of_names (length self.old.directory) ≤ vec_capacity out.old → IsOk result }
         ensures keeps_room { vec_capacity out.old ≤ vec_capacity out.new }
     {
+        // For the proof: it has the invariant, that the names are few enough.
         let _names = self.directory.len();
         match *x {
             Record::Day {
@@ -264,20 +271,17 @@ impl Market {
                 self.begin_day(Today { day, breaker }, x, out)
             }
             Record::Listing { name, .. } => self.list(name, x, out),
-            Record::IndexTick { .. } => self.tick(x, out),
-            Record::Clock { .. } => self.tick(x, out),
-            Record::Trade { symbol, .. }
-            | Record::Cancel { symbol, .. }
-            | Record::Quote { symbol, .. }
-            | Record::Notice { symbol, .. }
-            | Record::Indication { symbol, .. } => self.evaluate(symbol, x, out),
+            _ => match x.symbol() {
+                Some(symbol) => self.evaluate(symbol, x, out),
+                None => self.tick(x, out),
+            },
         }
     }
 
     /// Applies a record that is admissible after the applied ones, and appends the messages of its step. What it appends
     /// of one symbol is what that symbol says alone, over its own records and the market-wide ones. An error
     /// leaves market and list as they were. It takes no memory where the record is neither a Listing nor a Trade and
-    /// the list has room for 2 messages and 16 for each name. The list keeps its room.
+    /// the list has room for two messages and 16 for each name. The list keeps its room.
     pub fn apply(&mut self, x: &Record, out: &mut Vec<Stamped>) -> Result<(), NoMemory>
         ensures given { (capacity : ℕ) (applied : List Record) → Represents self.old applied → verdict capacity applied x.now ≡ None
             → OnOk result (out.new.items ≡ out.old.items ++ newest_messages (x.now ∷ applied)) }
@@ -286,9 +290,9 @@ impl Market {
         ensures isolated { (capacity : ℕ) (applied : List Record) (s : ℕ) → Represents self.old applied → IsLawful capacity (x.now ∷ applied)
             → OnOk result (for_symbol s out.new.items ≡ for_symbol s out.old.items ++ newest_isolated s (x.now ∷ applied)) }
         ensures err { OnErr result ((self.new ≡ self.old) × (out.new.items ≡ out.old.items)) }
-        ensures few { vec_len out.new ≤ vec_len out.old + (2 + 16 * 16384) }
+        ensures few { vec_len out.new ≤ vec_len out.old + most_messages }
         ensures room { name_of x.now ≡ None → is_trade x.now ≡ false
-            → vec_len out.old + (2 + 16 * length self.old.directory) ≤ vec_capacity out.old → IsOk result }
+            → vec_len out.old + most_of_names (length self.old.directory) ≤ vec_capacity out.old → IsOk result }
         ensures keeps_room { vec_capacity out.old ≤ vec_capacity out.new }
     {
         self.keep(x, out)

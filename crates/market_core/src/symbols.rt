@@ -1,6 +1,7 @@
 // The symbols of a market, evaluated one after the other.
 ghost use Rattle.std.specs.Prelude.{◌≡◌, ◌+◌, ◌*◌, ◌≤◌, ◌++◌, ◌∷◌, [], false, OnOk, OnErr, IsOk, vec_len, vec_capacity, length};
 ghost use Rattle.wire_in.specs.Records.{moment_of};
+ghost use Rattle.symbol_core.specs.Evaluates.{most_of_symbol};
 ghost use Rattle.market_core.specs.Applied.{Appends, AppendsBelow};
 ghost use Rattle.market_core.specs.Kinds.{is_trade};
 ghost use Rattle.market_core.specs.Ruled.{stamped};
@@ -11,8 +12,8 @@ use symbol_core::{MarketView, Symbol};
 use wire_in::Record;
 use wire_out::{Message, Stamped};
 
-/// Puts a message into a list that has room for it.
-pub(crate) fn put(out: &mut Vec<Stamped>, moment: Moment, message: Message)
+/// Appends a message to a list that has room for it.
+pub(crate) fn append(out: &mut Vec<Stamped>, moment: Moment, message: Message)
     requires { vec_len out.old + 1 ≤ vec_capacity out.old }
     ensures items { out.new.items ≡ out.old.items ++ record { moment = moment; message = message } ∷ [] }
     ensures room { vec_capacity out.old ≤ vec_capacity out.new }
@@ -21,7 +22,7 @@ pub(crate) fn put(out: &mut Vec<Stamped>, moment: Moment, message: Message)
     out.push(Stamped { moment, message }).unwrap();
 }
 
-/// Puts messages of one moment into a list that has room for them.
+/// Appends messages of one moment to a list that has room for them.
 fn stamp(said: &[Message], moment: Moment, out: &mut Vec<Stamped>)
     requires { vec_len out.old + length said.now ≤ vec_capacity out.old }
     ensures items { out.new.items ≡ out.old.items ++ stamped moment said.now }
@@ -29,7 +30,7 @@ fn stamp(said: &[Message], moment: Moment, out: &mut Vec<Stamped>)
     ensures len { vec_len out.new ≡ vec_len out.old + length said.now }
 {
     for message in said {
-        put(out, moment, *message);
+        append(out, moment, *message);
     }
 }
 
@@ -41,14 +42,14 @@ pub(crate) fn evaluate(
     said: &mut Vec<Message>,
     out: &mut Vec<Stamped>,
 ) -> Result<(), NoMemory>
-    requires said { 16 ≤ vec_capacity said.old }
-    requires room { vec_len out.old + 16 ≤ vec_capacity out.old }
+    requires said { most_of_symbol ≤ vec_capacity said.old }
+    requires room { vec_len out.old + most_of_symbol ≤ vec_capacity out.old }
     ensures ok { OnOk result (Appends market.now x.now symbol.old symbol.new out.old.items out.new.items) }
     ensures err { OnErr result ((symbol.new ≡ symbol.old) × (out.new.items ≡ out.old.items)) }
     ensures succeeds { is_trade x.now ≡ false → IsOk result }
-    ensures said { 16 ≤ vec_capacity said.new }
+    ensures said { most_of_symbol ≤ vec_capacity said.new }
     ensures room { vec_capacity out.old ≤ vec_capacity out.new }
-    ensures len { vec_len out.new ≤ vec_len out.old + 16 }
+    ensures len { vec_len out.new ≤ vec_len out.old + most_of_symbol }
 {
     said.clear();
     symbol.evaluate(x, market, said)?;
@@ -65,12 +66,12 @@ pub(crate) fn evaluate_each(
     out: &mut Vec<Stamped>,
 )
     requires kind { is_trade x.now ≡ false }
-    requires said { 16 ≤ vec_capacity said.old }
-    requires room { vec_len out.old + 16 * length symbols.old ≤ vec_capacity out.old }
+    requires said { most_of_symbol ≤ vec_capacity said.old }
+    requires room { vec_len out.old + most_of_symbol * length symbols.old ≤ vec_capacity out.old }
     ensures appends { AppendsBelow (length symbols.old) market.now x.now symbols.old symbols.new out.old.items out.new.items }
-    ensures said { 16 ≤ vec_capacity said.new }
+    ensures said { most_of_symbol ≤ vec_capacity said.new }
     ensures room { vec_capacity out.old ≤ vec_capacity out.new }
-    ensures len { vec_len out.new ≤ vec_len out.old + 16 * length symbols.old }
+    ensures len { vec_len out.new ≤ vec_len out.old + most_of_symbol * length symbols.old }
 {
     for i in 0..symbols.len() {
         let symbol = &mut symbols[i];

@@ -451,11 +451,11 @@ fn quiet_clocks_take_no_room(rt: HostRuntime) -> Result<(), Fail> {
         market.apply(&x, &mut out)?;
     }
     market.apply(&clock(start), &mut out)?;
-    let (messages, room) = (out.len(), out.keeps_room());
+    let (messages, room) = (out.len(), out.capacity());
     for _ in 0..1000 {
         market.apply(&clock(start), &mut out)?;
     }
     assert_eq!(rt; out.len(), messages);
-    assert_eq!(rt; out.keeps_room(), room);
+    assert_eq!(rt; out.capacity(), room);
     Ok(())
 }

@@ -1,5 +1,5 @@
 -- What a history says after more messages, and what each step of a list of records publishes.
-use Rattle.std.proofs.Common.{◌≡◌, ℕ, suc, ◌≤◌, Bool, true, false, cond, List, [], ◌∷◌, ◌++◌, length, map, Option, Some, None, refl, sym, ap, subst, ◌∙◌, append_assoc, arith}
+use Rattle.std.proofs.Common.{◌≡◌, ℕ, suc, ◌≤◌, Bool, true, false, cond, List, [], ◌∷◌, ◌++◌, map, Option, Some, None, refl, sym, ap, subst, ◌∙◌, append_assoc, true≢false, arith}
 use Rattle.std.specs.Prelude.{nat_lt, filter, option_map}
 use Rattle.std.specs.Option.{option_map_or}
 use Rattle.std.proofs.lemmas.Bool.Decides.{nat_tests}
@@ -7,16 +7,17 @@ use Rattle.std.proofs.lemmas.List.{append-nil}
 use Rattle.std.proofs.lemmas.List.Elements.{filter-append}
 use Rattle.session_core.specs.declared.day.Day.{Day}
 use Rattle.wire_in.specs.declared.record.Record.{Record}
-use Rattle.wire_in.specs.declared.record.Record.TheVariants as in_
-use Rattle.wire_in.specs.Records.{moment_of, is_day, is_tick, name_of, symbol_of}
+use Rattle.wire_in.specs.Records.{moment_of, is_day, is_tick}
+use Rattle.wire_in.proofs.RecordKinds.{by_listing}
 use Rattle.wire_out.specs.declared.message.Message.{Message}
 use Rattle.wire_out.specs.declared.message.Stamped.{Stamped}
 use Rattle.rulebook.specs.declared.event.Event.{Event}
 use Rattle.rulebook.specs.declared.event.Event.TheVariants.{Accepted, Published}
-use Rattle.rulebook.specs.Admission.{last_day, is_listed, is_early}
+use Rattle.rulebook.specs.Admission.{last_day, is_early}
 use Rattle.rulebook.specs.Book.{Named, all_obeyed, symbol_rules, evaluate, announced, evaluate_own, named, evaluate_all, ids_below, listed_ids, evaluate_market, target, evaluate_record, step, history}
 use Rattle.rulebook.specs.History.{now, today, records, step_messages, messages, publish}
 use Rattle.rulebook.specs.Market.{day_record, resume_at, declare_at}
+use Rattle.rulebook.proofs.OtherRecords.{leaves}
 
 pub now-today : (h : List Event) → now (today h) ≡ now h
 now-today [] = refl
@@ -51,15 +52,9 @@ first_part (day, close) = day
 
 pub last_day-day_record : (A : List Record) → last_day A ≡ option_map first_part (day_record A)
 last_day-day_record [] = refl
-last_day-day_record (in_.Day t d c ∷ A) = refl
-last_day-day_record (in_.Listing t n k l c ∷ A) = last_day-day_record A
-last_day-day_record (in_.Trade t s n p q f ∷ A) = last_day-day_record A
-last_day-day_record (in_.Cancel t s n ∷ A) = last_day-day_record A
-last_day-day_record (in_.Quote t s b o x y ∷ A) = last_day-day_record A
-last_day-day_record (in_.IndexTick t v ∷ A) = last_day-day_record A
-last_day-day_record (in_.Clock t ∷ A) = last_day-day_record A
-last_day-day_record (in_.Notice t s k ∷ A) = last_day-day_record A
-last_day-day_record (in_.Indication t s p u ∷ A) = last_day-day_record A
+last_day-day_record (x ∷ A) =
+    by_listing (λ y. last_day (y ∷ A) ≡ option_map first_part (day_record (y ∷ A))) (λ t d c. refl) (λ t n k l c. last_day-day_record A)
+    (λ y o. let same = leaves y A o in same.last ∙ last_day-day_record A ∙ sym (ap (option_map first_part) same.day)) x
 
 pub publish-append : (a b : List Message) (h : List Event) → publish (a ++ b) h ≡ publish b (publish a h)
 publish-append [] b h = refl
@@ -191,12 +186,6 @@ in_order (last ∷ A) x other late = subst (λ (n : ℕ). n ≤ moment_of x) (sy
   at_numbers a b e = grind (arith, nat_tests)
 
   by : (x : Record) → is_day x ≡ false → is_early (last ∷ A) x ≡ false → moment_of last ≤ moment_of x
-  by (in_.Day t d c) other late = absurd cc
-  by (in_.Listing t n k l c) other late = at_numbers t (moment_of last) late
-  by (in_.Trade t s n p q f) other late = at_numbers t (moment_of last) late
-  by (in_.Cancel t s n) other late = at_numbers t (moment_of last) late
-  by (in_.Quote t s b o y z) other late = at_numbers t (moment_of last) late
-  by (in_.IndexTick t v) other late = at_numbers t (moment_of last) late
-  by (in_.Clock t) other late = at_numbers t (moment_of last) late
-  by (in_.Notice t s k) other late = at_numbers t (moment_of last) late
-  by (in_.Indication t s p u) other late = at_numbers t (moment_of last) late
+  by = by_listing (λ x. is_day x ≡ false → is_early (last ∷ A) x ≡ false → moment_of last ≤ moment_of x) (λ t d c no e. absurd (true≢false no))
+      (λ t n k l c no e. at_numbers t (moment_of last) e)
+      (λ x o no e. at_numbers (moment_of x) (moment_of last) (sym ((leaves x A o).early last) ∙ e))

@@ -1,5 +1,5 @@
 -- Ids: a name keeps its id, and a symbol is listed where its name is.
-use Rattle.std.proofs.Common.{◌≡◌, ℕ, zero, suc, ◌+◌, ◌<◌, Bool, true, false, cond, List, [], ◌∷◌, ◌++◌, length, get_or, Option, Some, None, is_some, not, refl, sym, ap, subst, ◌∙◌, true≢false, arith}
+use Rattle.std.proofs.Common.{◌≡◌, ℕ, zero, suc, ◌+◌, ◌<◌, Bool, true, false, cond, List, [], ◌∷◌, ◌++◌, length, Option, Some, None, is_some, refl, sym, ap, subst, ◌∙◌, true≢false, arith}
 use Rattle.std.specs.Prelude.{◌||◌, ◌==◌, slice_get, position}
 use Rattle.std.specs.List.{list_any, position_from}
 use Rattle.std.specs.Option.{option_map_or}
@@ -9,18 +9,21 @@ use Rattle.std.proofs.lemmas.Bool.Decides.{nat_tests}
 use Rattle.std.proofs.lemmas.Iterator.Adapters.{position_from-zero}
 use Rattle.std.proofs.lemmas.List.Quantifiers.{position-Some}
 use Rattle.std.proofs.lemmas.Option.{slice_get-get_or, slice_get_within}
+use Rattle.price_core.specs.declared.quote.Tier.{Tier}
 use Rattle.session_core.specs.declared.day.Day.{Day}
 use Rattle.wire_in.specs.declared.record.Record.{Record}
-use Rattle.wire_in.specs.declared.record.Record.TheVariants as in_
 use Rattle.wire_in.specs.Records.{is_day}
+use Rattle.wire_in.proofs.RecordKinds.{by_listing, by_name}
 use Rattle.rulebook.specs.declared.event.Event.{Event}
-use Rattle.rulebook.specs.Admission.{names, is_among, with_name, id_of, is_listed_name, is_listed}
+use Rattle.rulebook.specs.declared.symbol.Terms.{Terms}
+use Rattle.rulebook.specs.Admission.{names, is_among, id_of, is_listed_name, is_listed}
 use Rattle.rulebook.specs.Book.{named}
 use Rattle.rulebook.specs.History.{records}
 use Rattle.rulebook.specs.Market.{day_record}
 use Rattle.rulebook.specs.Rules.{triggers, triggered_in, before_day, is_carried}
 use Rattle.rulebook.specs.Symbol.{terms_in}
 use Rattle.rulebook.proofs.Listings.{same_name, own_name, list_any-append, among_own, among_more}
+use Rattle.rulebook.proofs.OtherRecords.{leaves, names-same}
 
 -- where one element passes, no later one does
 abbrev pub AtMostOne : {X : Type 0} → (X → Bool) → List X → Type 0
@@ -44,18 +47,16 @@ AtMostOne-push p (x ∷ xs) y one none = (
 -- a name is among the listed names once
 pub one_place : (A : List Record) (name : List ℕ) → AtMostOne (bytes_eq name) (names A)
 one_place [] name = tt
-one_place (in_.Listing t n k l c ∷ A) name = by (is_among (names A) n) refl (one_place A name) where
-  by : (b : Bool) → is_among (names A) n ≡ b → AtMostOne (bytes_eq name) (names A) → AtMostOne (bytes_eq name) (cond b (names A) (names A ++ n ∷ []))
-  by true e one = one
-  by false e one = AtMostOne-push (bytes_eq name) (names A) n one (λ same. subst (λ q. list_any (bytes_eq q) (names A) ≡ false) (sym (same_name name n same)) e)
-one_place (in_.Day t d c ∷ A) name = one_place A name
-one_place (in_.Trade t s n p q f ∷ A) name = one_place A name
-one_place (in_.Cancel t s n ∷ A) name = one_place A name
-one_place (in_.Quote t s b o x y ∷ A) name = one_place A name
-one_place (in_.IndexTick t v ∷ A) name = one_place A name
-one_place (in_.Clock t ∷ A) name = one_place A name
-one_place (in_.Notice t s k ∷ A) name = one_place A name
-one_place (in_.Indication t s p u ∷ A) name = one_place A name
+one_place (x ∷ A) name =
+    by_name (λ y. AtMostOne (bytes_eq name) (names (y ∷ A))) (λ t n k l c. by n (is_among (names A) n) refl (one_place A name))
+    (λ y e. subst (AtMostOne (bytes_eq name)) (sym (names-same y A e)) (one_place A name)) x
+  where
+    by : (n : List ℕ) (b : Bool) → is_among (names A) n ≡ b → AtMostOne (bytes_eq name) (names A)
+        → AtMostOne (bytes_eq name) (cond b (names A) (names A ++ n ∷ []))
+    by n true e one = one
+    by n false e one =
+        AtMostOne-push (bytes_eq name) (names A) n one
+        (λ same. subst (λ q. list_any (bytes_eq q) (names A) ≡ false) (sym (same_name name n same)) e)
 
 -- A name that has an id keeps it.
 
@@ -71,29 +72,19 @@ position_kept : {X : Type 0} (p : X → Bool) (xs ys : List X) → list_any p xs
 position_kept p xs ys there = position_from-zero p (xs ++ ys) ∙ position_from_kept p 0 xs ys there ∙ sym (position_from-zero p xs)
 
 pub id_of-kept : (x : Record) (A : List Record) (name : List ℕ) → is_among (names A) name ≡ true → id_of (x ∷ A) name ≡ id_of A name
-id_of-kept (in_.Listing t n k l c) A name there = by (is_among (names A) n) where
-  by : (b : Bool) → position (bytes_eq name) (cond b (names A) (names A ++ n ∷ [])) ≡ position (bytes_eq name) (names A)
-  by true = refl
-  by false = position_kept (bytes_eq name) (names A) (n ∷ []) there
-id_of-kept (in_.Day t d c) A name there = refl
-id_of-kept (in_.Trade t s n p q f) A name there = refl
-id_of-kept (in_.Cancel t s n) A name there = refl
-id_of-kept (in_.Quote t s b o x y) A name there = refl
-id_of-kept (in_.IndexTick t v) A name there = refl
-id_of-kept (in_.Clock t) A name there = refl
-id_of-kept (in_.Notice t s k) A name there = refl
-id_of-kept (in_.Indication t s p u) A name there = refl
+id_of-kept x A name there =
+    by_name (λ y. id_of (y ∷ A) name ≡ id_of A name) (λ t n k l c. by n (is_among (names A) n))
+    (λ y e. ap (position (bytes_eq name)) (names-same y A e)) x
+  where
+    by : (n : List ℕ) (b : Bool)
+        → position (bytes_eq name) (cond b (names A) (names A ++ n ∷ [])) ≡ position (bytes_eq name) (names A)
+    by n true = refl
+    by n false = position_kept (bytes_eq name) (names A) (n ∷ []) there
 
 pub names-kept : (x : Record) (A : List Record) (name : List ℕ) → is_among (names A) name ≡ true → is_among (names (x ∷ A)) name ≡ true
-names-kept (in_.Listing t n k l c) A name there = among_more (names A) n name there
-names-kept (in_.Day t d c) A name there = there
-names-kept (in_.Trade t s n p q f) A name there = there
-names-kept (in_.Cancel t s n) A name there = there
-names-kept (in_.Quote t s b o x y) A name there = there
-names-kept (in_.IndexTick t v) A name there = there
-names-kept (in_.Clock t) A name there = there
-names-kept (in_.Notice t s k) A name there = there
-names-kept (in_.Indication t s p u) A name there = there
+names-kept x A name there =
+    by_name (λ y. is_among (names (y ∷ A)) name ≡ true) (λ t n k l c. among_more (names A) n name there)
+    (λ y e. ap (λ ns. is_among ns name) (names-same y A e) ∙ there) x
 
 -- Two tests of names that agree on the listed names give the same terms, triggers and carried restrictions.
 
@@ -106,20 +97,16 @@ earlier_agree own other x A e = record { at = λ name there. e.at name (names-ke
 pub own-kept : (x : Record) (A : List Record) (s : ℕ) → Agree (named A s).own (named (x ∷ A) s).own A
 own-kept x A s = record { at = λ name there. ap (λ (o : Option ℕ). option_map_or (λ id. id == s) o false) (sym (id_of-kept x A name there)) }
 
+abbrev terms_of : Tier → ℕ → Option ℕ → Terms
+terms_of k l c = record { tier = k; leverage = l; close = c }
+
 pub terms_in-agree : (own other : List ℕ → Bool) (A : List Record) → Agree own other A → terms_in own A ≡ terms_in other A
 terms_in-agree own other [] e = refl
-terms_in-agree own other (in_.Day t d c ∷ A) e = refl
-terms_in-agree own other (in_.Listing t n k l c ∷ A) e =
-    let rest = terms_in-agree own other A (earlier_agree own other (in_.Listing t n k l c) A e) in
-    let here : own n ≡ other n = e.at n (among_own (names A) n) in
-    λ i. cond (here i) (Some (record { tier = k; leverage = l; prior_close = c })) (rest i)
-terms_in-agree own other (in_.Trade t s n p q f ∷ A) e = terms_in-agree own other A (earlier_agree own other (in_.Trade t s n p q f) A e)
-terms_in-agree own other (in_.Cancel t s n ∷ A) e = terms_in-agree own other A (earlier_agree own other (in_.Cancel t s n) A e)
-terms_in-agree own other (in_.Quote t s b o x y ∷ A) e = terms_in-agree own other A (earlier_agree own other (in_.Quote t s b o x y) A e)
-terms_in-agree own other (in_.IndexTick t v ∷ A) e = terms_in-agree own other A (earlier_agree own other (in_.IndexTick t v) A e)
-terms_in-agree own other (in_.Clock t ∷ A) e = terms_in-agree own other A (earlier_agree own other (in_.Clock t) A e)
-terms_in-agree own other (in_.Notice t s k ∷ A) e = terms_in-agree own other A (earlier_agree own other (in_.Notice t s k) A e)
-terms_in-agree own other (in_.Indication t s p u ∷ A) e = terms_in-agree own other A (earlier_agree own other (in_.Indication t s p u) A e)
+terms_in-agree own other (x ∷ A) e =
+    let rest = terms_in-agree own other A (earlier_agree own other x A e) in
+    by_listing (λ y. Agree own other (y ∷ A) → terms_in own (y ∷ A) ≡ terms_in other (y ∷ A)) (λ t d c e. refl)
+    (λ t n k l c e. λ i. cond (e.at n (among_own (names A) n) i) (Some (terms_of k l c)) (rest i))
+    (λ y o e. let same = leaves y A o in same.terms own ∙ rest ∙ sym (same.terms other)) x e
 
 pub triggered_in-agree : (own other : List ℕ → Bool) (day : Day) (s : ℕ) (A : List Record) → Agree own other A → triggered_in own day s A ≡ triggered_in other day s A
 triggered_in-agree own other day s [] e = refl
@@ -198,32 +185,22 @@ own-none A s none name = by (id_of A name) refl where
 
 terms-name : (own : List ℕ → Bool) (n : List ℕ) → ((name : List ℕ) → own name ≡ bytes_eq name n) → (A : List Record) → is_some (terms_in own A) ≡ is_listed_name A n
 terms-name own n e [] = refl
-terms-name own n e (in_.Day t d c ∷ A) = refl
-terms-name own n e (in_.Listing t name k l c ∷ A) =
-    ap (λ b. is_some (cond b (Some (record { tier = k; leverage = l; prior_close = c })) (terms_in own A))) (e name) ∙ by (bytes_eq name n) (terms-name own n e A)
+terms-name own n e (x ∷ A) =
+    by_listing (λ y. is_some (terms_in own (y ∷ A)) ≡ is_listed_name (y ∷ A) n) (λ t d c. refl)
+    (λ t name k l c. ap (λ b. is_some (cond b (Some (terms_of k l c)) (terms_in own A))) (e name) ∙ by (terms_of k l c) (bytes_eq name n) (terms-name own n e A))
+    (λ y o. let same = leaves y A o in ap is_some (same.terms own) ∙ terms-name own n e A ∙ sym (same.listed n)) x
   where
-    by : (b : Bool) → is_some (terms_in own A) ≡ is_listed_name A n → is_some (cond b (Some (record { tier = k; leverage = l; prior_close = c })) (terms_in own A)) ≡ cond b true (is_listed_name A n)
-    by true rest = refl
-    by false rest = rest
-terms-name own n e (in_.Trade t s m p q f ∷ A) = terms-name own n e A
-terms-name own n e (in_.Cancel t s m ∷ A) = terms-name own n e A
-terms-name own n e (in_.Quote t s b o x y ∷ A) = terms-name own n e A
-terms-name own n e (in_.IndexTick t v ∷ A) = terms-name own n e A
-terms-name own n e (in_.Clock t ∷ A) = terms-name own n e A
-terms-name own n e (in_.Notice t s k ∷ A) = terms-name own n e A
-terms-name own n e (in_.Indication t s p u ∷ A) = terms-name own n e A
+    by : (terms : Terms) (b : Bool) → is_some (terms_in own A) ≡ is_listed_name A n
+        → is_some (cond b (Some terms) (terms_in own A)) ≡ cond b true (is_listed_name A n)
+    by terms true rest = refl
+    by terms false rest = rest
 
 terms-nameless : (own : List ℕ → Bool) → ((name : List ℕ) → own name ≡ false) → (A : List Record) → terms_in own A ≡ None
 terms-nameless own e [] = refl
-terms-nameless own e (in_.Day t d c ∷ A) = refl
-terms-nameless own e (in_.Listing t name k l c ∷ A) = ap (λ b. cond b (Some (record { tier = k; leverage = l; prior_close = c })) (terms_in own A)) (e name) ∙ terms-nameless own e A
-terms-nameless own e (in_.Trade t s m p q f ∷ A) = terms-nameless own e A
-terms-nameless own e (in_.Cancel t s m ∷ A) = terms-nameless own e A
-terms-nameless own e (in_.Quote t s b o x y ∷ A) = terms-nameless own e A
-terms-nameless own e (in_.IndexTick t v ∷ A) = terms-nameless own e A
-terms-nameless own e (in_.Clock t ∷ A) = terms-nameless own e A
-terms-nameless own e (in_.Notice t s k ∷ A) = terms-nameless own e A
-terms-nameless own e (in_.Indication t s p u ∷ A) = terms-nameless own e A
+terms-nameless own e (x ∷ A) =
+    by_listing (λ y. terms_in own (y ∷ A) ≡ None) (λ t d c. refl)
+    (λ t name k l c. ap (λ b. cond b (Some (terms_of k l c)) (terms_in own A)) (e name) ∙ terms-nameless own e A)
+    (λ y o. (leaves y A o).terms own ∙ terms-nameless own e A) x
 
 pub terms-listed : (A : List Record) (s : ℕ) → is_some (terms_in (named A s).own A) ≡ is_listed A s
 terms-listed A s = by (slice_get (names A) s) refl where

@@ -1,3 +1,4 @@
+pub mod OtherRecords
 pub mod Histories
 pub mod Positions
 pub mod Listings

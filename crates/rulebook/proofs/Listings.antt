@@ -1,6 +1,6 @@
 -- Names, and which of them are listed today.
-use Rattle.std.proofs.Common.{◌≡◌, ℕ, Bool, true, false, cond, List, [], ◌∷◌, ◌++◌, length, get_or, Option, Some, None, is_some, is_none, not, refl, sym, ap, subst, ◌∙◌, true≢false}
-use Rattle.std.specs.Prelude.{◌||◌, slice_get, position}
+use Rattle.std.proofs.Common.{◌≡◌, ℕ, Bool, true, false, cond, List, [], ◌∷◌, ◌++◌, Option, Some, None, is_some, refl, sym, ap, subst, ◌∙◌, true≢false}
+use Rattle.std.specs.Prelude.{◌||◌}
 use Rattle.std.specs.List.{list_any}
 use Rattle.std.specs.Option.{option_map_or}
 use Rattle.std.specs.Str.{bytes_eq}
@@ -9,8 +9,9 @@ use Rattle.std.proofs.lemmas.List.Quantifiers.{position-Some}
 use Rattle.std.proofs.lemmas.Option.{slice_get-get_or}
 use Rattle.std.proofs.lemmas.Slice.Eq.{bytes_eq-Decides}
 use Rattle.wire_in.specs.declared.record.Record.{Record}
-use Rattle.wire_in.specs.declared.record.Record.TheVariants as in_
+use Rattle.wire_in.proofs.RecordKinds.{by_listing}
 use Rattle.rulebook.specs.Admission.{names, is_among, with_name, is_listed_name, is_listed, id_of}
+use Rattle.rulebook.proofs.OtherRecords.{leaves}
 use Rattle.rulebook.proofs.Positions.{is_some-position}
 
 pub same_name : (a b : List ℕ) → bytes_eq a b ≡ true → a ≡ b
@@ -43,18 +44,17 @@ among_more ns name other there = by (is_among ns name) where
 -- a name that is listed today was ever listed
 pub ever_listed : (A : List Record) (name : List ℕ) → is_listed_name A name ≡ true → is_among (names A) name ≡ true
 ever_listed [] name h = absurd (false≢true h)
-ever_listed (in_.Day t d c ∷ A) name h = absurd (false≢true h)
-ever_listed (in_.Listing t n k l c ∷ A) name h = by (bytes_eq n name) refl h (ever_listed A name) where
-  by : (b : Bool) → bytes_eq n name ≡ b → cond b true (is_listed_name A name) ≡ true → (is_listed_name A name ≡ true → is_among (names A) name ≡ true) → is_among (with_name (names A) n) name ≡ true
-  by true e h rest = subst (λ q. is_among (with_name (names A) n) q ≡ true) (same_name n name e) (among_own (names A) n)
-  by false e h rest = among_more (names A) n name (rest h)
-ever_listed (in_.Trade t s n p q f ∷ A) name h = ever_listed A name h
-ever_listed (in_.Cancel t s n ∷ A) name h = ever_listed A name h
-ever_listed (in_.Quote t s b o x y ∷ A) name h = ever_listed A name h
-ever_listed (in_.IndexTick t v ∷ A) name h = ever_listed A name h
-ever_listed (in_.Clock t ∷ A) name h = ever_listed A name h
-ever_listed (in_.Notice t s k ∷ A) name h = ever_listed A name h
-ever_listed (in_.Indication t s p u ∷ A) name h = ever_listed A name h
+ever_listed (x ∷ A) name h =
+    by_listing (λ y. is_listed_name (y ∷ A) name ≡ true → is_among (names (y ∷ A)) name ≡ true) (λ t d c e. absurd (false≢true e))
+    (λ t n k l c e. by n (bytes_eq n name) refl e (ever_listed A name))
+    (λ y o e.
+    let same = leaves y A o in
+    ap (λ ns. is_among ns name) same.names_are ∙ ever_listed A name (sym (same.listed name) ∙ e)) x h
+  where
+    by : (n : List ℕ) (b : Bool) → bytes_eq n name ≡ b → cond b true (is_listed_name A name) ≡ true
+        → (is_listed_name A name ≡ true → is_among (names A) name ≡ true) → is_among (with_name (names A) n) name ≡ true
+    by n true e h rest = subst (λ q. is_among (with_name (names A) n) q ≡ true) (same_name n name e) (among_own (names A) n)
+    by n false e h rest = among_more (names A) n name (rest h)
 
 -- a name's id is listed today exactly where the name is
 pub listed_by_id : (A : List Record) (name : List ℕ) → option_map_or (is_listed A) (id_of A name) false ≡ is_listed_name A name

@@ -9,31 +9,29 @@ use Rattle.price_core.specs.declared.quote.Cause.TheVariants as cause
 use Rattle.session_core.specs.declared.day.Day.{Day}
 use Rattle.session_core.specs.declared.state.Level.{Level}
 use Rattle.session_core.specs.declared.state.Phase.{Phase}
-use Rattle.session_core.specs.declared.state.Phase.TheVariants as Phase
 use Rattle.pause_core.specs.declared.turning.Brakes.{Brakes}
-use Rattle.pause_core.specs.Phases.{is_done, is_limit, is_trading}
+use Rattle.pause_core.specs.Phases.{is_done, is_trading}
 use Rattle.pause_core.specs.Turns as turns
 use Rattle.refprice_core.specs.declared.reference.Priced.{Priced}
-use Rattle.reopen_core.specs.declared.auction.Round.{Round}
 use Rattle.reopen_core.specs.declared.auction.Trial.{Trial}
 use Rattle.reopen_core.specs.declared.auction.Trial.TheVariants as trial
 use Rattle.wire_in.specs.declared.record.Record.{Record}
 use Rattle.wire_in.specs.declared.record.Record.TheVariants as in_
-use Rattle.wire_in.specs.Records.{is_tick}
+use Rattle.wire_in.proofs.RecordKinds.{by_listing}
 use Rattle.wire_out.specs.declared.message.Message.{Message}
 use Rattle.wire_out.specs.declared.message.Message.TheVariants as out
 use Rattle.wire_out.specs.declared.message.ShortKind.TheVariants.{Carried, Triggered}
 use Rattle.rulebook.specs.declared.event.Event.{Event}
-use Rattle.rulebook.specs.declared.event.Event.TheVariants.{Accepted, Published}
-use Rattle.rulebook.specs.declared.symbol.Banded.{Banded}
+use Rattle.rulebook.specs.declared.event.Event.TheVariants.{Published}
 use Rattle.rulebook.specs.Auction.{is_paused, last_round}
 use Rattle.rulebook.specs.Book.{Named, context, obeyed, all_obeyed, symbol_rules, announced, named, ids_below}
-use Rattle.rulebook.specs.History.{today, records, publish}
-use Rattle.rulebook.specs.Market.{day_record, market_halt_in, market_halt, greatest_in, greatest_declared, is_market_halted, resume_at, declare_at, declare_on, breaks}
+use Rattle.rulebook.specs.History.{records, publish}
+use Rattle.rulebook.specs.Market.{day_record, market_halt, greatest_declared, resume_at, declare_at, declare_on, breaks}
 use Rattle.rulebook.specs.Rules as rules
 use Rattle.rulebook.specs.Rules.{Context, is_carried, phase_now, becomes}
-use Rattle.rulebook.specs.Symbol.{phase, last_band, terms, was_straddling}
+use Rattle.rulebook.specs.Symbol.{phase, last_band, terms}
 use Rattle.rulebook.proofs.Histories.{part, own_part, parts, market_part, publish-append}
+use Rattle.rulebook.proofs.OtherRecords.{leaves}
 
 -- the symbol of a message, none where it is the market's
 abbrev pub speaker : Message → Option ℕ
@@ -141,18 +139,14 @@ pub part-by : (x : Record) (s : Named) (h : List Event) → AllBy (Some s.symbol
 part-by x s h = if_some (Some s.symbol) _ (day_record (records h)) (λ day. all_obeyed-by day.0 s x symbol_rules h rules_speak)
 
 announced-by : (x : Record) (s : Named) (h : List Event) → AllBy (Some s.symbol) (announced s x h)
-announced-by (in_.Listing t name k l c) s h = by (is_carried h s.own s.symbol) where
-  by : (b : Bool) → AllBy (Some s.symbol) (cond b (out.Listed s.symbol name ∷ out.Short s.symbol Carried ∷ []) (out.Listed s.symbol name ∷ []))
-  by true = (refl, (refl, tt))
-  by false = (refl, tt)
-announced-by (in_.Day t d c) s h = tt
-announced-by (in_.Trade t i n p q f) s h = tt
-announced-by (in_.Cancel t i n) s h = tt
-announced-by (in_.Quote t i b o x y) s h = tt
-announced-by (in_.IndexTick t v) s h = tt
-announced-by (in_.Clock t) s h = tt
-announced-by (in_.Notice t i k) s h = tt
-announced-by (in_.Indication t i p u) s h = tt
+announced-by x s h =
+    by_listing (λ y. AllBy (Some s.symbol) (announced s y h)) (λ t d c. tt) (λ t name k l c. by name (is_carried h s.own s.symbol))
+    (λ y o. subst (AllBy (Some s.symbol)) (sym ((leaves y [] o).announces s h)) tt) x
+  where
+    by : (name : List ℕ) (b : Bool)
+        → AllBy (Some s.symbol) (cond b (out.Listed s.symbol name ∷ out.Short s.symbol Carried ∷ []) (out.Listed s.symbol name ∷ []))
+    by name true = (refl, (refl, tt))
+    by name false = (refl, tt)
 
 pub own_part-by : (x : Record) (s : Named) (h : List Event) → AllBy (Some s.symbol) (own_part x s h)
 own_part-by x s h =

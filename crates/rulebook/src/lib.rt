@@ -7,3 +7,6 @@ mod symbol;
 
 pub use event::Event;
 pub use symbol::{Banded, Terms};
+
+/// The most names that are ever listed.
+pub const MOST_NAMES: usize = 16_384;

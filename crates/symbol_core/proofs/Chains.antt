@@ -6,18 +6,14 @@ use Rattle.wire_out.specs.declared.message.Message.{Message}
 use Rattle.rulebook.specs.Book.{context, obeyed, all_obeyed}
 use Rattle.pause_core.specs.Phases.{is_done}
 use Rattle.rulebook.specs.declared.event.Event.{Event}
-use Rattle.rulebook.specs.declared.event.Event.TheVariants.{Published}
 use Rattle.rulebook.specs.History.{publish}
 use Rattle.rulebook.specs.Rules.{Context}
+use Rattle.rulebook.proofs.Histories.{publish-append}
 use Rattle.window_core.specs.declared.window.Deal.{Deal}
 use Rattle.rulebook.specs.Symbol.{phase}
 use Rattle.symbol_core.specs.declared.kept.Kept.{Kept}
 use Rattle.symbol_core.specs.declared.kept.Step.{Step}
 use Rattle.symbol_core.specs.Stands.{named, Stands, Says, Obeys, ObeysWith, ObeysAll}
-
-pub publish-append : (a b : List Message) (h : List Event) → publish (a ++ b) h ≡ publish b (publish a h)
-publish-append [] b h = refl
-publish-append (m ∷ a) b h = publish-append a b (Published m ∷ h)
 
 -- these messages, then those
 pub both : {a b : List Message} {step : Step} {old mid new : Kept} {before between after : List Message} → Says a step old mid before between → Says b step mid new between after → Says (a ++ b) step old new before after

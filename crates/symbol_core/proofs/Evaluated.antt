@@ -1,11 +1,13 @@
 -- A record is evaluated.
 use Rattle.std.proofs.Common.{◌≡◌, ℕ, Bool, true, false, List, [], ◌∷◌, ◌++◌, refl, sym, ap, ◌∙◌, subst}
-use Rattle.std.specs.Prelude.{Option, if◌then◌else◌, ◌&&◌, not, is_some}
+use Rattle.std.specs.Prelude.{Option, if◌then◌else◌, ◌&&◌, ◌==◌, not, is_some}
+use Rattle.std.specs.Option.{option_map_or}
 use Rattle.wire_in.specs.declared.record.Record.{Record}
-use Rattle.wire_in.specs.declared.record.Record.TheVariants as in_
 use Rattle.wire_in.specs.Records.{is_day, is_tick, moment_of}
 use Rattle.wire_out.specs.declared.message.Message.{Message}
 use Rattle.window_core.specs.declared.window.Deal.{Deal}
+use Rattle.wire_in.proofs.RecordKinds.{by_listing, tick}
+use Rattle.rulebook.proofs.OtherRecords.{leaves}
 use Rattle.rulebook.specs.declared.event.Event.{Event}
 use Rattle.rulebook.specs.declared.event.Event.TheVariants.{Accepted}
 use Rattle.rulebook.specs.declared.symbol.Terms.{Terms}
@@ -27,15 +29,9 @@ abbrev pub away : Record → Option Terms → Bool
 away x listed = is_tick x && not (is_some listed)
 
 away-record : (mine : List ℕ → Bool) (x : Record) (r : List Record) → away x (terms_in mine (x ∷ r)) ≡ away x (terms_in mine r)
-away-record mine (in_.Day t d c) r = refl
-away-record mine (in_.Listing t n k l c) r = refl
-away-record mine (in_.Trade t i n p q f) r = refl
-away-record mine (in_.Cancel t i n) r = refl
-away-record mine (in_.Quote t i b p x y) r = refl
-away-record mine (in_.IndexTick t v) r = refl
-away-record mine (in_.Clock t) r = refl
-away-record mine (in_.Notice t i k) r = refl
-away-record mine (in_.Indication t i p u) r = refl
+away-record mine x r =
+    by_listing (λ y. away y (terms_in mine (y ∷ r)) ≡ away y (terms_in mine r)) (λ t d c. refl) (λ t n k l c. refl)
+    (λ y o. ap (λ (listed : Option Terms). away y listed) ((leaves y r o).terms mine)) x
 
 -- the same in the open history as in what is kept
 pub away-open : (mine : List ℕ → Bool) (held : Held) (x : Record) (others : List Message) (h : List Event) → Rests mine held h → away x (terms (open_history x others h) mine) ≡ away x held.kept.terms
@@ -70,28 +66,21 @@ step-evaluated market x held new before after no_day here s =
     part_is mine others h p =
         ap (λ (b : Bool). if b then [] else step_of market.day (named mine held.kept.id) x (open_history x others h)) (away-open mine held x others h p.rests ∙ here)
 
+-- only a tick is away
+tick_away : (x : Record) (listed : Option Terms) → away x listed ≡ true → is_tick x ≡ true
+tick_away x listed e = by (is_tick x) e where
+  by : (b : Bool) → (b && not (is_some listed)) ≡ true → b ≡ true
+  by true e = refl
+  by false e = cc
+
 -- a tick is of nobody
 tick-others : (mine : List ℕ → Bool) (s : ℕ) (x : Record) (listed : Option Terms) → away x listed ≡ true → IsOfOthers mine s x
-tick-others mine s (in_.Day t d c) o e = cc
-tick-others mine s (in_.Listing t n k l c) o e = cc
-tick-others mine s (in_.Trade t i n p q f) o e = cc
-tick-others mine s (in_.Cancel t i n) o e = cc
-tick-others mine s (in_.Quote t i b p x y) o e = cc
-tick-others mine s (in_.IndexTick t v) o e = record { symbol = refl; name = refl }
-tick-others mine s (in_.Clock t) o e = record { symbol = refl; name = refl }
-tick-others mine s (in_.Notice t i k) o e = cc
-tick-others mine s (in_.Indication t i p u) o e = cc
-
-tick-no_day : (x : Record) (listed : Option Terms) → away x listed ≡ true → is_day x ≡ false
-tick-no_day (in_.Day t d c) o e = cc
-tick-no_day (in_.Listing t n k l c) o e = refl
-tick-no_day (in_.Trade t i n p q f) o e = refl
-tick-no_day (in_.Cancel t i n) o e = refl
-tick-no_day (in_.Quote t i b p x y) o e = refl
-tick-no_day (in_.IndexTick t v) o e = refl
-tick-no_day (in_.Clock t) o e = refl
-tick-no_day (in_.Notice t i k) o e = refl
-tick-no_day (in_.Indication t i p u) o e = refl
+tick-others mine s x listed e =
+    let only = tick x (tick_away x listed e) in
+    record {
+      symbol = ap (λ (o : Option ℕ). option_map_or (λ id. id == s) o false) only.no_symbol;
+      name = ap (λ (o : Option (List ℕ)). option_map_or mine o false) only.other.no_name;
+    }
 
 append_nothing : (xs : List Message) → xs ≡ xs ++ []
 append_nothing [] = refl
@@ -104,7 +93,7 @@ evaluated-away market x held before is_away =
       says = λ mine others h p. append_nothing before ∙ ap (λ (ms : List Message). before ++ ms) (sym (part_is mine others h p));
       rests = λ mine others h p. rw (part_is mine others h p) (rests-apart mine held x others h p.no_day (tick-others mine held.kept.id x held.kept.terms is_away) p.silent p.later p.rests);
       says_no_day = λ e. refl;
-      begins = λ e mine h r. let e2 : true ≡ false = sym e ∙ tick-no_day x held.kept.terms is_away in cc;
+      begins = λ e mine h r. let e2 : true ≡ false = sym e ∙ (tick x (tick_away x held.kept.terms is_away)).other.no_day in cc;
       id = refl;
     }
   where

@@ -4,9 +4,10 @@ use Rattle.std.specs.Prelude.{Option, Some, if◌then◌else◌, ◌||◌}
 use Rattle.std.specs.Option.{option_map_or}
 use Rattle.session_core.specs.declared.day.Day.{Day}
 use Rattle.wire_in.specs.declared.record.Record.{Record}
-use Rattle.wire_in.specs.declared.record.Record.TheVariants as in_
 use Rattle.wire_in.specs.Records.{is_day}
 use Rattle.window_core.specs.declared.window.Deal.{Deal}
+use Rattle.wire_in.proofs.RecordKinds.{by_listing}
+use Rattle.rulebook.proofs.OtherRecords.{leaves}
 use Rattle.rulebook.specs.declared.event.Event.{Event}
 use Rattle.rulebook.specs.declared.event.Event.TheVariants.{Accepted, Published}
 use Rattle.rulebook.specs.declared.symbol.Terms.{Terms}
@@ -28,15 +29,9 @@ records-newest x (Accepted y ∷ h) e = cc
 records-newest x (Published m ∷ h) e = records-newest x h e
 
 triggers-same : (mine : List ℕ → Bool) (day : Day) (s : ℕ) (x : Record) (r : List Record) → triggers day s x (terms_in mine (x ∷ r)) ≡ triggers day s x (terms_in mine r)
-triggers-same mine day s (in_.Day t d c) r = refl
-triggers-same mine day s (in_.Listing t n k l c) r = refl
-triggers-same mine day s (in_.Trade t i n p q f) r = refl
-triggers-same mine day s (in_.Cancel t i n) r = refl
-triggers-same mine day s (in_.Quote t i b o x y) r = refl
-triggers-same mine day s (in_.IndexTick t v) r = refl
-triggers-same mine day s (in_.Clock t) r = refl
-triggers-same mine day s (in_.Notice t i k) r = refl
-triggers-same mine day s (in_.Indication t i p u) r = refl
+triggers-same mine day s x r =
+    by_listing (λ y. triggers day s y (terms_in mine (y ∷ r)) ≡ triggers day s y (terms_in mine r)) (λ t d c. refl) (λ t n k l c. refl)
+    (λ y o. ap (triggers day s y) ((leaves y r o).terms mine)) x
 
 pub rests-finished : (mine : List ℕ → Bool) (k : Kept) (kept left : List Deal) (step : Step) (index : ℕ) (h : List Event) → is_day step.input ≡ false → day_record (records h) ≡ Some (step.day, index)
     → SameLive step.moment left (window k kept) → Stands mine k kept step h → Rests mine (record { kept = finished k step; deals = left }) h

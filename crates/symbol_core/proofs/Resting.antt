@@ -16,6 +16,7 @@ use Rattle.pause_core.specs.Phases.{is_limit, is_trading}
 use Rattle.window_core.specs.declared.window.Deal.{Deal}
 use Rattle.window_core.specs.Deals.{live}
 use Rattle.reopen_core.specs.declared.auction.Indication.{Indication}
+use Rattle.wire_in.proofs.RecordKinds.{by_listing}
 use Rattle.rulebook.specs.declared.event.Event.{Event}
 use Rattle.rulebook.specs.declared.event.Event.TheVariants.{Accepted, Published}
 use Rattle.rulebook.specs.declared.symbol.Banded.{Banded}
@@ -26,6 +27,7 @@ use Rattle.rulebook.specs.Rules as rules
 use Rattle.rulebook.specs.Rules.{or_else}
 use Rattle.rulebook.specs.Symbol as of
 use Rattle.rulebook.specs.Symbol.{begins_run, counted_in, deals_in, deals_of, is_under_regulatory_halt_in, is_times, phase_in, quote_in}
+use Rattle.rulebook.proofs.OtherRecords.{day_record-same}
 use Rattle.symbol_core.specs.Rests.{Held, Rests, deals_today}
 use Rattle.symbol_core.specs.Silent.{AllSilent, IsOfOthers, IsSilent, SaysNothing}
 use Rattle.symbol_core.specs.Taken.{renewed}
@@ -34,7 +36,6 @@ use Rattle.symbol_core.proofs.Deals.{deals_from}
 use Rattle.symbol_core.proofs.Histories.{begun-run, last-other, of_begun, on_run}
 use Rattle.symbol_core.proofs.Live.{same_later}
 use Rattle.symbol_core.proofs.Others.{deals-others, halted-others, indicated-others, quoted-others, terms-others, triggered-others}
-use Rattle.symbol_core.proofs.Steps.{day_record-after}
 use Rattle.symbol_core.proofs.Taken.{halted-taken, quote-taken, run_taken}
 
 -- one more message that says nothing of it
@@ -105,10 +106,10 @@ rests-record mine held x h not_day o same r =
       triggered =
           r.triggered
           ∙ sym (triggered_stays (day_record (records h)))
-          ∙ ap (λ (d : Option (Day × ℕ)). option_map_or (λ day. rules.triggered_in mine day.0 s (x ∷ records h)) d false) (sym (day_record-after x (records h) not_day));
+          ∙ ap (λ (d : Option (Day × ℕ)). option_map_or (λ day. rules.triggered_in mine day.0 s (x ∷ records h)) d false) (sym (day_record-same x (records h) not_day));
       carried = r.carried ∙ ap (λ (b : Bool). let part = (if b then records h else rules.before_day (records h)) in option_map_or (λ day. rules.triggered_in mine day.0 s part) (day_record part) false) (sym not_day);
       deals =
-          subst (λ (d : Option (Day × ℕ)). SameLive (moment_of x) held.deals (option_map_or (λ day. deals_of day.0 (Accepted x ∷ h) s) d [])) (sym (day_record-after x (records h) not_day))
+          subst (λ (d : Option (Day × ℕ)). SameLive (moment_of x) held.deals (option_map_or (λ day. deals_of day.0 (Accepted x ∷ h) s) d [])) (sym (day_record-same x (records h) not_day))
           (subst (λ (ds : List Deal). SameLive (moment_of x) held.deals ds) (sym (deals_stay (day_record (records h)))) same);
     }
   where
@@ -166,15 +167,9 @@ rests-day mine held t day index h r =
 -- the same of a record that is a day
 pub rests-renewed : (mine : List ℕ → Bool) (held : Held) (x : Record) (h : List Event) → is_day x ≡ true → Rests mine held h
     → Rests mine (record { kept = renewed held.kept.id held.kept.triggered; deals = [] }) (Accepted x ∷ h)
-rests-renewed mine held (in_.Day t d c) h e r = rests-day mine held t d c h r
-rests-renewed mine held (in_.Listing t n k l c) h e r = cc
-rests-renewed mine held (in_.Trade t i n p q f) h e r = cc
-rests-renewed mine held (in_.Cancel t i n) h e r = cc
-rests-renewed mine held (in_.Quote t i b p x y) h e r = cc
-rests-renewed mine held (in_.IndexTick t v) h e r = cc
-rests-renewed mine held (in_.Clock t) h e r = cc
-rests-renewed mine held (in_.Notice t i k) h e r = cc
-rests-renewed mine held (in_.Indication t i p u) h e r = cc
+rests-renewed mine held x h e r =
+    by_listing (λ y. is_day y ≡ true → Rests mine (record { kept = renewed held.kept.id held.kept.triggered; deals = [] }) (Accepted y ∷ h))
+    (λ t d c e. rests-day mine held t d c h r) (λ t n k l c e. cc) (λ y o e. let both : true ≡ false = sym e ∙ o.no_day in cc) x e
 
 -- Before its first listing a symbol has said nothing.
 

@@ -1,9 +1,7 @@
 -- A whole step of a symbol.
-use Rattle.std.proofs.Common.{◌≡◌, ℕ, Bool, List, [], ◌∷◌, ◌++◌, false, refl, sym, ap, ◌∙◌, append_assoc, subst}
+use Rattle.std.proofs.Common.{◌≡◌, ℕ, Bool, List, [], ◌∷◌, ◌++◌, refl, sym, ap, ◌∙◌, append_assoc, subst}
 use Rattle.std.specs.Prelude.{Some, if◌then◌else◌, is_some, filter, option_to_list}
 use Rattle.wire_in.specs.declared.record.Record.{Record}
-use Rattle.wire_in.specs.declared.record.Record.TheVariants as in_
-use Rattle.wire_in.specs.Records.{is_day}
 use Rattle.wire_out.specs.declared.message.Message.{Message}
 use Rattle.window_core.specs.declared.window.Deal.{Deal}
 use Rattle.window_core.specs.Deals.{live}
@@ -13,7 +11,8 @@ use Rattle.rulebook.specs.Book.{all_obeyed, announced, symbol_rules}
 use Rattle.rulebook.specs.History.{now, publish, records}
 use Rattle.rulebook.specs.Market.{day_record, is_market_halted}
 use Rattle.rulebook.specs.Symbol.{deals_in, deals_of}
-use Rattle.rulebook.proofs.Histories.{records-publish}
+use Rattle.rulebook.proofs.Histories.{records-publish, publish-append}
+use Rattle.rulebook.proofs.OtherRecords.{day_record-same}
 use Rattle.symbol_core.specs.declared.kept.Kept.{Kept}
 use Rattle.symbol_core.specs.declared.kept.Step.{Step}
 use Rattle.symbol_core.specs.Evaluates.{open_history, step_of}
@@ -23,22 +22,10 @@ use Rattle.symbol_core.specs.Steps.{Starts, Steps}
 use Rattle.symbol_core.specs.Taken.{finished, leaves, taken}
 use Rattle.symbol_core.specs.Window.{SameLive, counted_deal, window}
 use Rattle.symbol_core.proofs.Apart.{stands-others}
-use Rattle.symbol_core.proofs.Chains.{publish-append}
 use Rattle.symbol_core.proofs.Finished.{rests-finished}
 use Rattle.symbol_core.proofs.Gives.{announced-gives}
 use Rattle.symbol_core.proofs.Live.{same-live, same_kept, same_then}
 use Rattle.symbol_core.proofs.Taken.{own-taken, stands-taken}
-
-pub day_record-after : (x : Record) (r : List Record) → is_day x ≡ false → day_record (x ∷ r) ≡ day_record r
-day_record-after (in_.Day t d c) r e = cc
-day_record-after (in_.Listing t n k l c) r e = refl
-day_record-after (in_.Trade t i n p q f) r e = refl
-day_record-after (in_.Cancel t i n) r e = refl
-day_record-after (in_.Quote t i b o x y) r e = refl
-day_record-after (in_.IndexTick t v) r e = refl
-day_record-after (in_.Clock t) r e = refl
-day_record-after (in_.Notice t i k) r e = refl
-day_record-after (in_.Indication t i p u) r e = refl
 
 -- the kept state that a record is taken into stands for its open step
 pub stands-opened : (mine : List ℕ → Bool) (step : Step) (k : Kept) (kept : List Deal) (others : List Message) (h : List Event) → Starts mine k kept step others h
@@ -55,7 +42,7 @@ pub day_opened : (mine : List ℕ → Bool) (step : Step) (k : Kept) (kept : Lis
     → day_record (records (publish ms (open_history step.input others h))) ≡ Some (step.day, p.index)
 day_opened mine step k kept others h p ms =
     ap (λ (r : List Record). day_record r) (records-publish ms (open_history step.input others h) ∙ records-publish others (Accepted step.input ∷ h))
-    ∙ day_record-after step.input (records h) p.no_day ∙ p.day
+    ∙ day_record-same step.input (records h) p.no_day ∙ p.day
 
 -- other kept deals of which the same are live serve as well
 stands-same : (mine : List ℕ → Bool) (k : Kept) (deals other : List Deal) (step : Step) (h : List Event) → SameLive step.moment other deals → Stands mine k deals step h → Stands mine k other step h

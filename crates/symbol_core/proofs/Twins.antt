@@ -1,7 +1,7 @@
 -- Two histories for which the same kept state stands. The rules give the same on both, and the same kept state stands for
 -- both again. So what a symbol says depends on nothing that its kept state doesn't tell.
-use Rattle.std.proofs.Common.{◌≡◌, ℕ, ◌≤◌, Bool, true, false, cond, List, [], ◌∷◌, ◌++◌, refl, sym, ap, ◌∙◌, subst}
-use Rattle.std.specs.Prelude.{Option, Some, None, if◌then◌else◌, ◌&&◌, not, filter}
+use Rattle.std.proofs.Common.{◌≡◌, ℕ, Bool, true, false, cond, List, [], ◌∷◌, ◌++◌, refl, sym, ap, ◌∙◌, subst}
+use Rattle.std.specs.Prelude.{Option, Some, if◌then◌else◌, ◌&&◌, not, filter}
 use Rattle.session_core.specs.declared.state.Phase.TheVariants.{Trading, LimitLow, LimitHigh}
 use Rattle.wire_in.specs.declared.record.Record.{Record}
 use Rattle.wire_in.specs.Records.{is_day}
@@ -16,17 +16,15 @@ use Rattle.rulebook.specs.declared.symbol.Banded.{Banded}
 use Rattle.rulebook.specs.declared.event.Event.{Event}
 use Rattle.rulebook.specs.declared.event.Event.TheVariants.{Accepted, Published}
 use Rattle.rulebook.specs.Book.{all_obeyed, announced, context, obeyed, symbol_rules}
-use Rattle.rulebook.specs.History.{publish, records}
-use Rattle.rulebook.specs.Market.{day_record}
-use Rattle.rulebook.specs.Rules as rules
+use Rattle.rulebook.specs.History.{publish}
 use Rattle.rulebook.specs.Rules.{Context, at_band}
-use Rattle.rulebook.proofs.Histories.{own_part, publish-append}
+use Rattle.rulebook.proofs.Histories.{publish-append}
 use Rattle.rulebook.proofs.OfSymbol.{AllBy, AllSpeak, all_obeyed-by, own_part-by, rules_speak, speaker}
 use Rattle.symbol_core.specs.declared.kept.Kept.{Kept}
 use Rattle.symbol_core.specs.declared.kept.Step.{Step}
 use Rattle.symbol_core.specs.declared.symbol.MarketView.{MarketView}
 use Rattle.symbol_core.specs.Evaluates.{Opens, open_history, part_of, step_of}
-use Rattle.symbol_core.specs.Kept.{announcing, banded, becoming, released, straddled, turned, with_round}
+use Rattle.symbol_core.specs.Kept.{banded, becoming, released, straddled, turned, with_round}
 use Rattle.symbol_core.specs.Rests.{Held, Rests}
 use Rattle.symbol_core.specs.Stands.{named, Stands}
 use Rattle.symbol_core.specs.Steps.{Starts}

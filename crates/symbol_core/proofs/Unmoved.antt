@@ -5,14 +5,12 @@ use Rattle.std.specs.Option.{option_map_or}
 use Rattle.std.proofs.lemmas.List.{append-nil}
 use Rattle.price_core.specs.Moves.{moved_one_percent}
 use Rattle.price_core.specs.declared.quote.Cause.TheVariants.{First, Moved, Times}
-use Rattle.refprice_core.specs.Prices.{because, forced, has_stood, is_in_opening_period}
+use Rattle.refprice_core.specs.Prices.{because, forced, is_in_opening_period}
 use Rattle.session_core.specs.declared.day.Day.{Day}
 use Rattle.session_core.specs.declared.state.Phase.{Phase}
-use Rattle.session_core.specs.declared.state.Phase.TheVariants as Phase
 use Rattle.session_core.specs.Times.{in_last_10_minutes, in_session, is_closed}
 use Rattle.wire_in.specs.declared.record.Record.{Record}
-use Rattle.wire_in.specs.declared.record.Record.TheVariants as in_
-use Rattle.wire_in.specs.Records.{is_day, is_tick, moment_of}
+use Rattle.wire_in.specs.Records.{is_tick, moment_of}
 use Rattle.wire_out.specs.declared.message.Message.{Message}
 use Rattle.wire_out.specs.declared.message.Message.TheVariants as out
 use Rattle.wire_out.specs.declared.message.ShortKind.TheVariants.{Triggered}
@@ -22,12 +20,11 @@ use Rattle.pause_core.specs.Turns.{phase_after_regulatory_halt}
 use Rattle.pause_core.specs.Turns as turns
 use Rattle.percent_core.specs.Percentages as percentages
 use Rattle.percent_core.specs.PriceBands.{bands}
-use Rattle.price_core.specs.declared.quote.Bands.{Bands}
 use Rattle.refprice_core.specs.declared.reference.Priced.{Priced}
 use Rattle.window_core.specs.declared.window.Deal.{Deal}
 use Rattle.window_core.specs.Deals.{live, mean_of}
+use Rattle.wire_in.proofs.RecordKinds.{by_tick, tick as only_ticks}
 use Rattle.rulebook.specs.declared.event.Event.{Event}
-use Rattle.rulebook.specs.declared.event.Event.TheVariants.{Accepted, Published}
 use Rattle.rulebook.specs.declared.symbol.Banded.{Banded}
 use Rattle.rulebook.specs.declared.symbol.Terms.{Terms}
 use Rattle.rulebook.specs.Auction.{is_paused}
@@ -41,11 +38,11 @@ use Rattle.symbol_core.specs.declared.kept.Kept.{Kept}
 use Rattle.symbol_core.specs.declared.kept.Step.{Step}
 use Rattle.symbol_core.specs.declared.quiet.Quiet.{Quiet}
 use Rattle.symbol_core.specs.declared.symbol.MarketView.{MarketView}
-use Rattle.symbol_core.specs.Evaluates.{Evaluates, Opens, open_history, part_of, step_of}
-use Rattle.symbol_core.specs.Kept.{becoming, brakes, is_straddling_now, pausing_as, reopening_after, straddling, turning}
-use Rattle.symbol_core.specs.Pricing.{adoption, band, banding, band_by_time, later_price, offered, reference, time_changes}
+use Rattle.symbol_core.specs.Evaluates.{Evaluates, Opens, open_history, part_of}
+use Rattle.symbol_core.specs.Kept.{becoming, brakes, pausing_as, reopening_after}
+use Rattle.symbol_core.specs.Pricing.{band, band_by_time, later_price, offered, reference, time_changes}
 use Rattle.symbol_core.specs.Quiet.{IsRested, IsSettled, Lasts, Quiets, awaits_after, awaits_mean, SameAwaited, waits}
-use Rattle.symbol_core.specs.Rests.{Held, Rests}
+use Rattle.symbol_core.specs.Rests.{Held}
 use Rattle.symbol_core.specs.Silent.{IsOfOthers}
 use Rattle.symbol_core.specs.Stands.{named, Stands}
 use Rattle.symbol_core.specs.Taken.{cancelled_by, leaves, taken}
@@ -58,17 +55,6 @@ use Rattle.symbol_core.proofs.Steps.{stands-opened}
 use Rattle.symbol_core.proofs.Twins.{entering, leaving}
 
 -- What a tick is not.
-
-tick_day : (x : Record) → is_tick x ≡ true → is_day x ≡ false
-tick_day (in_.IndexTick t v) e = refl
-tick_day (in_.Clock t) e = refl
-tick_day (in_.Day t d c) e = absurd cc
-tick_day (in_.Listing t n k l c) e = refl
-tick_day (in_.Trade t i n p q f) e = refl
-tick_day (in_.Cancel t i n) e = refl
-tick_day (in_.Quote t i b o y z) e = refl
-tick_day (in_.Notice t i k) e = refl
-tick_day (in_.Indication t i p u) e = refl
 
 -- what a tick leaves of each rule of a record
 record OfNone (s : ℕ) (x : Record) : Type 0 where
@@ -84,8 +70,9 @@ quote_stays true x = refl
 quote_stays false x = refl
 
 tick_of_none : (s : ℕ) (x : Record) → is_tick x ≡ true → OfNone s x
-tick_of_none s (in_.Clock t) e =
-    record {
+tick_of_none s x e =
+    by_tick (OfNone s)
+    (λ t. record {
       others = λ mine. record { symbol = refl; name = refl };
       announces = λ n h. refl;
       asks = refl;
@@ -93,9 +80,8 @@ tick_of_none s (in_.Clock t) e =
       cancels = refl;
       takes = λ k step is input r. (λ i. taken k (record step { input = input i }))
           ∙ (λ i. record k { quote = quote_stays (is_some k.begun) k.quote i; left_limit = sym r.left_limit i; released = sym r.released i; deal = sym r.deal i; is_fresh = sym r.is_fresh i });
-    }
-tick_of_none s (in_.IndexTick t v) e =
-    record {
+    })
+    (λ t v. record {
       others = λ mine. record { symbol = refl; name = refl };
       announces = λ n h. refl;
       asks = refl;
@@ -103,14 +89,7 @@ tick_of_none s (in_.IndexTick t v) e =
       cancels = refl;
       takes = λ k step is input r. (λ i. taken k (record step { input = input i }))
           ∙ (λ i. record k { quote = quote_stays (is_some k.begun) k.quote i; left_limit = sym r.left_limit i; released = sym r.released i; deal = sym r.deal i; is_fresh = sym r.is_fresh i });
-    }
-tick_of_none s (in_.Day t d c) e = absurd cc
-tick_of_none s (in_.Listing t n k l c) e = absurd cc
-tick_of_none s (in_.Trade t i n p q f) e = absurd cc
-tick_of_none s (in_.Cancel t i n) e = absurd cc
-tick_of_none s (in_.Quote t i b o y z) e = absurd cc
-tick_of_none s (in_.Notice t i k) e = absurd cc
-tick_of_none s (in_.Indication t i p u) e = absurd cc
+    }) x e
 
 -- Where no rule says anything, the symbol stays as it is.
 
@@ -130,7 +109,7 @@ evaluated-none market x held before tick none =
       says = λ mine others h p. append_nothing before ∙ ap (λ (ms : List Message). before ++ ms) (sym (part_is mine others h p));
       rests = λ mine others h p. rw (part_is mine others h p) (rests-apart mine held x others h p.no_day (of_none.others mine) p.silent p.later p.rests);
       says_no_day = λ e. refl;
-      begins = λ e mine h r. let apart : true ≡ false = sym e ∙ tick_day x tick in cc;
+      begins = λ e mine h r. let apart : true ≡ false = sym e ∙ (only_ticks x tick).other.no_day in cc;
       id = refl;
     }
   where
@@ -220,15 +199,7 @@ by_mean awaits mean (Some b) = because Moved (option_and_then (λ m. if moved_on
 offers_none : (k : Kept) (step : Step) → is_tick step.input ≡ true → offered k step ≡ None
 offers_none k step tick = by step.input tick where
   by : (x : Record) → is_tick x ≡ true → or_else (of.opening_price step.day k.id x) (if rules.opens_on_quotes k.id x then of.prior_close_of k.terms else None) ≡ None
-  by (in_.Clock t) e = refl
-  by (in_.IndexTick t v) e = refl
-  by (in_.Day t d c) e = absurd cc
-  by (in_.Listing t n k l c) e = absurd cc
-  by (in_.Trade t i n p q f) e = absurd cc
-  by (in_.Cancel t i n) e = absurd cc
-  by (in_.Quote t i b o y z) e = absurd cc
-  by (in_.Notice t i k) e = absurd cc
-  by (in_.Indication t i p u) e = absurd cc
+  by = by_tick (λ x. or_else (of.opening_price step.day k.id x) (if rules.opens_on_quotes k.id x then of.prior_close_of k.terms else None) ≡ None) (λ t. refl) (λ t v. refl)
 
 reference_by_mean : (k : Kept) (step : Step) (mean : Option ℕ) → IsRested k → is_tick step.input ≡ true
     → reference k step mean ≡ (if not (is_trading k.phase) then None else by_mean (awaits_mean k step.moment) mean k.band)

@@ -16,6 +16,10 @@ use Rattle.symbol_core.specs.Rests.{Held, Rests}
 use Rattle.symbol_core.specs.Silent.{AllSilent}
 use Rattle.symbol_core.specs.Stands.{named}
 
+-- the most messages of one symbol at a record
+abbrev pub most_of_symbol : ℕ
+most_of_symbol = 16
+
 -- the open history of a record: the history before it, the record, and what the open step has published of others
 abbrev pub open_history : Record → List Message → List Event → List Event
 open_history x others h = publish others (Accepted x ∷ h)

@@ -17,4 +17,4 @@ mod taking;
 mod tests;
 mod turns;
 
-pub use symbol::{MarketView, Symbol};
+pub use symbol::{MOST_OF_SYMBOL, MarketView, Symbol};

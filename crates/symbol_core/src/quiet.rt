@@ -8,7 +8,6 @@ ghost use Rattle.symbol_core.specs.Pricing.{reference, time_changes};
 ghost use Rattle.symbol_core.specs.Quiet.{IsQuiet, IsRested, IsSettled, Lasts, SameAwaited};
 
 use crate::kept::{Kept, Step};
-use crate::records::is_tick;
 use crate::symbol::MarketView;
 use crate::turns::at_band;
 use refprice_core::is_in_opening_period;
@@ -124,7 +123,7 @@ impl Kept {
     pub fn quiet(&self, step: &Step, deals: &SummedDeals) -> Option<Quiet>
         ensures { IsQuiet result self.now deals.now.deals }
     {
-        if !is_tick(&step.input)
+        if !step.input.is_tick()
             || !self.is_rested()
             || !self.is_settled(step)
             || !self.is_priced(step, deals)

@@ -1,7 +1,6 @@
 // What a record says of a symbol.
 ghost use Rattle.std.specs.Prelude.{◌≡◌, ◌+◌};
 ghost use Rattle.session_core.specs.Durations.{five_minutes};
-ghost use Rattle.wire_in.specs.Records.{is_day, is_tick};
 ghost use Rattle.rulebook.specs.Auction.{indicated_by};
 ghost use Rattle.rulebook.specs.Rules.{asks_to_pause, opens_on_quotes};
 ghost use Rattle.rulebook.specs.Symbol.{opening_price, opens_before, traded_price};
@@ -17,19 +16,6 @@ use rulebook::Terms;
 use session_core::Moment;
 use window_core::Deal;
 use wire_in::{NoticeKind, Record};
-
-pub fn is_day(x: &Record) -> bool
-    ensures { result ≡ is_day x.now }
-{
-    matches!(x, Record::Day { .. })
-}
-
-/// A clock or an index tick.
-pub fn is_tick(x: &Record) -> bool
-    ensures { result ≡ is_tick x.now }
-{
-    matches!(x, Record::IndexTick { .. } | Record::Clock { .. })
-}
 
 pub fn quoted_by(id: u16, x: &Record) -> Option<Quotation>
     ensures { result ≡ quoted_by id x.now }

@@ -5,12 +5,13 @@ ghost use Rattle.wire_out.specs.declared.message.Message.{Message as Said};
 ghost use Rattle.rulebook.specs.declared.event.Event.{Event};
 ghost use Rattle.rulebook.specs.Symbol as of;
 ghost use Rattle.rulebook.specs.Symbol.{traded_price};
+ghost use Rattle.symbol_core.specs.Evaluates.{most_of_symbol};
 ghost use Rattle.symbol_core.specs.Steps.{Steps};
 ghost use Rattle.symbol_core.specs.Taken.{deal_of};
 
 use crate::kept::{Kept, Step};
 use crate::quiet::Quiet;
-use crate::records::{is_day, is_tick, traded_price};
+use crate::records::traded_price;
 use crate::taking::{drop_cancelled, keep_deals};
 use pause_core::is_done;
 use price_core::NoMemory;
@@ -27,6 +28,9 @@ pub struct MarketView {
     pub day: Day,
     pub stopped: bool,
 }
+
+/// The most messages of one symbol at a record.
+pub const MOST_OF_SYMBOL: usize = 16;
 
 /// One symbol of the directory, from its first listing on.
 #[derive(Debug, Drop)]
@@ -110,7 +114,7 @@ impl Symbol {
         ensures id { self.new.kept.id ≡ self.old.kept.id }
         ensures none { self.new.deals ≡ [] }
     {
-        let _day = is_day(x);
+        let _day = x.is_day();
         let renewed = Kept::renewed(self.kept.id, self.kept.triggered);
         self.quiet = None;
         self.kept = renewed;
@@ -121,7 +125,7 @@ impl Symbol {
     fn is_away(&self, x: &Record) -> bool
         ensures { result ≡ is_tick x.now && not (is_some self.now.kept.terms) }
     {
-        is_tick(x) && !self.kept.terms.is_some()
+        x.is_tick() && !self.kept.terms.is_some()
     }
 
     /// Whether the record is a clock or an index tick that brings nothing: the symbol is closed or quiet, and each of its
@@ -130,7 +134,7 @@ impl Symbol {
         ensures nothing { result ≡ true → (before : List Said) → Evaluates market.now x.now self.now self.now before before }
         ensures recent { result ≡ true → live (moment_of x.now) self.now.deals ≡ self.now.deals }
     {
-        if !is_tick(x) || !self.deals.are_live(x.moment()) {
+        if !x.is_tick() || !self.deals.are_live(x.moment()) {
             return false;
         }
         if is_done(self.kept.phase) {
@@ -144,7 +148,7 @@ impl Symbol {
 
     /// Evaluates a record: appends what it announces of the symbol and what the rules then give. It appends nothing at a
     /// Day record, which begins the day, nor at a clock or an index tick of a day on which the symbol isn't listed. Out of
-    /// memory, it changes nothing; that can't come of room for 16 messages and a record that is no eligible trade of the
+    /// memory, it changes nothing; that can't come of room for its messages and a record that is no eligible trade of the
     /// symbol. Of a listed symbol, no trade that is five minutes old is kept.
     pub fn evaluate(
         &mut self,
@@ -154,12 +158,12 @@ impl Symbol {
     ) -> Result<(), NoMemory>
         ensures ok { OnOk result (Evaluates market.now x.now self.old self.new out.old.items out.new.items) }
         ensures err { OnErr result ((self.new ≡ self.old) × (out.new.items ≡ out.old.items)) }
-        ensures room { vec_len out.old + 16 ≤ vec_capacity out.old → traded_price market.now.day self.old.kept.id x.now ≡ None → IsOk result }
-        ensures few { vec_len out.new ≤ vec_len out.old + 16 }
+        ensures room { vec_len out.old + most_of_symbol ≤ vec_capacity out.old → traded_price market.now.day self.old.kept.id x.now ≡ None → IsOk result }
+        ensures few { vec_len out.new ≤ vec_len out.old + most_of_symbol }
         ensures capacity { vec_capacity out.old ≤ vec_capacity out.new }
         ensures recent { is_some self.new.kept.terms ≡ true → OnOk result (live (moment_of x.now) self.new.deals ≡ self.new.deals) }
     {
-        if is_day(x) {
+        if x.is_day() {
             self.begin_day(x);
             return Ok(());
         }
@@ -183,13 +187,13 @@ impl Symbol {
         requires listed { (is_tick x.now && not (is_some self.old.kept.terms)) ≡ false }
         ensures ok { OnOk result (Evaluates market.now x.now self.old self.new out.old.items out.new.items) }
         ensures err { OnErr result ((self.new ≡ self.old) × (out.new.items ≡ out.old.items)) }
-        ensures room { vec_len out.old + 16 ≤ vec_capacity out.old → traded_price market.now.day self.old.kept.id x.now ≡ None → IsOk result }
-        ensures few { vec_len out.new ≤ vec_len out.old + 16 }
+        ensures room { vec_len out.old + most_of_symbol ≤ vec_capacity out.old → traded_price market.now.day self.old.kept.id x.now ≡ None → IsOk result }
+        ensures few { vec_len out.new ≤ vec_len out.old + most_of_symbol }
         ensures capacity { vec_capacity out.old ≤ vec_capacity out.new }
         ensures recent { OnOk result (live (moment_of x.now) self.new.deals ≡ self.new.deals) }
     {
         let step = step_of(x, market);
-        match out.reserve(16) {
+        match out.reserve(MOST_OF_SYMBOL) {
             Ok(()) => {}
             Err(_) => return Err(NoMemory),
         }

@@ -3,3 +3,4 @@ pub mod DecodesOnly
 pub mod RoundTrip
 pub mod Cuts
 pub mod Streams
+pub mod RecordKinds

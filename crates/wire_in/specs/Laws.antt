@@ -1,8 +1,11 @@
--- What holds of all streams of frames.
-use Rattle.std.specs.Prelude.{◌≡◌, ℕ, ◌↔◌, List, [], ◌∷◌, ◌++◌}
+-- What holds of all streams of frames, and of all records.
+use Rattle.std.specs.Prelude.{◌≡◌, ℕ, ◌↔◌, Bool, true, false, List, [], ◌∷◌, ◌++◌, is_some}
 use Rattle.wire_core.specs.Frames.{framed}
 use Rattle.wire_in.specs.declared.record.Record.{Record}
+use Rattle.wire_in.specs.declared.record.RecordKind.{RecordKind}
+use Rattle.wire_in.specs.declared.record.RecordKind.TheVariants as kinds
 use Rattle.wire_in.specs.Cutting.{IsCut, IsPartial, bodies_of, rest_of}
+use Rattle.wire_in.specs.Records.{kind_of, is_day, is_tick, name_of, symbol_of}
 use Rattle.wire_in.specs.Spelling.{HasTypes, InRange, body_of}
 
 -- cutting goes on where it left off
@@ -30,3 +33,21 @@ pub record IsSound (x : Record) : Type 0 where
 abbrev pub RecordsDiffer : Type 0
 RecordsDiffer = (x y : Record) (more rest : List ℕ)
     → IsSound x → IsSound y → framed (body_of x) ++ more ≡ framed (body_of y) ++ rest → (x ≡ y) × (more ≡ rest)
+
+-- whether a record begins a day, lists a name, is a clock or an index tick, and names a symbol by its id
+pub record Does (day name tick symbol : Bool) (x : Record) : Type 0 where
+  pub begins_day : is_day x ≡ day
+  pub lists_name : is_some (name_of x) ≡ name
+  pub is_a_tick : is_tick x ≡ tick
+  pub names_symbol : is_some (symbol_of x) ≡ symbol
+
+-- a record of each kind does one of these, and no other
+abbrev pub IsOfKind : RecordKind → Record → Type 0
+IsOfKind kinds.Day x = Does true false false false x
+IsOfKind kinds.Listing x = Does false true false false x
+IsOfKind kinds.Tick x = Does false false true false x
+IsOfKind kinds.OfSymbol x = Does false false false true x
+
+-- a record is of one kind
+abbrev pub KindIsUnique : Type 0
+KindIsUnique = (x : Record) (kind : RecordKind) → kind_of x ≡ kind ↔ IsOfKind kind x

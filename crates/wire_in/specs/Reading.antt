@@ -1,5 +1,5 @@
 -- The record of a body, or the first refusal: of its type, of its length, or of a field. Numbers are unsigned and
--- big-endian. Places count from the type byte, fields from the moment.
+-- big-endian. Offsets count from the type byte, fields from the moment.
 use Rattle.std.specs.Prelude.{ℕ, ◌+◌, ◌==◌, if◌then◌else◌, List, [], ◌∷◌, length, slice_index, Option, Result, Ok, Err}
 use Rattle.std.specs.Int.{w16, w32}
 use Rattle.std.specs.Option.{ok_or}

@@ -1,6 +1,8 @@
 -- What a record says.
 use Rattle.std.specs.Prelude.{ℕ, Bool, true, false, List, Option, Some, None}
 use Rattle.wire_in.specs.declared.record.Record.{Record}
+use Rattle.wire_in.specs.declared.record.RecordKind.{RecordKind}
+use Rattle.wire_in.specs.declared.record.RecordKind.TheVariants as kinds
 use Rattle.wire_in.specs.declared.record.Record.TheVariants.{Day, Listing, Trade, Cancel, Quote, IndexTick, Clock, Notice, Indication}
 
 -- the moment of a record, in nanoseconds of the day
@@ -38,3 +40,10 @@ symbol_of (Quote t s b o x y) = Some s
 symbol_of (Notice t s k) = Some s
 symbol_of (Indication t s p u) = Some s
 symbol_of _ = None
+
+abbrev pub kind_of : Record → RecordKind
+kind_of (Day t d v) = kinds.Day
+kind_of (Listing t n k l c) = kinds.Listing
+kind_of (IndexTick t v) = kinds.Tick
+kind_of (Clock t) = kinds.Tick
+kind_of _ = kinds.OfSymbol

@@ -7,6 +7,7 @@ use crate::record::NoticeKind;
 use price_core::{Leverage, Tier, Unmatched};
 use session_core::{Close, Profile};
 
+/// The byte of a closing time.
 pub fn close_byte(close: Close) -> u8
     ensures { result ≡ close_byte close }
 {
@@ -16,6 +17,7 @@ pub fn close_byte(close: Close) -> u8
     }
 }
 
+/// The closing time of a byte.
 pub fn close_of_byte(byte: u8) -> Option<Close>
     ensures { result ≡ close_of_byte byte }
 {
@@ -26,6 +28,7 @@ pub fn close_of_byte(byte: u8) -> Option<Close>
     }
 }
 
+/// The byte of a profile.
 pub fn profile_byte(profile: Profile) -> u8
     ensures { result ≡ profile_byte profile }
 {
@@ -45,6 +48,7 @@ pub fn profile_of_byte(byte: u8) -> Option<Profile>
     }
 }
 
+/// The byte of a tier.
 pub fn tier_byte(tier: Tier) -> u8
     ensures { result ≡ tier_byte tier }
 {
@@ -54,6 +58,7 @@ pub fn tier_byte(tier: Tier) -> u8
     }
 }
 
+/// The tier of a byte.
 pub fn tier_of_byte(byte: u8) -> Option<Tier>
     ensures { result ≡ tier_of_byte byte }
 {
@@ -64,6 +69,7 @@ pub fn tier_of_byte(byte: u8) -> Option<Tier>
     }
 }
 
+/// The leverage ratio of a byte, in tenths.
 pub fn leverage_of_byte(byte: u8) -> Option<Leverage>
     ensures { result ≡ leverage_of_byte byte }
 {
@@ -77,6 +83,7 @@ pub fn flags_of_number(flags: u16) -> Option<u16>
     (flags <= 0x03ff).then_some(flags)
 }
 
+/// The byte of a kind of notice.
 pub fn kind_byte(kind: NoticeKind) -> u8
     ensures { result ≡ kind_byte kind }
 {
@@ -88,6 +95,7 @@ pub fn kind_byte(kind: NoticeKind) -> u8
     }
 }
 
+/// The kind of notice of a byte.
 pub fn kind_of_byte(byte: u8) -> Option<NoticeKind>
     ensures { result ≡ kind_of_byte byte }
 {
@@ -100,6 +108,7 @@ pub fn kind_of_byte(byte: u8) -> Option<NoticeKind>
     }
 }
 
+/// The byte of an unmatched side.
 pub fn unmatched_byte(unmatched: Unmatched) -> u8
     ensures { result ≡ unmatched_byte unmatched }
 {
@@ -110,6 +119,7 @@ pub fn unmatched_byte(unmatched: Unmatched) -> u8
     }
 }
 
+/// The unmatched side of a byte.
 pub fn unmatched_of_byte(byte: u8) -> Option<Unmatched>
     ensures { result ≡ unmatched_of_byte byte }
 {

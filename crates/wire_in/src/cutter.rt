@@ -56,6 +56,7 @@ impl Cutter {
         }
     }
 
+    /// Whether the frame that is held is whole.
     fn is_frame(&self) -> bool
         ensures value { result ≡ is_frame self.now }
         ensures front { IsPrefix self.now }
@@ -103,7 +104,7 @@ impl Cutter {
         }
     }
 
-    /// Lets go of a whole frame.
+    /// Removes a whole frame.
     fn restart(&mut self)
         ensures pending { self.new ≡ pending self.old }
         ensures partial { IsPartial self.new }
@@ -134,7 +135,7 @@ impl Cutter {
     }
 }
 
-/// Puts bytes at a place, and answers the place behind them.
+/// Copies bytes to an offset, and answers the offset behind them.
 fn put(bytes: &mut [u8; 256], at: usize, piece: &[u8]) -> usize
     requires { at + length piece.now ≤ 256 }
     ensures end { result ≡ at + length piece.now }

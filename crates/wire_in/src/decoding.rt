@@ -183,6 +183,7 @@ fn indication(body: &[u8]) -> Result<Record, Refusal>
     })
 }
 
+// A function of its own: the other clauses of `decode` follow from its one.
 #[tactic(auto, unfolding(crate::specs::Reading::record_of))]
 fn record(body: &[u8]) -> Result<Record, Refusal>
     ensures { result ≡ record_of body.now }

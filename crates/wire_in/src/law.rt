@@ -1,6 +1,6 @@
-//! Laws of streams of frames.
+//! Laws of streams of frames, and of the kinds of records.
 
-ghost use Rattle.wire_in.specs.Laws.{CutContinues, CutIsUnique, FramesDiffer, RecordsDiffer};
+ghost use Rattle.wire_in.specs.Laws.{CutContinues, CutIsUnique, FramesDiffer, KindIsUnique, RecordsDiffer};
 
 /// Cutting goes on where it left off, so the frames of a stream do not depend on its pieces.
 pub fn cutting_goes_on()
@@ -16,4 +16,10 @@ pub fn there_is_one_cut()
 pub fn frames_differ()
     ensures frames { FramesDiffer }
     ensures records { RecordsDiffer }
+{}
+
+/// A record is of one kind: it begins a day, lists a name, is a clock or an index tick, or names a symbol by its id, and
+/// does no other of these.
+pub fn there_is_one_kind()
+    ensures { KindIsUnique }
 {}

@@ -13,5 +13,5 @@ mod tests;
 pub use cutter::{Cut, Cutter};
 pub use decoding::decode;
 pub use encoding::encode;
-pub use law::{cutting_goes_on, frames_differ, there_is_one_cut};
-pub use record::{NoticeKind, Record, Refusal};
+pub use law::{cutting_goes_on, frames_differ, there_is_one_cut, there_is_one_kind};
+pub use record::{NoticeKind, Record, RecordKind, Refusal};

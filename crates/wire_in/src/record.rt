@@ -14,6 +14,16 @@ pub enum NoticeKind {
     Resume,
 }
 
+/// The kinds of records: those that begin a day, those that list a symbol, those that concern the whole market and those
+/// of one symbol, which they name by its id.
+#[derive(Clone, Copy, Debug, PartialEq, Eq)]
+pub enum RecordKind {
+    Day,
+    Listing,
+    Tick,
+    OfSymbol,
+}
+
 /// What an input frame says. Prices are ten-thousandths of a dollar, sizes are shares.
 #[derive(Clone, Copy, Debug, PartialEq, Eq)]
 pub enum Record {
@@ -81,7 +91,7 @@ pub enum Record {
 }
 
 impl Record {
-    ghost use Rattle.wire_in.specs.Records.{moment_of};
+    ghost use Rattle.wire_in.specs.Records.{moment_of, kind_of, is_day, is_tick, symbol_of};
 
     /// The moment of the record.
     pub fn moment(&self) -> Moment
@@ -97,6 +107,50 @@ impl Record {
             | Record::Clock { moment }
             | Record::Notice { moment, .. }
             | Record::Indication { moment, .. } => moment,
+        }
+    }
+
+    /// The kind of the record.
+    pub fn kind(&self) -> RecordKind
+        ensures { result ≡ kind_of self.now }
+    {
+        match self {
+            Record::Day { .. } => RecordKind::Day,
+            Record::Listing { .. } => RecordKind::Listing,
+            Record::IndexTick { .. } | Record::Clock { .. } => RecordKind::Tick,
+            Record::Trade { .. }
+            | Record::Cancel { .. }
+            | Record::Quote { .. }
+            | Record::Notice { .. }
+            | Record::Indication { .. } => RecordKind::OfSymbol,
+        }
+    }
+
+    /// Whether the record begins a day.
+    pub fn is_day(&self) -> bool
+        ensures { result ≡ is_day self.now }
+    {
+        matches!(self, Record::Day { .. })
+    }
+
+    /// Whether the record is a clock or an index tick, at which each listed symbol is evaluated.
+    pub fn is_tick(&self) -> bool
+        ensures { result ≡ is_tick self.now }
+    {
+        matches!(self, Record::IndexTick { .. } | Record::Clock { .. })
+    }
+
+    /// The symbol that the record names by its id.
+    pub fn symbol(&self) -> Option<u16>
+        ensures { result ≡ symbol_of self.now }
+    {
+        match *self {
+            Record::Trade { symbol, .. }
+            | Record::Cancel { symbol, .. }
+            | Record::Quote { symbol, .. }
+            | Record::Notice { symbol, .. }
+            | Record::Indication { symbol, .. } => Some(symbol),
+            _ => None,
         }
     }
 }

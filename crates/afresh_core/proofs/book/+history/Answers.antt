@@ -1,4 +1,5 @@
-use Rattle.afresh_core.proofs.Histories.{few_names_opened, timely_before}
+use Rattle.rulebook.proofs.Lawful.{few_names_opened}
+use Rattle.afresh_core.proofs.Histories.{timely_before}
 use Rattle.afresh_core.proofs.book.+history.Goals as goal
 
 pub step-requires-clause-timely : goal.step-requires-clause-timely

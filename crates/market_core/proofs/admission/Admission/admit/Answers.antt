@@ -1,5 +1,17 @@
-use Rattle.market_core.proofs.Admitting.{kept_stands}
+use Rattle.std.proofs.Common.{◌∙◌}
+use Rattle.std.specs.Prelude.{unwrap_or}
+use Rattle.market_core.specs.AdmissionState.{AdmissionState}
+use Rattle.market_core.proofs.Admitting.{counted_stands}
 use Rattle.market_core.proofs.admission.Admission.admit.Goals as goal
 
 pub returns-clause-stands : goal.returns-clause-stands
-returns-clause-stands c = λ admitted s. kept_stands c.keep.result c.args.self.now c.keep.new.self admitted c.args.x.now s c.requires c.keep.ensures.ok
+returns-clause-stands c = λ admitted s.
+    let kept : AdmissionState = record {
+      capacity = c.self.inside.capacity;
+      count = c.self.inside.count;
+      day = c.self.inside.day;
+      last = unwrap_or c.self.inside.last 0;
+      directory = c.self.inside.directory;
+      dates = c.self.inside.listed_on.items;
+    } in
+    counted_stands kept c.args.self.now c.moment.result admitted c.args.x.now s c.requires (c.self.view_is ∙ (c.in_ok-take_in.ensures).ok) c.moment.ensures

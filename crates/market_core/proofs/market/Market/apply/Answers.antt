@@ -1,4 +1,4 @@
-use Rattle.market_core.proofs.Isolation.{call_alone}
+use Rattle.market_core.proofs.Isolation.{call_is_isolated}
 use Rattle.market_core.proofs.Applying.{has_room, call_gives, call_stands}
 use Rattle.market_core.proofs.market.Market.apply.Goals as goal
 
@@ -12,4 +12,4 @@ returns-clause-stands c = λ capacity applied s passed.
 
 pub returns-clause-isolated : goal.returns-clause-isolated
 returns-clause-isolated c = λ capacity applied s stands lawful.
-    call_alone c.keep.result capacity c.args.x.now applied s c.args.self.now c.keep.new.self _ _ stands lawful (c.keep.ensures.ok (has_room capacity applied c.args.self.now c.args.x.now stands lawful.0))
+    call_is_isolated c.keep.result capacity c.args.x.now applied s c.args.self.now c.keep.new.self _ _ stands lawful (c.keep.ensures.ok (has_room capacity applied c.args.self.now c.args.x.now stands lawful.0))

@@ -1,4 +1,4 @@
-use Rattle.std.proofs.Common.{◌≡◌, List, sym, subst, ◌∙◌}
+use Rattle.std.proofs.Common.{◌≡◌, sym, subst, ◌∙◌}
 use Rattle.std.specs.Prelude.{ℕ, Option, ◌≤◌, ◌<◌}
 use Rattle.window_core.specs.Deals.{live}
 use Rattle.symbol_core.specs.declared.quiet.Quiet.{Quiet}

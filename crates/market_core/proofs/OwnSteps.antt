@@ -1,22 +1,23 @@
 -- What symbols that are evaluated at a record publish is what the step of the record publishes, and they rest on the history with it.
-use Rattle.std.proofs.Common.{◌≡◌, ◌≢◌, ℕ, ◌≤◌, Bool, true, false, cond, List, [], ◌∷◌, ◌++◌, Option, Some, is_some, not, refl, sym, ap, subst, ◌∙◌, true≢false, arith}
+use Rattle.std.proofs.Common.{◌≡◌, ◌≢◌, ℕ, ◌≤◌, Bool, true, false, cond, List, [], ◌∷◌, ◌++◌, Option, Some, None, is_some, not, refl, sym, ap, subst, ◌∙◌, true≢false, arith}
 use Rattle.std.specs.Prelude.{◌&&◌, ◌==◌, slice_get}
 use Rattle.std.specs.Option.{option_map_or}
 use Rattle.std.proofs.lemmas.Bool.Decides.{nat_tests}
 use Rattle.session_core.specs.declared.day.Day.{Day}
 use Rattle.wire_in.specs.declared.record.Record.{Record}
-use Rattle.wire_in.specs.declared.record.Record.TheVariants as in_
-use Rattle.wire_in.specs.Records.{moment_of, is_day, is_tick, name_of}
+use Rattle.wire_in.specs.Records.{moment_of, is_day, is_tick, name_of, symbol_of}
 use Rattle.wire_out.specs.declared.message.Message.{Message}
 use Rattle.wire_out.specs.declared.message.Stamped.{Stamped}
 use Rattle.rulebook.specs.declared.event.Event.{Event}
 use Rattle.rulebook.specs.declared.event.Event.TheVariants.{Accepted}
+use Rattle.rulebook.specs.Admission.{id_of}
 use Rattle.rulebook.specs.Book.{Named, named, all_obeyed, announced, symbol_rules, evaluate_all, evaluate_own, evaluate_market, listed_ids, target, step, history}
 use Rattle.rulebook.specs.History.{now, records, publish}
 use Rattle.rulebook.specs.Market.{day_record, is_market_halted}
 use Rattle.rulebook.specs.Symbol.{terms}
 use Rattle.rulebook.proofs.Histories.{part, own_part, evaluate_own-part, records-history, records-publish}
-use Rattle.rulebook.proofs.Ids.{Agree, own-kept, same_id, own_id}
+use Rattle.rulebook.proofs.Ids.{Agree, own-kept, own_id}
+use Rattle.rulebook.proofs.OtherRecords.{day_record-same}
 use Rattle.rulebook.proofs.OfSymbol.{NoneBy, by_other, own_part-by}
 use Rattle.symbol_core.specs.declared.symbol.MarketView.{MarketView}
 use Rattle.symbol_core.specs.Evaluates.{Opens, part_of, step_of}
@@ -26,25 +27,14 @@ use Rattle.symbol_core.specs.Stands as symbol
 use Rattle.market_core.specs.Applied.{AppendsAt}
 use Rattle.market_core.specs.MarketState.{SymbolsRepresent}
 use Rattle.market_core.specs.Ruled.{stamped}
-use Rattle.market_core.proofs.Resting.{silent, rests-agree, rests-on, of_others}
+use Rattle.market_core.proofs.Appending.{at_each}
+use Rattle.market_core.proofs.RecordsOfOthers.{silent, rests-agree, rests-on, of_others}
 
 pub apart_ids : (a b : ℕ) → (a == b) ≡ false → a ≢ b
 apart_ids a b e same = true≢false (sym (sym (ap (λ (n : ℕ). a == n) same) ∙ own_id a) ∙ e)
 
 pub swap_ids : (a b : ℕ) → (a == b) ≡ false → (b == a) ≡ false
 swap_ids a b e = grind (arith, nat_tests)
-
--- a record that isn't a day leaves the day
-pub day-kept : (x : Record) (A : List Record) → is_day x ≡ false → day_record (x ∷ A) ≡ day_record A
-day-kept (in_.Day t d c) A e = absurd cc
-day-kept (in_.Listing t n k l c) A e = refl
-day-kept (in_.Trade t s n p q f) A e = refl
-day-kept (in_.Cancel t s n) A e = refl
-day-kept (in_.Quote t s b o y z) A e = refl
-day-kept (in_.IndexTick t v) A e = refl
-day-kept (in_.Clock t) A e = refl
-day-kept (in_.Notice t s k) A e = refl
-day-kept (in_.Indication t s p u) A e = refl
 
 -- the open history of a record
 abbrev pub opened : Record → List Record → List Event
@@ -57,7 +47,7 @@ records-opened ms x A = records-publish ms (opened x A) ∙ ap (λ (earlier : Li
 pub part-on : (x : Record) (s : Named) (ms : List Message) (A : List Record) (d : Day × ℕ) → is_day x ≡ false → day_record A ≡ Some d
     → part x s (publish ms (opened x A)) ≡ all_obeyed d.0 s x symbol_rules (publish ms (opened x A))
 part-on x s ms A d other on =
-    ap (λ (o : Option (Day × ℕ)). option_map_or (λ day. all_obeyed day.0 s x symbol_rules (publish ms (opened x A))) o []) (ap day_record (records-opened ms x A) ∙ day-kept x A other ∙ on)
+    ap (λ (o : Option (Day × ℕ)). option_map_or (λ day. all_obeyed day.0 s x symbol_rules (publish ms (opened x A))) o []) (ap day_record (records-opened ms x A) ∙ day_record-same x A other ∙ on)
 
 -- a symbol of that id with the names of that id
 pub same_named : (x : Record) (A : List Record) (id s : ℕ) → id ≡ s → symbol.named (named (x ∷ A) s).own id ≡ named (x ∷ A) s
@@ -65,15 +55,10 @@ same_named x A id s e = ap (λ (i : ℕ). symbol.named (named (x ∷ A) s).own i
 
 -- a listing that names the symbol is its own
 pub own_listing : (x : Record) (A : List Record) (s : ℕ) → (target (x ∷ A) x ≡ Some s) → option_map_or (named (x ∷ A) s).own (name_of x) true ≡ true
-own_listing (in_.Listing t n k l c) A s e = ap (λ (o : Option ℕ). option_map_or (λ id. id == s) o false) e ∙ own_id s
-own_listing (in_.Day t d c) A s e = refl
-own_listing (in_.Trade t i n p q f) A s e = refl
-own_listing (in_.Cancel t i n) A s e = refl
-own_listing (in_.Quote t i b o y z) A s e = refl
-own_listing (in_.IndexTick t v) A s e = refl
-own_listing (in_.Clock t) A s e = refl
-own_listing (in_.Notice t i k) A s e = refl
-own_listing (in_.Indication t i p u) A s e = refl
+own_listing x A s e = by (name_of x) e where
+  by : (o : Option (List ℕ)) → elim o [ Some name ↦ id_of (x ∷ A) name | None ↦ symbol_of x ] ≡ Some s → option_map_or (named (x ∷ A) s).own o true ≡ true
+  by (Some n) e = ap (λ (o : Option ℕ). option_map_or (λ id. id == s) o false) e ∙ own_id s
+  by None e = refl
 
 -- What each record of a list finds: the day, and that moments don't fall.
 pub record Begun (x : Record) (A : List Record) (d : Day × ℕ) (market : MarketView) (said : List Message) : Type 0 where
@@ -126,8 +111,10 @@ pub own_symbol : (x : Record) (A : List Record) (d : Day × ℕ) (market : Marke
 own_symbol x A d market s old new before after b no_tick own stand at others = (
   at.appends.items ∙ ap (λ (ms : List Message). before ++ stamped (moment_of x) ms) (at.appends.evaluates.says own_names [] (history A) opens ∙ said_is),
   record {
-    ids = λ k held e. id_of_one k held e (k == s) refl;
-    rests = λ k held e. subst (Rests (named (x ∷ A) k).own held) (sym step_is) (rests_one k held e (k == s) refl);
+    ids = at_each (λ k held. held.kept.id ≡ k) s at.is new at.left (at.appends.evaluates.id ∙ id_is)
+        (λ k held apart e. stand.ids k held (sym (others k (apart_ids k s apart)) ∙ e));
+    rests = λ k held e. subst (Rests (named (x ∷ A) k).own held) (sym step_is)
+        (at_each (λ k held. Rests (named (x ∷ A) k).own held (publish ms (opened x A))) s at.is new at.left own_rests rests_other k held e);
   },
 ) where
   own_names : List ℕ → Bool
@@ -148,25 +135,16 @@ own_symbol x A d market s old new before after b no_tick own stand at others = (
   opens : Opens own_names at.was market x [] (history A)
   opens = ready x A d market s at.was [] b tt id_is (own_listing x A s own) (stand.rests s at.was at.found)
 
-  id_of_one : (k : ℕ) (held : Held) → slice_get new k ≡ Some held → (same : Bool) → (k == s) ≡ same → held.kept.id ≡ k
-  id_of_one k held e true same =
-      let here : k ≡ s = same_id k s same in
-      let there : slice_get new k ≡ Some at.is = subst (λ (j : ℕ). slice_get new j ≡ Some at.is) (sym here) at.left in
-      let is : at.is ≡ held = cc in
-      ap (λ (q : Held). q.kept.id) (sym is) ∙ at.appends.evaluates.id ∙ id_is ∙ sym here
-  id_of_one k held e false apart = stand.ids k held (sym (others k (apart_ids k s apart)) ∙ e)
+  own_rests : Rests own_names at.is (publish ms (opened x A))
+  own_rests =
+      subst (λ (said : List Message). Rests own_names at.is (publish said (opened x A))) said_is
+      (at.appends.evaluates.rests own_names [] (history A) opens)
 
-  rests_one : (k : ℕ) (held : Held) → slice_get new k ≡ Some held → (same : Bool) → (k == s) ≡ same → Rests (named (x ∷ A) k).own held (publish ms (opened x A))
-  rests_one k held e true same =
-      let here : k ≡ s = same_id k s same in
-      let there : slice_get new k ≡ Some at.is = subst (λ (j : ℕ). slice_get new j ≡ Some at.is) (sym here) at.left in
-      let is : at.is ≡ held = cc in
-      subst (λ (q : Held). Rests (named (x ∷ A) k).own q (publish ms (opened x A))) is
-      (subst (λ (j : ℕ). Rests (named (x ∷ A) j).own at.is (publish ms (opened x A))) (sym here)
-      (subst (λ (said : List Message). Rests own_names at.is (publish said (opened x A))) said_is (at.appends.evaluates.rests own_names [] (history A) opens)))
-  rests_one k held e false apart =
+  rests_other : (k : ℕ) (held : Held) → (k == s) ≡ false → slice_get new k ≡ Some held → Rests (named (x ∷ A) k).own held (publish ms (opened x A))
+  rests_other k held apart e =
       let before_is : slice_get old k ≡ Some held = sym (others k (apart_ids k s apart)) ∙ e in
       let id : held.kept.id ≡ k = stand.ids k held before_is in
       rests-on (named A k).own (named (x ∷ A) k).own held x ms (history A) (agree-before x A k)
       (subst (λ (j : ℕ). IsOfOthers (named (x ∷ A) k).own j x) (sym id) (of_others A x s k own (swap_ids k s apart))) b.no_day b.later
-      (subst (λ (j : ℕ). NoneBy j ms) (sym id) (by_other k s ms (swap_ids k s apart) (own_part-by x (named (x ∷ A) s) (opened x A)))) (stand.rests k held before_is)
+      (subst (λ (j : ℕ). NoneBy j ms) (sym id) (by_other k s ms (swap_ids k s apart) (own_part-by x (named (x ∷ A) s) (opened x A))))
+      (stand.rests k held before_is)

@@ -7,7 +7,8 @@ use Rattle.std.proofs.lemmas.List.Elements.{filter-append}
 use Rattle.session_core.specs.declared.day.Day.{Day}
 use Rattle.wire_in.specs.declared.record.Record.{Record}
 use Rattle.wire_in.specs.declared.record.Record.TheVariants as in_
-use Rattle.wire_in.specs.Records.{moment_of, is_day, is_tick, name_of}
+use Rattle.wire_in.specs.Records.{moment_of, is_tick, name_of}
+use Rattle.wire_in.proofs.RecordKinds.{tick as only_ticks}
 use Rattle.wire_out.specs.declared.message.Message.{Message}
 use Rattle.wire_out.specs.declared.message.Stamped.{Stamped}
 use Rattle.rulebook.specs.declared.event.Event.{Event}
@@ -18,7 +19,8 @@ use Rattle.rulebook.specs.History.{now, records, publish}
 use Rattle.rulebook.specs.Market.{day_record, is_market_halted}
 use Rattle.rulebook.specs.Symbol.{terms, terms_in}
 use Rattle.rulebook.proofs.Histories.{part, parts, market_part, publish-append}
-use Rattle.rulebook.proofs.Ids.{terms-listed, same_id}
+use Rattle.rulebook.proofs.Ids.{terms-listed}
+use Rattle.rulebook.proofs.OtherRecords.{leaves}
 use Rattle.rulebook.proofs.OfSymbol.{AllBy, NoneBy, NoneBy-append, by_market, by_other, all_obeyed-by, rules_speak, market_part-by, parts-append, parts-below, parts-of_symbols, market_halt-publish}
 use Rattle.symbol_core.specs.declared.symbol.MarketView.{MarketView}
 use Rattle.symbol_core.specs.Evaluates.{Opens, open_history, part_of}
@@ -27,8 +29,9 @@ use Rattle.symbol_core.specs.Stands as symbol
 use Rattle.market_core.specs.Applied.{AppendsAt, AppendsBelow}
 use Rattle.market_core.specs.MarketState.{SymbolsRepresent}
 use Rattle.market_core.specs.Ruled.{stamped}
-use Rattle.market_core.proofs.Resting.{rests-publish}
-use Rattle.market_core.proofs.Stepping.{opened, records-opened, part-on, same_named, Begun, ready, apart_ids, swap_ids}
+use Rattle.market_core.proofs.Appending.{at_each}
+use Rattle.market_core.proofs.RecordsOfOthers.{rests-publish}
+use Rattle.market_core.proofs.OwnSteps.{opened, records-opened, part-on, same_named, Begun, ready, apart_ids, swap_ids}
 
 -- the open step of a tick after the market-wide rules
 abbrev pub ruled_history : Record → List Record → List Event
@@ -74,38 +77,11 @@ pub record Ticked (x : Record) (A : List Record) (d : Day × ℕ) (market : Mark
   pub stopped : market.stopped ≡ is_market_halted (ruled_history x A)
   pub later : now (history A) ≤ moment_of x
 
-pub tick_day : (x : Record) → is_tick x ≡ true → is_day x ≡ false
-tick_day (in_.IndexTick t v) e = refl
-tick_day (in_.Clock t) e = refl
-tick_day (in_.Day t d c) e = absurd cc
-tick_day (in_.Listing t n k l c) e = refl
-tick_day (in_.Trade t s n p q f) e = refl
-tick_day (in_.Cancel t s n) e = refl
-tick_day (in_.Quote t s b o y z) e = refl
-tick_day (in_.Notice t s k) e = refl
-tick_day (in_.Indication t s p u) e = refl
-
 pub tick_name : (own : List ℕ → Bool) (x : Record) → is_tick x ≡ true → option_map_or own (name_of x) true ≡ true
-tick_name own (in_.IndexTick t v) e = refl
-tick_name own (in_.Clock t) e = refl
-tick_name own (in_.Day t d c) e = refl
-tick_name own (in_.Listing t n k l c) e = absurd cc
-tick_name own (in_.Trade t s n p q f) e = refl
-tick_name own (in_.Cancel t s n) e = refl
-tick_name own (in_.Quote t s b o y z) e = refl
-tick_name own (in_.Notice t s k) e = refl
-tick_name own (in_.Indication t s p u) e = refl
+tick_name own x e = ap (λ o. option_map_or own o true) (only_ticks x e).other.no_name
 
 tick_announces : (s : Named) (x : Record) (h : List Event) → is_tick x ≡ true → announced s x h ≡ []
-tick_announces s (in_.IndexTick t v) h e = refl
-tick_announces s (in_.Clock t) h e = refl
-tick_announces s (in_.Day t d c) h e = refl
-tick_announces s (in_.Listing t n k l c) h e = absurd cc
-tick_announces s (in_.Trade t i n p q f) h e = refl
-tick_announces s (in_.Cancel t i n) h e = refl
-tick_announces s (in_.Quote t i b o y z) h e = refl
-tick_announces s (in_.Notice t i k) h e = refl
-tick_announces s (in_.Indication t i p u) h e = refl
+tick_announces s x h e = (leaves x [] (only_ticks x e).other).announces s h
 
 pub part_of-tick : (day : Day) (s : Named) (x : Record) (h : List Event) (listed : Bool) → is_tick x ≡ true → is_some (terms h s.own) ≡ listed → part_of day s x h ≡ said_if listed day s x h
 part_of-tick day s x h listed e is =
@@ -144,7 +120,7 @@ parts-more x A d market n k =
     one =
         ap (λ (B : List Record). part x (named B n) (history_to n x A)) records_are
         ∙ ap (λ (h : List Event). part x (named (x ∷ A) n) h) (sym (history-before n x A))
-        ∙ part-on x (named (x ∷ A) n) (before_id n x A) A d (tick_day x k.tick) k.on
+        ∙ part-on x (named (x ∷ A) n) (before_id n x A) A d (only_ticks x k.tick).other.no_day k.on
         ∙ ap (λ (h : List Event). all_obeyed d.0 (named (x ∷ A) n) x symbol_rules h) (history-before n x A)
 
     by : (b : Bool) → parts x (cond b (n ∷ []) []) (history_to n x A) ≡ said_if b d.0 (named (x ∷ A) n) x (history_to n x A)
@@ -164,8 +140,11 @@ one_told n x A d market old new before middle after tick stand at told =
       items = at.appends.items ∙ ap (λ (ms : List Message). middle ++ stamped t ms) said_is ∙ ap (λ (ms : List Stamped). ms ++ stamped t said) told.items
           ∙ append_assoc before (stamped t (parts_to n x A)) (stamped t said)
           ∙ ap (λ (ms : List Stamped). before ++ ms) (sym (map-append _ (parts_to n x A) said) ∙ ap (stamped t) (sym more));
-      ids = λ k held below e. id_one k held e below (k == n) refl;
-      rests = λ k held below e. subst (Rests (named (x ∷ A) k).own held) (sym history_more) (rests_one k held e below (k == n) refl);
+      ids = λ k held below e. at_each (λ k held. k < suc n → held.kept.id ≡ k) n at.is new at.left (λ here. at.appends.evaluates.id ∙ id_is)
+          (λ k held apart e below. let ne : k ≢ n = apart_ids k n apart in told.ids k held (omega arith) e) k held e below;
+      rests = λ k held below e. subst (Rests (named (x ∷ A) k).own held) (sym history_more)
+          (at_each (λ k held. k < suc n → Rests (named (x ∷ A) k).own held (publish said (history_to n x A))) n at.is new at.left (λ here. own_rests)
+          rests_other k held e below);
     }
   where
     t : ℕ
@@ -188,7 +167,7 @@ one_told n x A d market old new before middle after tick stand at told =
 
     begun : Begun x A d market (before_id n x A)
     begun = record {
-      no_day = tick_day x tick.tick;
+      no_day = (only_ticks x tick.tick).other.no_day;
       on = tick.on;
       day = tick.day;
       stopped = tick.stopped ∙ sym (ap is_some (market_halt-publish (parts_to n x A) (ruled_history x A) (parts-of_symbols x (filter (is_listed (x ∷ A)) (ids_below n)) (ruled_history x A)))) ∙ ap is_market_halted (sym (history-before n x A));
@@ -207,26 +186,13 @@ one_told n x A d market old new before middle after tick stand at told =
         (subst (λ (ms : List Message). Rests S.own at.is (publish ms (publish (before_id n x A) (opened x A)))) (said-tick x A d market n at.was.kept.id tick id_is)
         (at.appends.evaluates.rests S.own (before_id n x A) (history A) opens))
 
-    id_one : (k : ℕ) (held : Held) → slice_get new k ≡ Some held → k < suc n → (same : Bool) → (k == n) ≡ same → held.kept.id ≡ k
-    id_one k held e below true same =
-        let here : k ≡ n = same_id k n same in
-        let there : slice_get new k ≡ Some at.is = subst (λ (j : ℕ). slice_get new j ≡ Some at.is) (sym here) at.left in
-        let is : at.is ≡ held = cc in
-        ap (λ (q : Held). q.kept.id) (sym is) ∙ at.appends.evaluates.id ∙ id_is ∙ sym here
-    id_one k held e below false apart = let ne : k ≢ n = apart_ids k n apart in told.ids k held (omega arith) e
-
-    rests_one : (k : ℕ) (held : Held) → slice_get new k ≡ Some held → k < suc n → (same : Bool) → (k == n) ≡ same → Rests (named (x ∷ A) k).own held (publish said (history_to n x A))
-    rests_one k held e below true same =
-        let here : k ≡ n = same_id k n same in
-        let there : slice_get new k ≡ Some at.is = subst (λ (j : ℕ). slice_get new j ≡ Some at.is) (sym here) at.left in
-        let is : at.is ≡ held = cc in
-        subst (λ (q : Held). Rests (named (x ∷ A) k).own q (publish said (history_to n x A))) is
-        (subst (λ (j : ℕ). Rests (named (x ∷ A) j).own at.is (publish said (history_to n x A))) (sym here) own_rests)
-    rests_one k held e below false apart =
+    rests_other : (k : ℕ) (held : Held) → (k == n) ≡ false → slice_get new k ≡ Some held → k < suc n
+        → Rests (named (x ∷ A) k).own held (publish said (history_to n x A))
+    rests_other k held apart e below =
         let ne : k ≢ n = apart_ids k n apart in
         rests-publish (named (x ∷ A) k).own held said (history_to n x A)
-        (subst (λ (j : ℕ). NoneBy j said) (sym (told.ids k held (omega arith) e)) (said_if-by (is_listed (x ∷ A) n) d.0 S x (history_to n x A) k (swap_ids k n apart)))
-        (told.rests k held (omega arith) e)
+        (subst (λ (j : ℕ). NoneBy j said) (sym (told.ids k held (omega arith) e))
+        (said_if-by (is_listed (x ∷ A) n) d.0 S x (history_to n x A) k (swap_ids k n apart))) (told.rests k held (omega arith) e)
 
 pub told_below : (n : ℕ) (x : Record) (A : List Record) (d : Day × ℕ) (market : MarketView) (old new : List Held) (before after : List Stamped) → Ticked x A d market → SymbolsRepresent old A
     → AppendsBelow n market x old new before after → ToldBelow n x A new before after
@@ -247,29 +213,13 @@ one_day : (n t : ℕ) (day : Day) (close : ℕ) (A : List Record) (market : Mark
 one_day n t day close A market old new before middle after stand at told =
     record {
       items = at.appends.items ∙ ap (λ (ms : List Message). middle ++ stamped t ms) (at.appends.evaluates.says_no_day refl) ∙ append-nil middle ∙ told.items;
-      ids = λ k held below e. id_one k held e below (k == n) refl;
-      rests = λ k held below e. rests_one k held e below (k == n) refl;
+      ids = λ k held below e. at_each (λ k held. k < suc n → held.kept.id ≡ k) n at.is new at.left
+          (λ here. at.appends.evaluates.id ∙ stand.ids n at.was at.found)
+          (λ k held apart e below. let ne : k ≢ n = apart_ids k n apart in told.ids k held (omega arith) e) k held e below;
+      rests = λ k held below e. at_each (λ k held. k < suc n → Rests (named A k).own held (Accepted (in_.Day t day close) ∷ history A)) n at.is new at.left
+          (λ here. at.appends.evaluates.begins refl (named A n).own (history A) (stand.rests n at.was at.found))
+          (λ k held apart e below. let ne : k ≢ n = apart_ids k n apart in told.rests k held (omega arith) e) k held e below;
     }
-  where
-    h : List Event
-    h = Accepted (in_.Day t day close) ∷ history A
-
-    id_one : (k : ℕ) (held : Held) → slice_get new k ≡ Some held → k < suc n → (same : Bool) → (k == n) ≡ same → held.kept.id ≡ k
-    id_one k held e below true same =
-        let here : k ≡ n = same_id k n same in
-        let there : slice_get new k ≡ Some at.is = subst (λ (j : ℕ). slice_get new j ≡ Some at.is) (sym here) at.left in
-        let is : at.is ≡ held = cc in
-        ap (λ (q : Held). q.kept.id) (sym is) ∙ at.appends.evaluates.id ∙ stand.ids n at.was at.found ∙ sym here
-    id_one k held e below false apart = let ne : k ≢ n = apart_ids k n apart in told.ids k held (omega arith) e
-
-    rests_one : (k : ℕ) (held : Held) → slice_get new k ≡ Some held → k < suc n → (same : Bool) → (k == n) ≡ same → Rests (named A k).own held h
-    rests_one k held e below true same =
-        let here : k ≡ n = same_id k n same in
-        let there : slice_get new k ≡ Some at.is = subst (λ (j : ℕ). slice_get new j ≡ Some at.is) (sym here) at.left in
-        let is : at.is ≡ held = cc in
-        subst (λ (q : Held). Rests (named A k).own q h) is
-        (subst (λ (j : ℕ). Rests (named A j).own at.is h) (sym here) (at.appends.evaluates.begins refl (named A n).own (history A) (stand.rests n at.was at.found)))
-    rests_one k held e below false apart = let ne : k ≢ n = apart_ids k n apart in told.rests k held (omega arith) e
 
 pub day_below : (n t : ℕ) (day : Day) (close : ℕ) (A : List Record) (market : MarketView) (old new : List Held) (before after : List Stamped) → SymbolsRepresent old A
     → AppendsBelow n market (in_.Day t day close) old new before after → DayBelow n t day close A new before after

@@ -3,13 +3,13 @@ use Rattle.std.proofs.Common.{◌≡◌, ℕ, ◌≤◌, Bool, true, false, cond
 use Rattle.std.specs.Prelude.{◌==◌}
 use Rattle.std.specs.Option.{option_map_or}
 use Rattle.wire_in.specs.declared.record.Record.{Record}
-use Rattle.wire_in.specs.declared.record.Record.TheVariants as in_
-use Rattle.wire_in.specs.Records.{moment_of, is_day, is_tick, name_of}
+use Rattle.wire_in.specs.Records.{moment_of, is_day, is_tick, name_of, symbol_of}
+use Rattle.wire_in.proofs.RecordKinds.{by_name, listing, tick}
 use Rattle.wire_out.specs.declared.message.Message.{Message}
 use Rattle.wire_out.specs.declared.message.Message.TheVariants as out
 use Rattle.rulebook.specs.declared.event.Event.{Event}
 use Rattle.rulebook.specs.declared.event.Event.TheVariants.{Accepted, Published}
-use Rattle.rulebook.specs.Admission.{names}
+use Rattle.rulebook.specs.Admission.{names, id_of}
 use Rattle.rulebook.specs.Book.{named, target}
 use Rattle.rulebook.specs.History.{now, records, publish}
 use Rattle.rulebook.specs.Market.{day_record}
@@ -69,15 +69,8 @@ rests-agree own other held h e r =
 others_agree : (own other : List ℕ → Bool) (s : ℕ) (x : Record) (A : List Record) → Agree own other (x ∷ A) → IsOfOthers own s x → IsOfOthers other s x
 others_agree own other s x A e n = record { symbol = n.symbol; name = by x e n.name } where
   by : (x : Record) → Agree own other (x ∷ A) → option_map_or own (name_of x) false ≡ false → option_map_or other (name_of x) false ≡ false
-  by (in_.Listing t name k l c) e none = sym (e.at name (among_own (names A) name)) ∙ none
-  by (in_.Day t d c) e none = refl
-  by (in_.Trade t i n p q f) e none = refl
-  by (in_.Cancel t i n) e none = refl
-  by (in_.Quote t i b o y z) e none = refl
-  by (in_.IndexTick t v) e none = refl
-  by (in_.Clock t) e none = refl
-  by (in_.Notice t i k) e none = refl
-  by (in_.Indication t i p u) e none = refl
+  by = by_name (λ x. Agree own other (x ∷ A) → option_map_or own (name_of x) false ≡ false → option_map_or other (name_of x) false ≡ false)
+      (λ t name k l c e none. sym (e.at name (among_own (names A) name)) ∙ none) (λ x is e none. ap (λ o. option_map_or other o false) is)
 
 pub says-agree : (own other : List ℕ → Bool) (s : ℕ) (h : List Event) → Agree own other (records h) → SaysNothing own s h → SaysNothing other s h
 says-agree own other s [] e n = tt
@@ -103,26 +96,25 @@ pub rests-on : (own other : List ℕ → Bool) (held : Held) (x : Record) (ms : 
 rests-on own other held x ms h e apart no_day later none r =
     rests-apart other held x ms h no_day apart (silent held.kept.id ms none) later (rests-agree own other held h e r)
 
--- a record whose symbol is another
+-- a record that names another symbol, or none
+pub of_another : (A : List Record) (x : Record) (s : ℕ) → option_map_or (λ id. id == s) (target (x ∷ A) x) false ≡ false
+    → IsOfOthers (named (x ∷ A) s).own s x
+of_another A x s e = by (name_of x) refl e where
+  by : (o : Option (List ℕ)) → name_of x ≡ o
+      → option_map_or (λ id. id == s) (elim o [ Some name ↦ id_of (x ∷ A) name | None ↦ symbol_of x ]) false ≡ false
+      → IsOfOthers (named (x ∷ A) s).own s x
+  by None is e = record { symbol = e; name = ap (λ o. option_map_or (named (x ∷ A) s).own o false) is }
+  by (Some name) is e = record {
+    symbol = ap (λ (o : Option ℕ). option_map_or (λ id. id == s) o false) (listing x name is);
+    name = ap (λ o. option_map_or (named (x ∷ A) s).own o false) is ∙ e;
+  }
+
 pub of_others : (A : List Record) (x : Record) (s k : ℕ) → target (x ∷ A) x ≡ Some s → (s == k) ≡ false → IsOfOthers (named (x ∷ A) k).own k x
-of_others A (in_.Listing t n l q c) s k e other = record { symbol = refl; name = ap (λ (o : Option ℕ). option_map_or (λ id. id == k) o false) e ∙ other }
-of_others A (in_.Day t d c) s k e other = absurd cc
-of_others A (in_.IndexTick t v) s k e other = absurd cc
-of_others A (in_.Clock t) s k e other = absurd cc
-of_others A (in_.Trade t i n p q f) s k e other = record { symbol = ap (λ (o : Option ℕ). option_map_or (λ id. id == k) o false) e ∙ other; name = refl }
-of_others A (in_.Cancel t i n) s k e other = record { symbol = ap (λ (o : Option ℕ). option_map_or (λ id. id == k) o false) e ∙ other; name = refl }
-of_others A (in_.Quote t i b o y z) s k e other = record { symbol = ap (λ (o : Option ℕ). option_map_or (λ id. id == k) o false) e ∙ other; name = refl }
-of_others A (in_.Notice t i q) s k e other = record { symbol = ap (λ (o : Option ℕ). option_map_or (λ id. id == k) o false) e ∙ other; name = refl }
-of_others A (in_.Indication t i p u) s k e other = record { symbol = ap (λ (o : Option ℕ). option_map_or (λ id. id == k) o false) e ∙ other; name = refl }
+of_others A x s k e other = of_another A x k (ap (λ (o : Option ℕ). option_map_or (λ id. id == k) o false) e ∙ other)
 
 -- a market-wide record
 pub of_none : (own : List ℕ → Bool) (k : ℕ) (x : Record) → is_tick x ≡ true → IsOfOthers own k x
-of_none own k (in_.IndexTick t v) e = record { symbol = refl; name = refl }
-of_none own k (in_.Clock t) e = record { symbol = refl; name = refl }
-of_none own k (in_.Day t d c) e = absurd cc
-of_none own k (in_.Listing t n l q c) e = absurd cc
-of_none own k (in_.Trade t i n p q f) e = absurd cc
-of_none own k (in_.Cancel t i n) e = absurd cc
-of_none own k (in_.Quote t i b o y z) e = absurd cc
-of_none own k (in_.Notice t i q) e = absurd cc
-of_none own k (in_.Indication t i p u) e = absurd cc
+of_none own k x e = record {
+  symbol = ap (λ (o : Option ℕ). option_map_or (λ id. id == k) o false) (tick x e).no_symbol;
+  name = ap (λ o. option_map_or own o false) (tick x e).other.no_name;
+}

@@ -1,4 +1,4 @@
--- One mark in a list of tests, at the place of a name.
+-- One mark in a list of tests, at the index of a name.
 use Rattle.std.proofs.Common.{◌≡◌, ℕ, zero, suc, ◌+◌, ◌≤◌, Bool, true, false, cond, List, [], ◌∷◌, map, Some, refl, sym, ap, ◌∙◌, true≢false, arith}
 use Rattle.std.specs.Prelude.{◌||◌, slice_set, position}
 use Rattle.std.specs.List.{list_any, position_from}
@@ -39,6 +39,6 @@ map-marked_from p other j (suc i) (x ∷ xs) one e = by (p x) refl e (map-marked
   by true here e rest = absurd (let same : j ≡ j + suc i = cc in omega arith)
   by false here e rest = ap (λ bs. other x ∷ bs) (rest (e ∙ ap (λ (n : ℕ). Some n) (omega arith)))
 
--- a mark at the place of the one that passes
+-- a mark at the index of the one that passes
 pub map-marked : {X : Type 0} (p other : X → Bool) (xs : List X) (i : ℕ) → AtMostOne p xs → position p xs ≡ Some i → map (marked p other) xs ≡ slice_set (map other xs) i true
 map-marked p other xs i one e = map-marked_from p other 0 i xs one (sym (position_from-zero p xs) ∙ e ∙ ap (λ (n : ℕ). Some n) (omega arith))
