@@ -46,9 +46,9 @@ one_first (a ∷ as_) (b ∷ bs) f g rest more (tail, opens, spelled) (tail', op
 -- an image that begins with two lists of batches
 module _ (disk : List ℕ) (capacity gate : ℕ) (batches : List (List Record)) (rest : List ℕ) (capacity' gate' : ℕ) (batches' : List (List Record)) (rest' : List ℕ)
     (p : LeadsTo capacity gate batches disk rest) (q : LeadsTo capacity' gate' batches' disk rest') where
-  parts : (header capacity ≡ header capacity') × (p.front ++ rest ≡ q.front ++ rest')
-  parts = front_of (header capacity) (p.front ++ rest) (header capacity') (q.front ++ rest')
-      (sym (append_assoc (header capacity) p.front rest) ∙ sym p.whole ∙ q.whole ∙ append_assoc (header capacity') q.front rest') refl
+  parts : (header capacity ≡ header capacity') × (p.prefix ++ rest ≡ q.prefix ++ rest')
+  parts = front_of (header capacity) (p.prefix ++ rest) (header capacity') (q.prefix ++ rest')
+      (sym (append_assoc (header capacity) p.prefix rest) ∙ sym p.whole ∙ q.whole ∙ append_assoc (header capacity') q.prefix rest') refl
 
   one_limit : capacity ≡ capacity'
   one_limit =
@@ -56,10 +56,10 @@ module _ (disk : List ℕ) (capacity gate : ℕ) (batches : List (List Record)) 
       sym (read capacity p.range) ∙ ap (λ (bytes : List ℕ). from_be_bytes w64 (drop 8 bytes)) parts.0 ∙ read capacity' q.range
 
   one_on : GoesOn batches batches' rest rest' ⊎ GoesOn batches' batches rest' rest
-  one_on = one_first batches batches' p.front q.front rest rest' p.spelled q.spelled parts.1
+  one_on = one_first batches batches' p.prefix q.prefix rest rest' p.spelled q.spelled parts.1
 
   one_gate : rest ≡ rest' → gate ≡ gate'
-  one_gate same = omega (arith, p.place, q.place, ap length parts.1, ap length same, length-append p.front rest, length-append q.front rest')
+  one_gate same = omega (arith, p.place, q.place, ap length parts.1, ap length same, length-append p.prefix rest, length-append q.prefix rest')
 
 -- a record that may not follow stands in no lawful list that goes on behind its batch
 bad_within : (capacity : ℕ) (batches : List (List Record)) (before : List Record) (disk : List ℕ) (bad : HasBadRecord capacity batches before disk) (later : List (List Record)) (extra : List Record)

@@ -19,7 +19,7 @@ returns-in-Ok-begin_engine-clause-recovers g c = λ from disk known. record {
   batches = [];
   read = (c.in-Ok.ensures).read disk known;
   resumes = record {
-    engine_of = subst (λ (l : ℕ). IsOf c.in-Ok-begin_engine.engine l []) c.capacity.ensures.capacity (c.in-Ok-begin_engine.ensures).stands;
+    engine_of = subst (λ (l : ℕ). IsOf c.in-Ok-begin_engine.engine l []) c.limit.ensures.capacity (c.in-Ok-begin_engine.ensures).stands;
     lawful = tt;
     owes = nothing_again from (g.H.Host.outside c.begin_scan.new.host).sent c.args.outbox c.requires;
   };
