@@ -17,19 +17,23 @@ fn expect_bad<R: Abort + AllocGlobal>(rt: &R, lines: &[Line], want: BadLine) {
 #[test]
 fn a_record_that_no_frame_says_is_no_session(rt: HostRuntime) -> Result<(), Fail> {
     let t = at(4, 0, 0);
-    for line in [
-        day_of(3, Close::Regular, Profile::Before18),
-        listing_of(t, *b"\0\0\0\0\0\0\0\0", Tier::One, 10, 500_000),
-        listing_of(t, *b"A\0C\0\0\0\0\0", Tier::One, 10, 500_000),
-        trade(t, 1, 500_000, 1024),
-    ] {
-        expect_bad(&rt, &[line], BadLine::Unsayable);
-    }
+    let other_profile = [day_of(3, Close::Regular, Profile::Before18)];
+    let no_name = [listing_of(t, *b"\0\0\0\0\0\0\0\0", Tier::One, 10, 500_000)];
+    let gap = [listing_of(t, *b"A\0C\0\0\0\0\0", Tier::One, 10, 500_000)];
+    let unassigned_flag = [trade(t, 1, 500_000, 1024)];
+    expect_bad(&rt, &other_profile, BadLine::Unsayable);
+    expect_bad(&rt, &no_name, BadLine::Unsayable);
+    expect_bad(&rt, &gap, BadLine::Unsayable);
+    expect_bad(&rt, &unassigned_flag, BadLine::Unsayable);
     Ok(())
 }
 
 #[test]
 fn a_message_before_any_record_is_no_session(rt: HostRuntime) -> Result<(), Fail> {
-    expect_bad(&rt, &[state(Phase::Trading), clock(at(9, 30, 0))], BadLine::Early);
+    expect_bad(
+        &rt,
+        &[state(Phase::Trading), clock(at(9, 30, 0))],
+        BadLine::Early,
+    );
     Ok(())
 }
