@@ -80,39 +80,43 @@ fn further_breakers(days: &mut Days) -> Result<(), BadLine> {
     )
 }
 
-fn two_stocks(days: &mut Days) -> Result<(), BadLine> {
-    let early = at(4, 0, 1);
-    let open = at(9, 30, 0);
-    let fall = at(10, 0, 0);
-    let first = || listing_of(early, ABC, Tier::One, 10, 500_000);
-    let second = || listing_of(early, XYZ, Tier::Two, 10, 200_000);
+/// A listing of XYZ in Tier 2.
+fn other_listing() -> Line {
+    listing_of(at(4, 0, 1), XYZ, Tier::Two, 10, 200_000)
+}
+
+fn two_days(days: &mut Days) -> Result<(), BadLine> {
+    let first = || listing_of(at(4, 0, 1), ABC, Tier::One, 10, 500_000);
     days.plain(
         "a name keeps its id on the next day",
         &[
             day(3),
             first(),
             listed(),
-            second(),
+            other_listing(),
             listed_as(1, XYZ),
             day(4),
-            second(),
+            other_listing(),
             listed_as(1, XYZ),
             first(),
             listed(),
         ],
-    )?;
+    )
+}
+
+fn two_stocks(days: &mut Days) -> Result<(), BadLine> {
     days.plain(
         "stocks speak in the order of their ids, and stop together",
         &[
             day(3),
-            second(),
+            other_listing(),
             listed_as(0, XYZ),
-            first(),
+            listing_of(at(4, 0, 1), ABC, Tier::One, 10, 500_000),
             listed_as(1, ABC),
-            clock(open),
+            clock(at(9, 30, 0)),
             state_of(0, Phase::Trading),
             state_of(1, Phase::Trading),
-            tick(fall, 465_000),
+            tick(at(10, 0, 0), 465_000),
             breaker(Level::One, 465_000),
             state_of(0, Phase::Stopped),
             state_of(1, Phase::Stopped),
@@ -199,6 +203,7 @@ fn halted_stock(days: &mut Days) -> Result<(), BadLine> {
 pub fn add(days: &mut Days) -> Result<(), BadLine> {
     breakers(days)?;
     further_breakers(days)?;
+    two_days(days)?;
     two_stocks(days)?;
     stopped_stock(days)?;
     halted_stock(days)
