@@ -1,5 +1,4 @@
-//! Tests that the program and the market give what the plain evaluation gives: of days that are told message by message, and
-//! of records that are drawn.
+//! Tests that the market gives what the plain evaluation gives: of worked days, and of records that are drawn.
 #![tactic(auto)]
 
 mod draw;

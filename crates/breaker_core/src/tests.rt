@@ -70,47 +70,6 @@ fn a_level_2_halt_of_15_25_ends_at_15_40(rt: HostRuntime) -> Result<(), Fail> {
 }
 
 #[test]
-fn after_15_25_only_level_3_is_declared(rt: HostRuntime) -> Result<(), Fail> {
-    let day = day(Close::Regular)?;
-    let mut breaker = breaker()?;
-    assert_eq!(rt;
-        breaker.index(at(15, 25, 0, 1)?, index(435_000)?, &day),
-        None
-    );
-    assert_eq!(rt;
-        breaker.index(at(15, 59, 0, 0)?, index(400_000)?, &day),
-        Some(Level::Three)
-    );
-    assert!(rt; !breaker.time(at(16, 30, 0, 0)?));
-    assert!(rt; breaker.stopped());
-    Ok(())
-}
-
-#[test]
-fn a_level_uses_up_the_lower_ones(rt: HostRuntime) -> Result<(), Fail> {
-    let day = day(Close::Regular)?;
-    let mut breaker = breaker()?;
-    assert_eq!(rt;
-        breaker.index(at(10, 0, 0, 0)?, index(435_000)?, &day),
-        Some(Level::Two)
-    );
-    assert!(rt; breaker.time(at(10, 15, 0, 0)?));
-    assert_eq!(rt;
-        breaker.index(at(10, 20, 0, 0)?, index(460_000)?, &day),
-        None
-    );
-    assert_eq!(rt;
-        breaker.index(at(10, 20, 30, 0)?, index(435_000)?, &day),
-        None
-    );
-    assert_eq!(rt;
-        breaker.index(at(10, 21, 0, 0)?, index(400_000)?, &day),
-        Some(Level::Three)
-    );
-    Ok(())
-}
-
-#[test]
 fn an_early_close_moves_the_last_moments(rt: HostRuntime) -> Result<(), Fail> {
     let day = day(Close::Early)?;
     let mut breaker = breaker()?;

@@ -1,5 +1,5 @@
 use super::*;
-use price_core::{Cause, Index, Leverage, Price, Tier};
+use price_core::{Index, Leverage, Price, Tier};
 use session_core::{Close, Date, Day, Level, Moment, Phase, Profile};
 use std::alloc::Global;
 use std::process::Abort;
@@ -14,22 +14,17 @@ fn at(hour: u8, minute: u8, second: u8, nanos: u32) -> Result<Moment, Fail> {
     Ok(Moment::new(seconds * 1_000_000_000 + u64::from(nanos))?)
 }
 
-/// A day of June 2024 begins at a moment, after an index close of 5000.00.
-fn day_at(moment: Moment, day: u8, close: Close) -> Result<Record, Fail> {
+/// A day of June 2024 begins at 04:00:00, after an index close of 5000.00.
+fn day(day: u8) -> Result<Record, Fail> {
     Ok(Record::Day {
-        moment,
+        moment: at(4, 0, 0, 0)?,
         day: Day {
             date: Date::of(2024, 6, day)?,
-            close,
+            close: Close::Regular,
             profile: Profile::Since18,
         },
         index_close: Index::new(500_000)?,
     })
-}
-
-/// A day of June 2024 begins at 04:00:00.
-fn day(day: u8) -> Result<Record, Fail> {
-    day_at(at(4, 0, 0, 0)?, day, Close::Regular)
 }
 
 fn clock(moment: Moment) -> Record {
@@ -305,16 +300,6 @@ fn expect_messages<R: Abort + AllocGlobal>(
 }
 
 #[test]
-fn on_an_early_close_brief_halts_are_declared_up_to_12_25(rt: HostRuntime) -> Result<(), Fail> {
-    let opening = day_at(at(4, 0, 0, 0)?, 3, Close::Early)?;
-    let last = at(12, 25, 0, 0)?;
-    let late = at(12, 25, 0, 1)?;
-    let declared = [breaker(last, Level::Two, 435_000)?];
-    expect_messages(&rt, &[opening, tick(last, 435_000)?], &declared)?;
-    expect_messages(&rt, &[opening, tick(late, 435_000)?], &[])
-}
-
-#[test]
 fn a_halt_bars_other_levels_until_it_ends(rt: HostRuntime) -> Result<(), Fail> {
     let t = at(10, 0, 0, 0)?;
     let end = at(10, 15, 0, 0)?;
@@ -334,19 +319,6 @@ fn a_halt_bars_other_levels_until_it_ends(rt: HostRuntime) -> Result<(), Fail> {
     )
 }
 
-#[test]
-fn a_new_day_ends_halts_and_levels(rt: HostRuntime) -> Result<(), Fail> {
-    let t = at(10, 0, 0, 0)?;
-    expect_messages(
-        &rt,
-        &[day(3)?, tick(t, 400_000)?, day(4)?, tick(t, 465_000)?],
-        &[
-            breaker(t, Level::Three, 400_000)?,
-            breaker(t, Level::One, 465_000)?,
-        ],
-    )
-}
-
 fn said(moment: Moment, message: Message) -> Stamped {
     Stamped { moment, message }
 }
@@ -358,36 +330,6 @@ fn state(moment: Moment, symbol: u16, phase: Phase) -> Stamped {
 fn listed(moment: Moment, symbol: u16, number: u16) -> Stamped {
     let name = name(number);
     said(moment, Message::Listed { symbol, name })
-}
-
-#[test]
-fn an_opening_trade_gives_price_bands(rt: HostRuntime) -> Result<(), Fail> {
-    let early = at(9, 0, 0, 0)?;
-    let start = at(10, 0, 0, 0)?;
-    let trade = Record::Trade {
-        moment: start,
-        symbol: 0,
-        number: 1,
-        price: Price::new(200_000)?,
-        size: 100,
-        flags: 1,
-    };
-    let band = Message::Band {
-        symbol: 0,
-        cause: Cause::First,
-        reference: Price::new(200_000)?,
-        lower: Price::new(190_000)?,
-        upper: Price::new(210_000)?,
-    };
-    expect_messages(
-        &rt,
-        &[day(3)?, listing(early, name(0))?, clock(start), trade],
-        &[
-            listed(early, 0, 0),
-            state(start, 0, Phase::Trading),
-            said(start, band),
-        ],
-    )
 }
 
 #[test]

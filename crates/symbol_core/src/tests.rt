@@ -3,6 +3,7 @@ use price_core::{Cause, Leverage, Price, Tier, Unmatched};
 use session_core::{Close, Date, Day, Moment, Phase, Profile};
 use std::process::Abort;
 use std::test::Fail;
+use std::time::{Duration, Instant};
 use wire_in::Record;
 use wire_out::{Message, ShortKind};
 
@@ -274,10 +275,13 @@ fn clock_ticks_take_no_time_for_each_of_50_000_trades(rt: HostRuntime) -> Result
         };
         symbol.evaluate(&x, &market, &mut out)?;
     }
-    for tick in 0..50_000_u64 {
+    let start = Instant::now(&rt)?;
+    for tick in 0..400_000_u64 {
         let moment = after_open(tick.wrapping_add(60_000_000_000))?;
         symbol.evaluate(&Record::Clock { moment }, &market, &mut out)?;
     }
+    // A look at each trade at each tick would be 20,000,000,000 looks.
+    assert!(rt; start.elapsed(&rt)? < Duration::from_secs(5));
     let want = [
         listed(),
         state(Phase::Trading),

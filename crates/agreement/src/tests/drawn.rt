@@ -1,11 +1,11 @@
+use super::applied;
 use crate::Draw;
 use afresh_core::{afresh, is_lawful};
-use market_core::{Admission, Market};
+use market_core::Admission;
 use std::alloc::Global;
 use std::process::Abort;
 use std::test::Fail;
 use wire_in::{Record, Refusal};
-use wire_out::Stamped;
 
 /// A hundred records that are drawn with a seed.
 fn drawn(alloc: Global, seed: u64) -> Result<Vec<Record>, Fail> {
@@ -37,16 +37,6 @@ fn admissible(alloc: Global, xs: &[Record]) -> Result<Vec<Record>, Fail> {
         }
     }
     Ok(taken)
-}
-
-/// The messages of a market that is given each of these records.
-fn applied(alloc: Global, xs: &[Record]) -> Result<Vec<Stamped>, Fail> {
-    let mut market = Market::new(alloc)?;
-    let mut out = Vec::new(alloc);
-    for x in xs {
-        market.apply(x, &mut out)?;
-    }
-    Ok(out)
 }
 
 fn expect_agreement<R: Abort + AllocGlobal>(rt: &R, seed: u64) -> Result<(), Fail> {

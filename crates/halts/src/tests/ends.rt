@@ -1,45 +1,54 @@
 // How a session ends: at the end of the input, inside a frame, at the limit of bytes, and at faults of reading and sending.
-use super::{FALL, FALL_ANSWERS, bytes, fresh};
-use crate::run::run;
+use super::{fall, fresh, run, runs};
 use host_core::{Call, MemoryHost, Status};
-use std::alloc::Global;
+use session_core::Phase;
 use std::process::Abort;
 use std::test::Fail;
 use std::thread::Threads;
+use test_days::lines::{Line, at, bytes, quote, refused, state};
+use test_days::{Session, opened_day};
+use wire_in::Refusal;
 
 /// Serves over a host, and compares what was sent and how it ended.
-fn serves<Rt: Abort + Threads + Sync>(
+fn serves_over<Rt: Abort + AllocGlobal + Threads + Sync>(
     rt: &Rt,
-    alloc: Global,
     mut host: MemoryHost,
-    answers: &[&str],
+    answers: &[u8],
     want: Status,
 ) -> Result<(), Fail> {
-    let answers = bytes(alloc, answers)?;
-    let status = run(rt, alloc, &["serve"], &mut host);
-    assert!(rt;
-        host.sent() == answers.as_slice(),
-        "{:?} was sent",
-        host.sent()
-    );
+    let status = run(rt, rt.alloc(), &["serve"], &mut host);
+    assert!(rt; host.sent() == answers, "{:?} was sent", host.sent());
     assert_eq!(rt; status, want);
     Ok(())
 }
 
+/// ABC is listed, opened and in a limit state, by one record more.
+fn limit_state<R: AllocGlobal>(rt: &R) -> Result<Vec<Line>, Fail> {
+    let lines = [
+        quote(at(10, 0, 0), 474_900, 475_000),
+        state(Phase::LimitLow),
+    ];
+    Ok(opened_day(rt.alloc(), &lines)?)
+}
+
 #[test]
-fn an_input_that_ends_inside_a_frame_is_truncated(rt: HostRuntime) -> Result<(), Fail> {
+fn an_input_that_ends_inside_its_last_frame_is_truncated(rt: HostRuntime) -> Result<(), Fail> {
     let alloc = rt.alloc();
-    let disk = fresh(&rt, alloc, &["format"])?;
-    let input = bytes(alloc, &FALL)?;
-    assert_eq!(rt; input.len(), 48);
-    for len in 34..48 {
-        let host = MemoryHost::new(alloc, &input[..len], &disk)?;
-        let want = if len == 34 {
+    let disk = fresh(&rt)?;
+    let lines = limit_state(&rt)?;
+    let whole = Session::of(alloc, &lines)?;
+    let before = Session::of(alloc, &opened_day(alloc, &[])?)?;
+    let start = before.input.len();
+    assert_eq!(rt; whole.input.len(), start + 36);
+    for len in start..start + 36 {
+        let want = if len == start {
             Status::Done
         } else {
             Status::Truncated
         };
-        serves(&rt, alloc, host, &FALL_ANSWERS[..3], want)?;
+        let input = &whole.input[..len];
+        runs(&rt, &["serve"], &disk, input, &before.served, want)?;
+        runs(&rt, &["replay"], b"", input, &before.replayed, want)?;
     }
     Ok(())
 }
@@ -47,88 +56,87 @@ fn an_input_that_ends_inside_a_frame_is_truncated(rt: HostRuntime) -> Result<(),
 #[test]
 fn pieces_of_any_size_get_the_same_answers(rt: HostRuntime) -> Result<(), Fail> {
     let alloc = rt.alloc();
-    let disk = fresh(&rt, alloc, &["format"])?;
-    let input = bytes(alloc, &FALL)?;
-    for (read, send) in [(1, 1), (1, 7), (2, 1), (2, 7), (7, 1), (7, 7)] {
-        let mut host = MemoryHost::new(alloc, &input, &disk)?;
-        host.pieces(read, send);
-        serves(&rt, alloc, host, &FALL_ANSWERS, Status::Done)?;
+    let disk = fresh(&rt)?;
+    let session = Session::of(alloc, &limit_state(&rt)?)?;
+    assert_eq!(rt; session.input.len(), 124);
+    for read in 1..=124u32 {
+        let mut host = MemoryHost::new(alloc, &session.input, &disk)?;
+        host.pieces(read, 1 + read % 50);
+        serves_over(&rt, host, &session.served, Status::Done)?;
     }
     Ok(())
+}
+
+/// The answers to the first records of the day of a fall.
+fn answers_to<R: AllocGlobal>(rt: &R, records: usize) -> Result<Vec<u8>, Fail> {
+    let lines = fall();
+    let count = if records == 3 { 4 } else { records };
+    let first = lines.get(..count).unwrap_or(&[]);
+    Ok(Session::of(rt.alloc(), first)?.served)
 }
 
 #[test]
 fn what_was_read_before_a_failed_read_is_answered(rt: HostRuntime) -> Result<(), Fail> {
-    let alloc = rt.alloc();
-    let disk = fresh(&rt, alloc, &["format"])?;
-    let input = bytes(alloc, &FALL)?;
-    for (nth, answers) in [
-        (1u64, &FALL_ANSWERS[..1]),
-        (2, &FALL_ANSWERS[..1]),
-        (3, &FALL_ANSWERS[..1]),
-        (4, &FALL_ANSWERS[..2]),
-        (5, &FALL_ANSWERS[..2]),
-        (6, &FALL_ANSWERS[..3]),
-        (7, &FALL_ANSWERS[..3]),
-        (8, &FALL_ANSWERS[..5]),
-    ] {
-        let mut host = MemoryHost::new(alloc, &input, &disk)?;
+    let disk = fresh(&rt)?;
+    let input = Session::of(rt.alloc(), &fall())?.input;
+    // The frames end at the bytes 20, 34 and 48.
+    for (nth, records) in [(1u64, 0), (3, 0), (4, 1), (5, 1), (6, 2), (7, 2), (8, 3)] {
+        let mut host = MemoryHost::new(rt.alloc(), &input, &disk)?;
         host.pieces(7, 64);
         host.fail(Call::Read, nth)?;
-        serves(&rt, alloc, host, answers, Status::ReadFault)?;
+        serves_over(&rt, host, &answers_to(&rt, records)?, Status::ReadFault)?;
     }
     Ok(())
 }
 
 #[test]
-fn a_failed_send_leaves_a_front_of_the_answers(rt: HostRuntime) -> Result<(), Fail> {
-    let alloc = rt.alloc();
-    let disk = fresh(&rt, alloc, &["format"])?;
-    let input = bytes(alloc, &FALL)?;
-    for (nth, answers) in [
-        (1u64, &FALL_ANSWERS[..0]),
-        (2, &FALL_ANSWERS[..1]),
-        (3, &FALL_ANSWERS[..2]),
-        (4, &FALL_ANSWERS[..3]),
-    ] {
-        let mut host = MemoryHost::new(alloc, &input, &disk)?;
+fn a_failed_send_leaves_the_front_of_the_answers(rt: HostRuntime) -> Result<(), Fail> {
+    let disk = fresh(&rt)?;
+    let input = Session::of(rt.alloc(), &fall())?.input;
+    // A failed greeting, and then the answers to one piece each.
+    for (nth, records) in [(1u64, None), (2, Some(0)), (3, Some(1)), (4, Some(2))] {
+        let mut host = MemoryHost::new(rt.alloc(), &input, &disk)?;
         host.pieces(20, 64);
         host.fail(Call::Send, nth)?;
-        serves(&rt, alloc, host, answers, Status::SendFault)?;
+        let sent = match records {
+            Some(records) => answers_to(&rt, records)?,
+            None => Vec::new(rt.alloc()),
+        };
+        serves_over(&rt, host, &sent, Status::SendFault)?;
     }
-    Ok(())
-}
-
-/// Serves a day up to so many bytes of its input.
-fn serves_up_to<Rt: Abort + Threads + Sync>(
-    rt: &Rt,
-    alloc: Global,
-    bytes_most: &str,
-    answers: &[&str],
-    want: Status,
-) -> Result<(), Fail> {
-    let disk = fresh(rt, alloc, &["format"])?;
-    let input = bytes(alloc, &FALL)?;
-    let answers = bytes(alloc, answers)?;
-    let mut host = MemoryHost::new(alloc, &input, &disk)?;
-    let status = run(rt, alloc, &["serve", "--bytes", bytes_most], &mut host);
-    assert!(rt; host.sent() == answers.as_slice(), "under {bytes_most}");
-    assert_eq!(rt; status, want, "under {bytes_most}");
     Ok(())
 }
 
 #[test]
 fn a_session_is_full_at_its_limit_of_bytes(rt: HostRuntime) -> Result<(), Fail> {
-    // Inside and at the end of the first frame, inside the last one, at the input's end and above it.
-    for (most, answers, want) in [
-        ("1", &FALL_ANSWERS[..1], Status::SessionFull),
-        ("19", &FALL_ANSWERS[..1], Status::SessionFull),
-        ("20", &FALL_ANSWERS[..2], Status::SessionFull),
-        ("47", &FALL_ANSWERS[..3], Status::SessionFull),
-        ("48", &FALL_ANSWERS[..5], Status::SessionFull),
-        ("49", &FALL_ANSWERS[..5], Status::Done),
+    let disk = fresh(&rt)?;
+    let input = Session::of(rt.alloc(), &fall())?.input;
+    // Inside and at the end of the first frame, behind it, inside the last one, at the input's end and above it.
+    for (most, records, want) in [
+        ("1", 0, Status::SessionFull),
+        ("19", 0, Status::SessionFull),
+        ("20", 1, Status::SessionFull),
+        ("21", 1, Status::SessionFull),
+        ("47", 2, Status::SessionFull),
+        ("48", 3, Status::SessionFull),
+        ("49", 3, Status::Done),
     ] {
-        serves_up_to(&rt, rt.alloc(), most, answers, want)?;
+        let words = ["serve", "--bytes", most];
+        runs(&rt, &words, &disk, &input, &answers_to(&rt, records)?, want)?;
+    }
+    Ok(())
+}
+
+#[test]
+fn a_replay_is_full_at_its_limit_of_bytes(rt: HostRuntime) -> Result<(), Fail> {
+    let session = Session::of(rt.alloc(), &fall())?;
+    for (most, sent, want) in [
+        ("47", b"".as_slice(), Status::SessionFull),
+        ("48", session.replayed.as_slice(), Status::SessionFull),
+        ("49", session.replayed.as_slice(), Status::Done),
+    ] {
+        let words = ["replay", "--bytes", most];
+        runs(&rt, &words, b"", &session.input, sent, want)?;
     }
     Ok(())
 }
@@ -136,13 +144,20 @@ fn a_session_is_full_at_its_limit_of_bytes(rt: HostRuntime) -> Result<(), Fail> 
 #[test]
 fn answers_that_find_no_room_are_sent_before_the_piece_ends(rt: HostRuntime) -> Result<(), Fail> {
     let alloc = rt.alloc();
-    let disk = fresh(&rt, alloc, &["format"])?;
-    let mut host = MemoryHost::new(alloc, &[0; 6000], &disk)?;
-    let status = run(&rt, alloc, &["serve"], &mut host);
-    assert_eq!(rt; status, Status::Done);
-    // A greeting and 6,000 refusals, which are more than wait at once.
-    let last = bytes(alloc, &["0b8300000000000017700200"])?;
-    assert!(rt; host.sent().ends_with(&last));
-    assert_eq!(rt; host.sent().len(), 18 + 6000 * 12);
+    // A greeting and 6,000 refusals of empty frames, which are more than wait at once.
+    let mut lines = Vec::new(alloc);
+    for _ in 0..6000 {
+        lines.extend_from_slice(&[bytes(b"\0"), refused(Refusal::BadLength)])?;
+    }
+    let session = Session::of(alloc, &lines)?;
+    assert_eq!(rt; session.served.len(), 18 + 6000 * 12);
+    runs(
+        &rt,
+        &["serve"],
+        &fresh(&rt)?,
+        &session.input,
+        &session.served,
+        Status::Done,
+    )?;
     Ok(())
 }
