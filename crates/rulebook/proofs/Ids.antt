@@ -98,7 +98,7 @@ pub own-kept : (x : Record) (A : List Record) (s : ℕ) → Agree (named A s).ow
 own-kept x A s = record { at = λ name there. ap (λ (o : Option ℕ). option_map_or (λ id. id == s) o false) (sym (id_of-kept x A name there)) }
 
 abbrev terms_of : Tier → ℕ → Option ℕ → Terms
-terms_of k l c = record { tier = k; leverage = l; close = c }
+terms_of k l c = record { tier = k; leverage = l; prior_close = c }
 
 pub terms_in-agree : (own other : List ℕ → Bool) (A : List Record) → Agree own other A → terms_in own A ≡ terms_in other A
 terms_in-agree own other [] e = refl

@@ -54,8 +54,8 @@ gives_none s (in_.Trade t i n p q f) o =
       indicated = refl;
       halted = λ b. refl;
       cancelled = refl;
-      deal = λ day. let all : Deal = record { moment = t; number = n; price = p } in ap (λ (v : Bool). if v && is_eligible f t day then Some all else None) o;
-      traded = λ day. ap (λ (v : Bool). if v && is_eligible f t day then Some p else None) o;
+      deal = λ day. let all : Deal = record { moment = t; number = n; price = p } in ap (λ (v : Bool). if v && eligible f t day then Some all else None) o;
+      traded = λ day. ap (λ (v : Bool). if v && eligible f t day then Some p else None) o;
     }
 gives_none s (in_.Cancel t i n) o =
     record { quoted = refl; indicated = refl; halted = λ b. refl; cancelled = none_if n (i == s) o; deal = λ day. refl; traded = λ day. refl }
