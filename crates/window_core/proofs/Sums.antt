@@ -1,6 +1,6 @@
 -- Deals with the sum of their prices, in order.
 use Rattle.std.proofs.Common.{◌≡◌, ℕ, ◌+◌, ◌*◌, ◌≤◌, ◌<◌, Bool, true, false, cond, List, [], ◌∷◌, ◌++◌, filter, length, length-append, sum_by, refl, sym, ap, arith, subst, ◌∙◌}
-use Rattle.std.specs.Prelude.{Option, Some, None, ◌-◌, ◌&&◌, drop, nat_le, slice_get, slice_index_or}
+use Rattle.std.specs.Prelude.{Some, None, ◌-◌, ◌&&◌, drop, nat_le, slice_get, slice_index_or}
 use Rattle.std.proofs.lemmas.Bool.Decides.{nat_tests}
 use Rattle.std.proofs.lemmas.List.Sums.{sum_by-append}
 use Rattle.price_core.specs.Ranges.{IsPrice}
