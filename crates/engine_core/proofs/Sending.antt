@@ -1,4 +1,4 @@
--- The stops while frames are put.
+-- The stops while frames are sent.
 use Rattle.std.proofs.Common.{◌≡◌, ℕ, List, ◌++◌, take, drop, sym, ap, subst, ◌∙◌, append_assoc}
 use Rattle.std.specs.Prelude.{Option}
 use Rattle.std.specs.Io.KnownBytes.{append_known}
@@ -6,57 +6,69 @@ use Rattle.std.proofs.lemmas.List.{take-append-drop}
 use Rattle.host_core.specs.Outside.{Outside, Agrees, Elapses, Sends, Stays}
 use Rattle.host_core.proofs.Moments.{ended, goes_on, nothing, widened}
 use Rattle.host_core.proofs.Known.{append_known-append}
-use Rattle.engine_core.specs.Owed.{Owes, SendsFront}
+use Rattle.engine_core.specs.Pending.{Expects, SendsPrefix}
 
 -- nothing more was sent, and the rest waits
-pub waits : (begin : Option (List ℕ)) (now : Outside) (held text : List ℕ) → Owes begin now.sent held text → (image bytes : List ℕ) → Stays now image bytes → SendsFront begin text now image bytes
-waits begin now held text owes image bytes stays = record {
+pub waits : (begin : Option (List ℕ)) (now : Outside) (waiting text : List ℕ) → Expects begin now.sent waiting text
+    → (image bytes : List ℕ) → Stays now image bytes → SendsPrefix begin text now image bytes
+waits begin now waiting text expects image bytes stays = record {
   was = stays.was;
-  sent = owes.sent;
-  rest = held;
-  known = subst (λ known. Agrees known bytes) owes.known stays.sent;
-  front = owes.whole;
+  sent = expects.sent;
+  rest = waiting;
+  known = subst (λ known. Agrees known bytes) expects.known stays.sent;
+  prefix = expects.whole;
 }
 
--- a front of what waits is sent
-pub sends_front : (begin : Option (List ℕ)) (old : Outside) (piece held text : List ℕ) → Owes begin old.sent held text → piece ≡ held → (image bytes : List ℕ) → Sends piece old image bytes → SendsFront begin text old image bytes
-sends_front begin old piece held text owes same image bytes stop = record {
+-- a prefix of what waits is sent
+pub sends_prefix : (begin : Option (List ℕ)) (old : Outside) (piece waiting text : List ℕ) → Expects begin old.sent waiting text → piece ≡ waiting
+    → (image bytes : List ℕ) → Sends piece old image bytes → SendsPrefix begin text old image bytes
+sends_prefix begin old piece waiting text expects same image bytes stop = record {
   was = stop.was;
-  sent = owes.sent ++ take stop.count held;
-  rest = drop stop.count held;
+  sent = expects.sent ++ take stop.count waiting;
+  rest = drop stop.count waiting;
   known = subst (λ known. Agrees known bytes)
-      (ap (λ p. append_known old.sent (take stop.count p)) same ∙ ap (λ known. append_known known (take stop.count held)) owes.known ∙ append_known-append begin owes.sent (take stop.count held))
+      (ap (λ p. append_known old.sent (take stop.count p)) same
+      ∙ ap (λ known. append_known known (take stop.count waiting)) expects.known
+      ∙ append_known-append begin expects.sent (take stop.count waiting))
       stop.sent;
-  front = append_assoc owes.sent (take stop.count held) (drop stop.count held) ∙ ap (λ b. owes.sent ++ b) (take-append-drop stop.count held) ∙ owes.whole;
+  prefix = append_assoc expects.sent (take stop.count waiting) (drop stop.count waiting)
+      ∙ ap (λ b. expects.sent ++ b) (take-append-drop stop.count waiting)
+      ∙ expects.whole;
 }
 
--- a front of a text is one of a longer text
-pub front_of_longer : {begin : Option (List ℕ)} {old : Outside} (text more long : List ℕ) → text ++ more ≡ long → (image bytes : List ℕ) → SendsFront begin text old image bytes → SendsFront begin long old image bytes
-front_of_longer text more long is image bytes stop = record {
+-- a prefix of a text is one of a longer text
+pub prefix_of_longer : {begin : Option (List ℕ)} {old : Outside} (text more long : List ℕ) → text ++ more ≡ long
+    → (image bytes : List ℕ) → SendsPrefix begin text old image bytes → SendsPrefix begin long old image bytes
+prefix_of_longer text more long is image bytes stop = record {
   was = stop.was;
   sent = stop.sent;
   rest = stop.rest ++ more;
   known = stop.known;
-  front = sym (append_assoc stop.sent stop.rest more) ∙ ap (λ b. b ++ more) stop.front ∙ is;
+  prefix = sym (append_assoc stop.sent stop.rest more) ∙ ap (λ b. b ++ more) stop.prefix ∙ is;
 }
 
 -- what a stop leaves after a run that only sends, it might have left before
-pub since_begin : {begin : Option (List ℕ)} {old mid : Outside} {long : List ℕ} → Elapses old mid (SendsFront begin long old) → (text more : List ℕ) → text ++ more ≡ long
-    → (image bytes : List ℕ) → SendsFront begin text mid image bytes → SendsFront begin long old image bytes
+pub since_begin : {begin : Option (List ℕ)} {old mid : Outside} {long : List ℕ} → Elapses old mid (SendsPrefix begin long old)
+    → (text more : List ℕ) → text ++ more ≡ long → (image bytes : List ℕ) → SendsPrefix begin text mid image bytes → SendsPrefix begin long old image bytes
 since_begin {old = old} {mid = mid} {long = long} run text more is image bytes stop =
-    let here : SendsFront _ long mid image bytes = front_of_longer text more long is image bytes stop in
-    record { was = (ended run stop.was).was; sent = here.sent; rest = here.rest; known = here.known; front = here.front }
+    let here : SendsPrefix _ long mid image bytes = prefix_of_longer text more long is image bytes stop in
+    record { was = (ended run stop.was).was; sent = here.sent; rest = here.rest; known = here.known; prefix = here.prefix }
 
--- a run that sends a front of a text, and then one that sends a front of a part of it
-pub sends_on : {begin : Option (List ℕ)} {old mid new : Outside} {long : List ℕ} → Elapses old mid (SendsFront begin long old) → (text more : List ℕ) → text ++ more ≡ long
-    → Elapses mid new (SendsFront begin text mid) → Elapses old new (SendsFront begin long old)
+-- a run that sends a prefix of a text, and then one that sends a prefix of a part of it
+pub sends_on : {begin : Option (List ℕ)} {old mid new : Outside} {long : List ℕ} → Elapses old mid (SendsPrefix begin long old)
+    → (text more : List ℕ) → text ++ more ≡ long → Elapses mid new (SendsPrefix begin text mid) → Elapses old new (SendsPrefix begin long old)
 sends_on first text more is second = goes_on first second (since_begin first text more is)
 
--- a run that sends a front of a text
-pub sends_longer : {begin : Option (List ℕ)} {old new : Outside} (text more long : List ℕ) → text ++ more ≡ long → Elapses old new (SendsFront begin text old) → Elapses old new (SendsFront begin long old)
-sends_longer {begin} {old} text more long is run = widened run (SendsFront begin long old) (front_of_longer text more long is)
+-- a run that sends a prefix of a text
+pub sends_longer : {begin : Option (List ℕ)} {old new : Outside} (text more long : List ℕ) → text ++ more ≡ long
+    → Elapses old new (SendsPrefix begin text old) → Elapses old new (SendsPrefix begin long old)
+sends_longer {begin} {old} text more long is run = widened run (SendsPrefix begin long old) (prefix_of_longer text more long is)
+
+pub sends_same : {begin : Option (List ℕ)} {old new : Outside} (text same : List ℕ) → text ≡ same
+    → Elapses old new (SendsPrefix begin text old) → Elapses old new (SendsPrefix begin same old)
+sends_same {begin} {old} {new} text same is run = subst (λ (t : List ℕ). Elapses old new (SendsPrefix begin t old)) is run
 
 -- no time has passed, and the text waits
-pub sends_none : {begin : Option (List ℕ)} (now : Outside) → ((image bytes : List ℕ) → now.leaves now.moment image bytes → Agrees now.sent bytes) → (held text : List ℕ) → Owes begin now.sent held text
-    → Elapses now now (SendsFront begin text now)
-sends_none {begin} now sent_now held text owes = widened (nothing now sent_now) (SendsFront begin text now) (waits begin now held text owes)
+pub sends_none : {begin : Option (List ℕ)} (now : Outside) → ((image bytes : List ℕ) → now.leaves now.moment image bytes → Agrees now.sent bytes)
+    → (waiting text : List ℕ) → Expects begin now.sent waiting text → Elapses now now (SendsPrefix begin text now)
+sends_none {begin} now sent_now waiting text expects = widened (nothing now sent_now) (SendsPrefix begin text now) (waits begin now waiting text expects)

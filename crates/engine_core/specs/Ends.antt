@@ -4,15 +4,15 @@ use Rattle.host_core.specs.declared.status.Status.{Status}
 use Rattle.host_core.specs.declared.status.Status.TheVariants.{Done, Truncated, SessionFull}
 use Rattle.wire_in.specs.Cutting.{rest_of}
 
--- how a session ends over this input, where it reads so many bytes at most: its capacity was reached, or the input ended
--- at a frame's edge, or inside a frame
+-- how a session ends over this input, where it reads so many bytes at most: they were read, or the input ended at a
+-- frame's edge, or inside a frame
 abbrev pub end_of : ℕ → List ℕ → Status
 end_of most input =
     if nat_le most (length input) then SessionFull
     else if length (rest_of input) == 0 then Done
     else Truncated
 
--- the input was read to its end or to the capacity
+-- the input was read to its end or to the most bytes of the session
 abbrev pub IsEnd : Status → Type 0
 IsEnd Done = Unit {0}
 IsEnd Truncated = Unit {0}

@@ -1,3 +1,7 @@
-pub mod Owed
-pub mod Kept
+pub mod Pending
+pub mod EngineState
+pub mod Rounds
+pub mod Sessions
+pub mod Answering
+pub mod Serving
 pub mod Ends

@@ -1,13 +1,19 @@
-//! What a live session and a replay share: accepted records that are evaluated as they come, frames that wait to be
-//! sent, and pieces of the input.
+//! What a live session and a replay share: frames that are judged one after the other, kept together, evaluated and
+//! answered, bytes that wait to be sent, and the loop that reads the input.
 #![tactic(auto)]
 
 mod engine;
 mod input;
+mod keeper;
 mod outbox;
-mod step;
+mod reply;
+mod round;
+mod session;
 
 pub use engine::{Engine, judge};
-pub use input::{PIECE, read_piece};
+pub use input::{PIECE, serve_input};
+pub use keeper::Keeper;
 pub use outbox::Outbox;
-pub use step::{put_messages, put_refusal};
+pub use reply::append_messages;
+pub use round::{Outcome, Round};
+pub use session::Session;

@@ -1,12 +1,14 @@
 //! Frames that wait to be sent together.
 
-ghost use Rattle.std.specs.Prelude.{◌≡◌, ◌+◌, ◌≤◌, ◌++◌, [], ℕ, List, Option, length, OnOk, OnErr, IfOk};
+ghost use Rattle.std.specs.Prelude.{◌≡◌, ◌≢◌, ◌+◌, ◌≤◌, ◌++◌, [], ℕ, List, Option, length, Err, OnOk, OnErr, IfOk, IfErr};
 ghost use Rattle.std.specs.Io.KnownBytes.{append_known};
-ghost use Rattle.host_core.specs.Outside.{Elapses, Rose};
+ghost use Rattle.host_core.specs.Outside.{Elapses};
+ghost use Rattle.host_core.specs.Frames.{OnlySends};
+ghost use Rattle.host_core.specs.Faults.{Causes};
 ghost use Rattle.wire_out.specs.Spelling.{spelling};
-ghost use Rattle.engine_core.specs.Owed.{Owes, SentPart, SendsFront, OnlySends};
+ghost use Rattle.engine_core.specs.Pending.{Expects, SendsPrefix};
 
-use host_core::{Failed, Host, send_all};
+use host_core::{Fault, Host, send_all};
 use price_core::NoMemory;
 use std::alloc::Global;
 use std::marker::Model;
@@ -45,33 +47,32 @@ impl Outbox {
     }
 
     /// Sends all that waits. After an error the outbox is of no further use.
-    pub fn flush<H: Host>(&mut self, host: &mut H) -> Result<(), Failed>
-        ensures sent { (begin : Option (List ℕ)) (text : List ℕ) → Owes begin (H.outside host.old).sent self.old text
+    pub fn flush<H: Host>(&mut self, host: &mut H) -> Result<(), Fault>
+        ensures sent { (begin : Option (List ℕ)) (text : List ℕ) → Expects begin (H.outside host.old).sent self.old text
             → OnOk result ((H.outside host.new).sent ≡ append_known begin text) }
         ensures empty { OnOk result (self.new ≡ []) }
-        ensures part { (begin : Option (List ℕ)) (text : List ℕ) → Owes begin (H.outside host.old).sent self.old text
-            → OnErr result (SentPart begin (H.outside host.new).sent text) }
-        ensures moments { (begin : Option (List ℕ)) (text : List ℕ) → Owes begin (H.outside host.old).sent self.old text
-            → Elapses (H.outside host.old) (H.outside host.new) (SendsFront begin text (H.outside host.old)) }
+        ensures moments { (begin : Option (List ℕ)) (text : List ℕ) → Expects begin (H.outside host.old).sent self.old text
+            → Elapses (H.outside host.old) (H.outside host.new) (SendsPrefix begin text (H.outside host.old)) }
         ensures keeps { OnlySends (H.outside host.old) (H.outside host.new) }
-        ensures cause { OnErr result (Rose (H.outside host.old).send_faults (H.outside host.new).send_faults) }
+        ensures causes { Causes result (H.outside host.old) (H.outside host.new) }
+        ensures fault { IfErr result (λ fault. fault ≡ Fault.Send) }
     {
-        send_all(host, &self.bytes)?;
+        send_all(host, &self.bytes).map_err(|_| Fault::Send)?;
         self.bytes.clear();
         Ok(())
     }
 
     /// Sends what waits where there may be no room for a frame.
-    fn make_room<H: Host>(&mut self, host: &mut H) -> Result<(), Failed>
-        ensures owes { (begin : Option (List ℕ)) (text : List ℕ) → Owes begin (H.outside host.old).sent self.old text
-            → OnOk result (Owes begin (H.outside host.new).sent self.new text) }
+    fn make_room<H: Host>(&mut self, host: &mut H) -> Result<(), Fault>
+        ensures pending { (begin : Option (List ℕ)) (text : List ℕ) → Expects begin (H.outside host.old).sent self.old text
+            → OnOk result (Expects begin (H.outside host.new).sent self.new text) }
         ensures room { OnOk result (length self.new + 64 ≤ 65536) }
-        ensures part { (begin : Option (List ℕ)) (text : List ℕ) → Owes begin (H.outside host.old).sent self.old text
-            → OnErr result (SentPart begin (H.outside host.new).sent text) }
-        ensures moments { (begin : Option (List ℕ)) (text : List ℕ) → Owes begin (H.outside host.old).sent self.old text
-            → Elapses (H.outside host.old) (H.outside host.new) (SendsFront begin text (H.outside host.old)) }
+        ensures moments { (begin : Option (List ℕ)) (text : List ℕ) → Expects begin (H.outside host.old).sent self.old text
+            → Elapses (H.outside host.old) (H.outside host.new) (SendsPrefix begin text (H.outside host.old)) }
         ensures keeps { OnlySends (H.outside host.old) (H.outside host.new) }
-        ensures cause { OnErr result (Rose (H.outside host.old).send_faults (H.outside host.new).send_faults) }
+        ensures causes { Causes result (H.outside host.old) (H.outside host.new) }
+        ensures unread { result ≢ Err Fault.Read }
+        ensures unkept { result ≢ Err Fault.Disk }
     {
         if self.bytes.len() + FRAME <= CAPACITY {
             return Ok(());
@@ -79,8 +80,8 @@ impl Outbox {
         self.flush(host)
     }
 
-    /// Puts a frame behind those that wait.
-    fn append(&mut self, frame: &Frame)
+    /// Writes a frame behind those that wait.
+    fn write(&mut self, frame: &Frame)
         requires { length self.old + 64 ≤ 65536 }
         ensures { self.new ≡ self.old ++ spelling frame.now }
     {
@@ -89,20 +90,20 @@ impl Outbox {
         self.bytes.extend_from_slice(&cell[..len]).unwrap();
     }
 
-    /// Puts a frame behind those that wait, and sends these first where there is no room. After an error the outbox is of
+    /// Appends a frame to those that wait, and sends these first where there is no room. After an error the outbox is of
     /// no further use.
-    pub fn put<H: Host>(&mut self, host: &mut H, frame: &Frame) -> Result<(), Failed>
-        ensures owes { (begin : Option (List ℕ)) (text : List ℕ) → Owes begin (H.outside host.old).sent self.old text
-            → OnOk result (Owes begin (H.outside host.new).sent self.new (text ++ spelling frame.now)) }
-        ensures part { (begin : Option (List ℕ)) (text : List ℕ) → Owes begin (H.outside host.old).sent self.old text
-            → OnErr result (SentPart begin (H.outside host.new).sent text) }
-        ensures moments { (begin : Option (List ℕ)) (text : List ℕ) → Owes begin (H.outside host.old).sent self.old text
-            → Elapses (H.outside host.old) (H.outside host.new) (SendsFront begin text (H.outside host.old)) }
+    pub fn append<H: Host>(&mut self, host: &mut H, frame: &Frame) -> Result<(), Fault>
+        ensures pending { (begin : Option (List ℕ)) (text : List ℕ) → Expects begin (H.outside host.old).sent self.old text
+            → OnOk result (Expects begin (H.outside host.new).sent self.new (text ++ spelling frame.now)) }
+        ensures moments { (begin : Option (List ℕ)) (text : List ℕ) → Expects begin (H.outside host.old).sent self.old text
+            → Elapses (H.outside host.old) (H.outside host.new) (SendsPrefix begin text (H.outside host.old)) }
         ensures keeps { OnlySends (H.outside host.old) (H.outside host.new) }
-        ensures cause { OnErr result (Rose (H.outside host.old).send_faults (H.outside host.new).send_faults) }
+        ensures causes { Causes result (H.outside host.old) (H.outside host.new) }
+        ensures unread { result ≢ Err Fault.Read }
+        ensures unkept { result ≢ Err Fault.Disk }
     {
         self.make_room(host)?;
-        self.append(frame);
+        self.write(frame);
         Ok(())
     }
 }

@@ -3,7 +3,8 @@
 ghost use Rattle.std.specs.Prelude.{◌≡◌, ◌↔◌, None, IfSome, map};
 ghost use Rattle.host_core.specs.Outside.{Continues};
 ghost use Rattle.journal_core.specs.Layout.{IsLimit};
-ghost use Rattle.halts.specs.Runs.{Formatted, Ran, IsInRange};
+ghost use Rattle.journal_core.specs.Formatted.{Formatted};
+ghost use Rattle.halts.specs.Runs.{Ran, IsInRange};
 ghost use Rattle.halts.specs.Words.{command_of};
 
 use crate::words::{Command, parse};
@@ -27,15 +28,20 @@ fn format_journal<H: Host>(host: &mut H, limit: u64) -> Status
 }
 
 /// Does what a command asks for.
-fn obey<H: Host>(alloc: Global, host: &mut H, command: Command) -> Status
+fn obey<Rt: Threads + Sync, H: Host>(
+    rt: &Rt,
+    alloc: Global,
+    host: &mut H,
+    command: Command,
+) -> Status
     requires { IsInRange command }
     ensures ran { Ran command result (H.outside host.old) (H.outside host.new) }
     ensures continues { Continues (H.outside host.old) (H.outside host.new) }
 {
     match command {
         Command::Format { limit } => format_journal(host, limit),
-        Command::Serve { from, bytes } => serve(alloc, host, &ServeOptions { from, bytes }),
-        Command::Replay { bytes } => replay(alloc, host, &ReplayOptions { bytes }),
+        Command::Serve { from, bytes } => serve(rt, alloc, host, &ServeOptions { from, bytes }),
+        Command::Replay { bytes } => replay(rt, alloc, host, &ReplayOptions { bytes }),
     }
 }
 
@@ -53,9 +59,8 @@ pub fn run<Rt: Threads + Sync, H: Host>(
     ensures ran { IfSome (command_of (map (λ w. w.now) words.now)) (λ command. Ran command result (H.outside host.old) (H.outside host.new)) }
     ensures continues { Continues (H.outside host.old) (H.outside host.new) }
 {
-    let _ = rt;
     match parse(words) {
-        Some(command) => obey(alloc, host, command),
+        Some(command) => obey(rt, alloc, host, command),
         None => Status::Usage,
     }
 }

@@ -10,7 +10,8 @@ mod told;
 mod worked;
 
 use crate::run::run;
-use host_core::{MemoryHost, Status};
+use host_core::Status;
+use memory_host::MemoryHost;
 use session_core::Level;
 use std::process::Abort;
 use std::test::Fail;

@@ -1,7 +1,5 @@
 pub mod Known
 pub mod Moments
-pub mod Asked
+pub mod Chains
+pub mod Causes
 mod Sending
-mod Pushed
-mod Remembered
-mod Replayed

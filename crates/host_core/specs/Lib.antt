@@ -1,8 +1,8 @@
 pub mod Outside
-pub mod Statuses
+pub mod Frames
+pub mod HostCalls
+pub mod Faults
+pub mod Counts
 pub mod Opaque
-pub mod Effects
-pub mod Calls
-pub mod Ledgers
-pub mod Memory
 pub mod Real
+pub mod Statuses

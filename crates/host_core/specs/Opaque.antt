@@ -9,6 +9,7 @@ opaque read_faults send_faults disk_faults = record {
   input = None;
   sent = None;
   disk = None;
+  asks = None;
   moment = 0;
   leaves = λ k image bytes. ⊥;
   read_faults = read_faults;

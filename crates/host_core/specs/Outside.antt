@@ -1,14 +1,21 @@
 -- The outside as a program meets it: an input, a sink and a disk, under one clock.
-use Rattle.std.specs.Prelude.{◌≡◌, ℕ, ◌+◌, ◌-◌, ◌^◌, ◌≤◌, min, List, [], ◌++◌, length, take, drop, Option, Some, is_some, option_map}
+use Rattle.std.specs.Prelude.{◌≡◌, ℕ, ◌+◌, ◌-◌, ◌^◌, ◌≤◌, min, List, [], ◌∷◌, ◌++◌, length, take, drop, Option, Some, is_some, option_map}
 use Rattle.std.specs.Io.KnownBytes.{append_known}
 
--- What a host exposes at a moment: the bytes that are left to read, those that were sent, and what a read
--- of the disk gives. `leaves k image bytes` says that a stop at moment k, now or earlier, may leave
--- that image of the disk, and that these bytes had been sent by then. The counts of faults are always known.
+-- a read of the input: the bytes that were left when it began, and those that had been sent by then
+pub record Ask : Type 0 where
+  pub left : List ℕ
+  pub sent : List ℕ
+
+-- What a host exposes at a moment: the bytes that are left to read, those that were sent, what a read of the
+-- disk gives, and the reads of the input that were made, the first one first. `leaves k image bytes` says that a
+-- stop at moment k, now or earlier, may leave that image of the disk, and that these bytes had been sent by then.
+-- The counts of faults are always known.
 pub record Outside : Type 1 where
   pub input : Option (List ℕ)
   pub sent : Option (List ℕ)
   pub disk : Option (List ℕ)
+  pub asks : Option (List Ask)
   pub moment : ℕ
   pub leaves : ℕ → List ℕ → List ℕ → Type 0
   pub read_faults : ℕ
@@ -112,6 +119,17 @@ pub record Continues (old new : Outside) : Type 0 where
   pub input : is_some new.input ≡ is_some old.input
   pub sent : is_some new.sent ≡ is_some old.sent
   pub disk : is_some new.disk ≡ is_some old.disk
+
+-- no count of faults rose
+pub record NoFault (old new : Outside) : Type 0 where
+  pub reading : new.read_faults ≡ old.read_faults
+  pub sending : new.send_faults ≡ old.send_faults
+  pub storing : new.disk_faults ≡ old.disk_faults
+
+-- a host that exposes its reads made one more, which began as it stood before
+abbrev pub Asks : Outside → Outside → Type 0
+Asks old new = (left sent : List ℕ) → old.input ≡ Some left → old.sent ≡ Some sent
+    → new.asks ≡ option_map (λ asks. asks ++ record { left = left; sent = sent } ∷ []) old.asks
 
 -- a host exposes this input and this disk, nothing was sent, nothing is pending, and nothing has failed
 pub record Starts (input disk : List ℕ) (now : Outside) : Type 0 where

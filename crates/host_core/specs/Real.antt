@@ -1,5 +1,5 @@
 -- What a real host holds.
-use Rattle.host_core.specs.declared.call.Faults.{Faults}
+use Rattle.host_core.specs.declared.counts.FaultCounts.{FaultCounts}
 use Rattle.host_core.specs.declared.real.RealHost.{RealHost}
 
 -- its input
@@ -11,7 +11,7 @@ abbrev pub writer_of : {R W D : Type 0} → RealHost R W D → W
 writer_of host = host.output
 
 -- its counts of faults
-abbrev pub faults_of : {R W D : Type 0} → RealHost R W D → Faults
+abbrev pub faults_of : {R W D : Type 0} → RealHost R W D → FaultCounts
 faults_of host = host.faults
 
 -- its disk

@@ -1,5 +1,5 @@
 // The file of a journal.
-ghost use Rattle.std.specs.Prelude.{◌≡◌, ◌<◌, ◌≤◌, ◌^◌, ℕ, List, Option, None, Some, length, take, drop, IfOk, OnOk};
+ghost use Rattle.std.specs.Prelude.{◌≡◌, ◌<◌, ◌≤◌, ◌^◌, ℕ, List, Option, None, Some, length, take, drop, IfOk, OnOk, OnErr};
 ghost use Rattle.host_core.specs.Outside.{written};
 
 use std::fs::{OpenFile, OpenOptions};
@@ -11,25 +11,33 @@ pub trait Disk {
     /// What a read gives, where it is content.
     ghost bytes: { Self → Option (List ℕ) } = { λ _. None };
 
+    /// What a read gave at the last sync that answered Ok, where that is known.
+    ghost synced: { Self → Option (List ℕ) } = { λ _. None };
+
     /// The length in bytes. A length of 2^63 or more is an error.
     fn len(&mut self) -> io::Result<u64>
         ensures bound { IfOk result (λ n. n < 2 ^ 63) }
         ensures len { IfOk result (λ n. (content : List ℕ) → bytes self.old ≡ Some content → n ≡ length content) }
-        ensures same { bytes self.new ≡ bytes self.old };
+        ensures same { bytes self.new ≡ bytes self.old }
+        ensures same_synced { synced self.new ≡ synced self.old };
 
     /// Reads the bytes from a place on. It is an error where there are fewer.
     fn read(&mut self, at: u64, into: &mut [u8]) -> io::Result<()>
         ensures given { OnOk result ((content : List ℕ) → bytes self.old ≡ Some content → into.new ≡ take (length into.old) (drop at content)) }
-        ensures same { bytes self.new ≡ bytes self.old };
+        ensures same { bytes self.new ≡ bytes self.old }
+        ensures same_synced { synced self.new ≡ synced self.old };
 
     /// Writes a piece from a place on.
     fn write(&mut self, at: u64, piece: &[u8]) -> io::Result<()>
         ensures written { OnOk result ((content : List ℕ) → bytes self.old ≡ Some content → at ≤ length content
-            → bytes self.new ≡ Some (written at piece.now content)) };
+            → bytes self.new ≡ Some (written at piece.now content)) }
+        ensures same_synced { synced self.new ≡ synced self.old };
 
     /// Puts on the disk what was written.
     fn sync(&mut self) -> io::Result<()>
-        ensures same { bytes self.new ≡ bytes self.old };
+        ensures same { bytes self.new ≡ bytes self.old }
+        ensures synced { OnOk result (synced self.new ≡ bytes self.old) }
+        ensures unsynced { OnErr result (synced self.new ≡ synced self.old) };
 }
 
 /// A file that is opened for reading and writing at its first use, and made empty where there is none.

@@ -2,13 +2,14 @@
 ghost use Rattle.std.specs.Prelude.{◌≡◌, ◌<◌, ◌≤◌, ◌^◌, ℕ, List, Some, length, take, drop, IfOk, OnOk, OnErr, MatchResult, IsErr};
 ghost use Rattle.std.specs.Io.KnownBytes.{ReadConsumes, WriteAppends};
 ghost use Rattle.host_core.specs.Outside.{written};
-ghost use Rattle.host_core.specs.Calls.{faulted, no_faults, NoneFalls};
+ghost use Rattle.host_core.specs.Counts.{faulted, no_faults, NoneFalls};
 ghost use Rattle.host_core.specs.Opaque.{opaque, unknown};
 ghost use Rattle.host_core.specs.Real.{reader_of, writer_of, disk_of, faults_of};
 
-use crate::call::{Call, Faults};
+use crate::counts::{FaultCounts, Side};
+use crate::failed::Failed;
 use crate::file::Disk;
-use crate::host::{Failed, Host};
+use crate::host::Host;
 use std::io::{self, Read, Write};
 
 /// A reader as the input, a writer as the sink, and a disk. Each error is counted as a fault.
@@ -17,7 +18,7 @@ pub struct RealHost<R, W, D> {
     input: R,
     output: W,
     disk: D,
-    faults: Faults,
+    faults: FaultCounts,
 }
 
 impl<R: Read + Drop, W: Write + Drop, D: Disk + Drop> RealHost<R, W, D> {
@@ -32,31 +33,35 @@ impl<R: Read + Drop, W: Write + Drop, D: Disk + Drop> RealHost<R, W, D> {
             input,
             output,
             disk,
-            faults: Faults::new(),
+            faults: FaultCounts::new(),
         }
     }
 }
 
-// Counts a fault of a call where there is one.
-fn counted<T: Drop>(faults: &mut Faults, call: Call, outcome: io::Result<T>) -> Result<T, Failed>
+// Counts a fault of a side where there is one.
+fn counted<T: Drop>(
+    faults: &mut FaultCounts,
+    side: Side,
+    outcome: io::Result<T>,
+) -> Result<T, Failed>
     ensures value { MatchResult result (λ x. outcome ≡ Ok x) (λ _. IsErr outcome) }
     ensures same { OnOk result (faults.new ≡ faults.old) }
-    ensures faults { OnErr result (faults.new ≡ faulted call faults.old) }
+    ensures faults { OnErr result (faults.new ≡ faulted side faults.old) }
     ensures later { NoneFalls faults.old faults.new }
 {
     match outcome {
         Ok(value) => Ok(value),
-        Err(_) => fault(faults, call),
+        Err(_) => fault(faults, side),
     }
 }
 
-// Counts a fault of a call.
-fn fault<T>(faults: &mut Faults, call: Call) -> Result<T, Failed>
+// Counts a fault of a side.
+fn fault<T>(faults: &mut FaultCounts, side: Side) -> Result<T, Failed>
     ensures failed { IsErr result }
-    ensures faults { faults.new ≡ faulted call faults.old }
+    ensures faults { faults.new ≡ faulted side faults.old }
     ensures later { NoneFalls faults.old faults.new }
 {
-    faults.count(call);
+    faults.count(side);
     Err(Failed)
 }
 
@@ -78,28 +83,32 @@ impl<R: Read + Drop, W: Write + Drop, D: Disk + Drop> Host for RealHost<R, W, D>
 
     ghost read_passes = { λ host disk is. absurd (unknown disk is) };
 
+    ghost stops_now = { λ host sent is. absurd (unknown sent is) };
+
     fn read_input(&mut self, into: &mut [u8]) -> Result<usize, Failed>
         ensures bytes { ReadConsumes (R.remaining (reader_of self.old)) (R.remaining (reader_of self.new)) result into.new }
         ensures bound { IfOk result (λ n. n ≤ length into.new) }
+        ensures writer { writer_of self.new ≡ writer_of self.old }
         ensures disk { disk_of self.new ≡ disk_of self.old }
         ensures same { OnOk result (faults_of self.new ≡ faults_of self.old) }
-        ensures faults { OnErr result (faults_of self.new ≡ faulted Call.Read (faults_of self.old)) }
+        ensures faults { OnErr result (faults_of self.new ≡ faulted Side.Input (faults_of self.old)) }
         ensures later { NoneFalls (faults_of self.old) (faults_of self.new) }
     {
-        counted(&mut self.faults, Call::Read, self.input.read(into))
+        counted(&mut self.faults, Side::Input, self.input.read(into))
     }
 
     fn send(&mut self, piece: &[u8]) -> Result<usize, Failed>
         ensures bytes { WriteAppends (W.contents (writer_of self.old)) (W.contents (writer_of self.new)) result piece.now }
         ensures bound { IfOk result (λ n. (0 < n) × (n ≤ length piece.now)) }
+        ensures reader { reader_of self.new ≡ reader_of self.old }
         ensures disk { disk_of self.new ≡ disk_of self.old }
         ensures same { OnOk result (faults_of self.new ≡ faults_of self.old) }
-        ensures faults { OnErr result (faults_of self.new ≡ faulted Call.Send (faults_of self.old)) }
+        ensures faults { OnErr result (faults_of self.new ≡ faulted Side.Sink (faults_of self.old)) }
         ensures later { NoneFalls (faults_of self.old) (faults_of self.new) }
     {
         counted(
             &mut self.faults,
-            Call::Send,
+            Side::Sink,
             send_some(&mut self.output, piece),
         )
     }
@@ -108,39 +117,52 @@ impl<R: Read + Drop, W: Write + Drop, D: Disk + Drop> Host for RealHost<R, W, D>
         ensures bound { IfOk result (λ n. n < 2 ^ 63) }
         ensures len { IfOk result (λ n. (content : List ℕ) → D.bytes (disk_of self.old) ≡ Some content → n ≡ length content) }
         ensures kept { D.bytes (disk_of self.new) ≡ D.bytes (disk_of self.old) }
+        ensures same_synced { D.synced (disk_of self.new) ≡ D.synced (disk_of self.old) }
+        ensures reader { reader_of self.new ≡ reader_of self.old }
+        ensures writer { writer_of self.new ≡ writer_of self.old }
         ensures same { OnOk result (faults_of self.new ≡ faults_of self.old) }
-        ensures faults { OnErr result (faults_of self.new ≡ faulted Call.Len (faults_of self.old)) }
+        ensures faults { OnErr result (faults_of self.new ≡ faulted Side.Disk (faults_of self.old)) }
         ensures later { NoneFalls (faults_of self.old) (faults_of self.new) }
     {
-        counted(&mut self.faults, Call::Len, self.disk.len())
+        counted(&mut self.faults, Side::Disk, self.disk.len())
     }
 
     fn disk_read(&mut self, at: u64, into: &mut [u8]) -> Result<(), Failed>
         ensures given { OnOk result ((content : List ℕ) → D.bytes (disk_of self.old) ≡ Some content → into.new ≡ take (length into.old) (drop at content)) }
         ensures kept { D.bytes (disk_of self.new) ≡ D.bytes (disk_of self.old) }
+        ensures same_synced { D.synced (disk_of self.new) ≡ D.synced (disk_of self.old) }
+        ensures reader { reader_of self.new ≡ reader_of self.old }
+        ensures writer { writer_of self.new ≡ writer_of self.old }
         ensures same { OnOk result (faults_of self.new ≡ faults_of self.old) }
-        ensures faults { OnErr result (faults_of self.new ≡ faulted Call.DiskRead (faults_of self.old)) }
+        ensures faults { OnErr result (faults_of self.new ≡ faulted Side.Disk (faults_of self.old)) }
         ensures later { NoneFalls (faults_of self.old) (faults_of self.new) }
     {
-        counted(&mut self.faults, Call::DiskRead, self.disk.read(at, into))
+        counted(&mut self.faults, Side::Disk, self.disk.read(at, into))
     }
 
     fn disk_write(&mut self, at: u64, piece: &[u8]) -> Result<(), Failed>
         ensures written { OnOk result ((content : List ℕ) → D.bytes (disk_of self.old) ≡ Some content → at ≤ length content
             → D.bytes (disk_of self.new) ≡ Some (written at piece.now content)) }
+        ensures same_synced { D.synced (disk_of self.new) ≡ D.synced (disk_of self.old) }
+        ensures reader { reader_of self.new ≡ reader_of self.old }
+        ensures writer { writer_of self.new ≡ writer_of self.old }
         ensures same { OnOk result (faults_of self.new ≡ faults_of self.old) }
-        ensures faults { OnErr result (faults_of self.new ≡ faulted Call.Write (faults_of self.old)) }
+        ensures faults { OnErr result (faults_of self.new ≡ faulted Side.Disk (faults_of self.old)) }
         ensures later { NoneFalls (faults_of self.old) (faults_of self.new) }
     {
-        counted(&mut self.faults, Call::Write, self.disk.write(at, piece))
+        counted(&mut self.faults, Side::Disk, self.disk.write(at, piece))
     }
 
     fn disk_sync(&mut self) -> Result<(), Failed>
         ensures kept { D.bytes (disk_of self.new) ≡ D.bytes (disk_of self.old) }
+        ensures synced { OnOk result (D.synced (disk_of self.new) ≡ D.bytes (disk_of self.old)) }
+        ensures unsynced { OnErr result (D.synced (disk_of self.new) ≡ D.synced (disk_of self.old)) }
+        ensures reader { reader_of self.new ≡ reader_of self.old }
+        ensures writer { writer_of self.new ≡ writer_of self.old }
         ensures same { OnOk result (faults_of self.new ≡ faults_of self.old) }
-        ensures faults { OnErr result (faults_of self.new ≡ faulted Call.Sync (faults_of self.old)) }
+        ensures faults { OnErr result (faults_of self.new ≡ faulted Side.Disk (faults_of self.old)) }
         ensures later { NoneFalls (faults_of self.old) (faults_of self.new) }
     {
-        counted(&mut self.faults, Call::Sync, self.disk.sync())
+        counted(&mut self.faults, Side::Disk, self.disk.sync())
     }
 }

@@ -5,6 +5,5 @@ mod Appended
 mod AtGateLemmas
 mod AheadLemmas
 mod ScanLemmas
-pub mod Settled
 mod HeaderLemmas
 pub mod Readable

@@ -12,7 +12,8 @@ pub record JournalState : Type 0 where
   pub gate : ℕ
   pub whole : Bool
 
--- A gate stands within the greatest file, or as many bytes behind it as the records take that were added.
+-- A gate stands within the greatest file, whose places are signed numbers of 64 bits, or as many bytes behind it as the
+-- records take that were added: 41 at most for each, which are its frame and the gate and the length of its batch.
 pub record IsBounded (capacity count gate : ℕ) : Type 0 where
   pub range : IsLimit capacity
   pub within : gate ≤ 2 ^ 63 + 41 * count

@@ -5,3 +5,4 @@ pub mod AtGate
 pub mod Journal
 pub mod Scan
 pub mod Laws
+pub mod Formatted

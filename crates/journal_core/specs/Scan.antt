@@ -17,7 +17,7 @@ pub record ScanState : Type 0 where
   pub size : ℕ
   pub ahead : List ℕ
 
--- what a scan keeps
+-- what a scan keeps; the length of a file is a signed number of 64 bits
 pub record IsOrdered (capacity count gate size : ℕ) (ahead : List ℕ) : Type 0 where
   pub range : IsLimit capacity
   pub count_within : count ≤ gate

@@ -1,14 +1,15 @@
 //! A disk is read in large pieces.
 
 ghost use Rattle.std.specs.Prelude.{◌≡◌, ◌≤◌, ◌<◌, ◌+◌, ◌^◌, [], ℕ, List, length, min, take, drop, Some, IfOk, OnOk, OnErr};
-ghost use Rattle.host_core.specs.Outside.{Outside, Stays, Rose, Continues, Elapses};
+ghost use Rattle.host_core.specs.Outside.{Outside, Rose};
+ghost use Rattle.host_core.specs.Frames.{OnlyReadsDisk};
 
 use host_core::{Failed, Host};
 use price_core::NoMemory;
 use std::alloc::Global;
 use std::marker::Model;
 
-/// The most bytes of one read.
+/// The most bytes of one read: 64 KiB, some thirty of the greatest batches.
 pub const PIECE_MAX: usize = 65536;
 
 /// Bytes that were read ahead, in a buffer whose room is taken when it is made.
@@ -66,12 +67,9 @@ impl Ahead {
         ensures len { OnOk result (length self.new ≡ min left PIECE_MAX) }
         ensures bytes { OnOk result ((disk : List ℕ) → (H.outside host.old).disk ≡ Some disk → self.new ≡ take (min left PIECE_MAX) (drop at disk)) }
         ensures none { OnErr result (self.new ≡ []) }
-        ensures input { (H.outside host.new).input ≡ (H.outside host.old).input }
-        ensures sent { (H.outside host.new).sent ≡ (H.outside host.old).sent }
-        ensures disk { (H.outside host.new).disk ≡ (H.outside host.old).disk }
-        ensures moments { Elapses (H.outside host.old) (H.outside host.new) (Stays (H.outside host.old)) }
-        ensures continues { Continues (H.outside host.old) (H.outside host.new) }
+        ensures keeps { OnlyReadsDisk (H.outside host.old) (H.outside host.new) }
         ensures cause { OnErr result (Rose (H.outside host.old).disk_faults (H.outside host.new).disk_faults) }
+        ensures faultless { OnOk result ((H.outside host.new).disk_faults ≡ (H.outside host.old).disk_faults) }
     {
         self.start = 0;
         self.end = 0;
@@ -88,12 +86,9 @@ fn read_front<H: Host>(host: &mut H, at: u64, buffer: &mut [u8], count: usize) -
     requires within { (disk : List ℕ) → (H.outside host.old).disk ≡ Some disk → at + count ≤ length disk }
     requires fits { at + count < 2 ^ 63 }
     ensures bytes { OnOk result ((disk : List ℕ) → (H.outside host.old).disk ≡ Some disk → take count buffer.new ≡ take count (drop at disk)) }
-    ensures input { (H.outside host.new).input ≡ (H.outside host.old).input }
-    ensures sent { (H.outside host.new).sent ≡ (H.outside host.old).sent }
-    ensures disk { (H.outside host.new).disk ≡ (H.outside host.old).disk }
-    ensures moments { Elapses (H.outside host.old) (H.outside host.new) (Stays (H.outside host.old)) }
-    ensures continues { Continues (H.outside host.old) (H.outside host.new) }
+    ensures keeps { OnlyReadsDisk (H.outside host.old) (H.outside host.new) }
     ensures cause { OnErr result (Rose (H.outside host.old).disk_faults (H.outside host.new).disk_faults) }
+    ensures faultless { OnOk result ((H.outside host.new).disk_faults ≡ (H.outside host.old).disk_faults) }
 {
     host.disk_read(at, &mut buffer[..count])
 }

@@ -1,9 +1,11 @@
 ghost use Rattle.std.specs.Prelude.{◌≡◌};
+ghost use Rattle.host_core.specs.declared.fault.Fault.TheVariants as faults;
+ghost use Rattle.journal_core.specs.Formatted.{scan_status};
 ghost use Rattle.journal_core.specs.declared.error.FormatError.TheVariants as formats;
 ghost use Rattle.journal_core.specs.declared.error.AppendError.TheVariants as appends;
 ghost use Rattle.journal_core.specs.declared.error.ScanError.TheVariants as scans;
 
-use host_core::Failed;
+use host_core::{Failed, Fault, Status};
 use price_core::NoMemory;
 use std::alloc::AllocError;
 use thiserror::Error;
@@ -85,5 +87,35 @@ impl From<AllocError> for ScanError {
 
     fn from(_: AllocError) -> ScanError {
         ScanError::NoMemory
+    }
+}
+
+impl From<FormatError> for Fault {
+    ghost from_gives = { λ _ fault. fault ≡ faults.Disk };
+
+    fn from(_: FormatError) -> Fault {
+        Fault::Disk
+    }
+}
+
+// Whoever asks for room before an append gets no `Full`, so that only a fault of the disk is left.
+impl From<AppendError> for Fault {
+    ghost from_gives = { λ _ fault. fault ≡ faults.Disk };
+
+    fn from(_: AppendError) -> Fault {
+        Fault::Disk
+    }
+}
+
+impl From<ScanError> for Status {
+    ghost from_gives = { λ error status. status ≡ scan_status error };
+
+    fn from(error: ScanError) -> Status {
+        match error {
+            ScanError::NoMemory => Status::NoMemory,
+            ScanError::DiskFault => Status::DiskFault,
+            ScanError::NoJournal => Status::NoJournal,
+            ScanError::Damaged { at } => Status::Damaged { at },
+        }
     }
 }

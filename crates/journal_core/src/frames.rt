@@ -8,11 +8,15 @@ ghost use Rattle.journal_core.specs.Layout.{frame_of, frames_of, content};
 use crate::batch::BATCH_MAX;
 use wire_in::{Record, encode};
 
-/// The most bytes of a batch behind its gate, and the closed gate behind it.
-pub const CONTENT_MAX: usize = 2309;
+/// The most bytes of the frame of a record: one for its length, and 35 for the record.
+const FRAME_MAX: usize = 36;
+
+/// The most bytes of a batch with its gate: the gate, four bytes of length, and 64 frames of 36 bytes. As many at most
+/// are written behind an open gate: the length, the frames, and the closed gate that follows them.
+pub const BATCH_BYTES: usize = 2309;
 
 /// Writes what stands behind the gate of a batch, and a closed gate. Answers how many bytes these are.
-pub fn put_content(batch: &[Record], into: &mut [u8; CONTENT_MAX]) -> usize
+pub fn put_content(batch: &[Record], into: &mut [u8; BATCH_BYTES]) -> usize
     requires most { length batch.now ≤ BATCH_MAX }
     requires ranges { All InRange batch.now }
     ensures len { result ≡ length (frames_of batch.now) + 5 }
@@ -26,12 +30,12 @@ pub fn put_content(batch: &[Record], into: &mut [u8; CONTENT_MAX]) -> usize
 }
 
 /// Writes the frames of a batch from place 4 on, and answers the place behind them.
-fn put_frames(batch: &[Record], into: &mut [u8; CONTENT_MAX]) -> usize
+fn put_frames(batch: &[Record], into: &mut [u8; BATCH_BYTES]) -> usize
     requires most { length batch.now ≤ BATCH_MAX }
     requires ranges { All InRange batch.now }
     ensures end { result ≡ length (frames_of batch.now) + 4 }
     ensures bytes { take result into.new ≡ take 4 into.old ++ frames_of batch.now }
-    ensures most { result ≤ 2308 }
+    ensures most { result < BATCH_BYTES }
     ensures sound { All IsSound batch.now }
 {
     let mut end = 4;
@@ -42,12 +46,12 @@ fn put_frames(batch: &[Record], into: &mut [u8; CONTENT_MAX]) -> usize
 }
 
 /// Writes the frame of a record at a place, and answers the place behind it.
-fn put_frame(x: &Record, at: usize, into: &mut [u8; CONTENT_MAX]) -> usize
+fn put_frame(x: &Record, at: usize, into: &mut [u8; BATCH_BYTES]) -> usize
     requires range { InRange x.now }
-    requires room { at + 36 ≤ CONTENT_MAX }
+    requires room { at + FRAME_MAX ≤ BATCH_BYTES }
     ensures end { result ≡ at + length (frame_of x.now) }
     ensures bytes { take result into.new ≡ take at into.old ++ frame_of x.now }
-    ensures short { length (frame_of x.now) ≤ 36 }
+    ensures short { length (frame_of x.now) ≤ FRAME_MAX }
     ensures sound { IsSound x.now }
 {
     let mut frame = [0; 64];
@@ -55,8 +59,8 @@ fn put_frame(x: &Record, at: usize, into: &mut [u8; CONTENT_MAX]) -> usize
     put(&frame[..len], at, into)
 }
 
-fn put(bytes: &[u8], at: usize, into: &mut [u8; CONTENT_MAX]) -> usize
-    requires { at + length bytes.now ≤ CONTENT_MAX }
+fn put(bytes: &[u8], at: usize, into: &mut [u8; BATCH_BYTES]) -> usize
+    requires { at + length bytes.now ≤ BATCH_BYTES }
     ensures end { result ≡ at + length bytes.now }
     ensures bytes { take result into.new ≡ take at into.old ++ bytes.now }
     ensures range { All (λ byte. byte < 256) bytes.now }

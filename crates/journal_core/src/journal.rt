@@ -1,5 +1,6 @@
 ghost use Rattle.std.specs.Prelude.{◌≡◌, ◌≤◌, ◌<◌, ◌+◌, ◌*◌, ◌∷◌, ◌++◌, [], ◌^◌, ◌↔◌, ◌≢◌, ◌⊎◌, ℕ, true, List, All, length, Some, IsTrue, IfOk, OnOk, OnErr, IfErr};
-ghost use Rattle.host_core.specs.Outside.{Outside, MayLeave, Rose, Continues, Elapses, Changes, Torn, IsSettled};
+ghost use Rattle.host_core.specs.Outside.{Outside, MayLeave, Rose, Elapses, Changes, Torn, IsSettled};
+ghost use Rattle.host_core.specs.Frames.{OnlyWrites};
 ghost use Rattle.wire_in.specs.declared.record.Record.{Record};
 ghost use Rattle.wire_in.specs.Spelling.{InRange};
 ghost use Rattle.journal_core.specs.Layout.{IsLimit, Holds, header, with_batch};
@@ -7,11 +8,18 @@ ghost use Rattle.journal_core.specs.Journal.{IsGateOf, IsSettledAt, Appends, Gro
 
 use crate::batch::{BATCH_MAX, Batch};
 use crate::error::{AppendError, FormatError};
-use crate::frames::{CONTENT_MAX, put_content};
+use crate::frames::{BATCH_BYTES, put_content};
 use crate::store::store;
 use host_core::{Failed, Host};
 use std::marker::Model;
 use wire_in::Record;
+
+/// The most bytes that a record takes in a journal: a frame of 36 bytes, and the gate and the four bytes of length of its
+/// batch.
+const RECORD_BYTES: u64 = 41;
+
+/// The greatest length of a file: places in it are signed numbers of 64 bits.
+const FILE_BYTES: u64 = 1 << 63;
 
 /// The most records that a journal may take.
 pub const LIMIT_MAX: u64 = 2_000_000_000;
@@ -21,11 +29,10 @@ pub fn format<H: Host>(host: &mut H, capacity: u64) -> Result<(), FormatError>
     requires { IsLimit capacity }
     ensures stored { OnOk result ((disk : List ℕ) → (H.outside host.new).disk ≡ Some disk → Holds disk capacity []) }
     ensures settled { OnOk result (IsSettled (H.outside host.new)) }
-    ensures input { (H.outside host.new).input ≡ (H.outside host.old).input }
-    ensures sent { (H.outside host.new).sent ≡ (H.outside host.old).sent }
     ensures moments { Elapses (H.outside host.old) (H.outside host.new) (Changes (Torn 0 17) (H.outside host.old)) }
-    ensures continues { Continues (H.outside host.old) (H.outside host.new) }
+    ensures keeps { OnlyWrites (H.outside host.old) (H.outside host.new) }
     ensures cause { OnErr result (Rose (H.outside host.old).disk_faults (H.outside host.new).disk_faults) }
+    ensures faultless { OnOk result ((H.outside host.new).disk_faults ≡ (H.outside host.old).disk_faults) }
 {
     store(host, 0, &fresh(capacity))?;
     Ok(())
@@ -45,7 +52,7 @@ fn fresh(capacity: u64) -> [u8; 17]
 /// the place of the next gate.
 fn add<H: Host>(host: &mut H, gate: u64, batch: &[Record]) -> Result<u64, Failed>
     requires of_disk { IsGateOf gate (H.outside host.old).disk }
-    requires fits { gate + 4000 < 2 ^ 64 }
+    requires fits { gate + 1 + BATCH_BYTES < 2 ^ 64 }
     requires least { 0 < length batch.now }
     requires most { length batch.now ≤ BATCH_MAX }
     requires ranges { All InRange batch.now }
@@ -54,13 +61,12 @@ fn add<H: Host>(host: &mut H, gate: u64, batch: &[Record]) -> Result<u64, Failed
     ensures grown { IfOk result (λ next. (disk : List ℕ) → (H.outside host.new).disk ≡ Some disk
         → Grown gate next batch.now (H.outside host.old).disk disk) }
     ensures settled { OnOk result (IsSettled (H.outside host.new)) }
-    ensures next { IfOk result (λ next. (gate ≤ next) × (next ≤ gate + 41 * length batch.now)) }
-    ensures input { (H.outside host.new).input ≡ (H.outside host.old).input }
-    ensures sent { (H.outside host.new).sent ≡ (H.outside host.old).sent }
-    ensures continues { Continues (H.outside host.old) (H.outside host.new) }
+    ensures next { IfOk result (λ next. (gate ≤ next) × (next ≤ gate + RECORD_BYTES * length batch.now)) }
+    ensures keeps { OnlyWrites (H.outside host.old) (H.outside host.new) }
     ensures cause { OnErr result (Rose (H.outside host.old).disk_faults (H.outside host.new).disk_faults) }
+    ensures faultless { OnOk result ((H.outside host.new).disk_faults ≡ (H.outside host.old).disk_faults) }
 {
-    let mut content = [0; CONTENT_MAX];
+    let mut content = [0; BATCH_BYTES];
     let end = put_content(batch, &mut content);
     store(host, gate + 1, &content[..end])?;
     store(host, gate, &[1])?;
@@ -92,7 +98,7 @@ impl Journal {
     /// A journal that holds some records up to a gate.
     pub(crate) fn at(capacity: u64, count: u64, gate: u64) -> Journal
         requires capacity { IsLimit capacity }
-        requires gate { gate ≤ 2 ^ 63 + 41 * count }
+        requires gate { gate ≤ FILE_BYTES + RECORD_BYTES * count }
         ensures { result ≡ record { capacity = capacity; count = count; gate = gate; whole = true } }
     {
         Journal {
@@ -150,13 +156,13 @@ impl Journal {
         ensures full_limit { (capacity : ℕ) → result ≡ Err (AppendError.Full capacity) → capacity ≡ self.old.capacity }
         ensures before { (capacity : ℕ) → result ≡ Err (AppendError.Full capacity) → (self.new ≡ self.old) × (host.new ≡ host.old) }
         ensures cause { result ≡ Err AppendError.DiskFault → Rose (H.outside host.old).disk_faults (H.outside host.new).disk_faults }
-
-        ensures input { (H.outside host.new).input ≡ (H.outside host.old).input }
-        ensures sent { (H.outside host.new).sent ≡ (H.outside host.old).sent }
-        ensures continues { Continues (H.outside host.old) (H.outside host.new) }
+        ensures faultless { result ≢ Err AppendError.DiskFault → (H.outside host.new).disk_faults ≡ (H.outside host.old).disk_faults }
+        ensures keeps { OnlyWrites (H.outside host.old) (H.outside host.new) }
     {
         if batch.len() as u64 > self.capacity.saturating_sub(self.count) {
-            return Err(AppendError::Full { limit: self.capacity });
+            return Err(AppendError::Full {
+                limit: self.capacity,
+            });
         }
         self.whole = false;
         self.gate = add(host, self.gate, batch.list())?;

@@ -2,10 +2,10 @@
 #![tactic(auto)]
 
 mod ahead;
+mod at_gate;
 mod batch;
 mod error;
 mod frames;
-mod at_gate;
 mod journal;
 mod law;
 mod scan;
@@ -13,7 +13,7 @@ mod store;
 #[cfg(test)]
 mod tests;
 
-pub use batch::Batch;
+pub use batch::{BATCH_MAX, Batch};
 pub use error::{AppendError, FormatError, ScanError};
 pub use journal::{Journal, format};
 pub use law::{a_held_list_is_read, an_image_holds_one_list};

@@ -1,22 +1,21 @@
 ghost use Rattle.std.specs.Prelude.{◌≡◌, ◌≢◌, ◌⊎◌, ◌≤◌, ◌<◌, ◌+◌, ◌-◌, ◌∷◌, ◌++◌, [], ◌^◌, ◌↔◌, ℕ, true, false, List, length, take, drop, Some, Ok, Err, IsTrue, IsSome, IfSome, IfOk, OnOk, OnErr, MatchOption};
 ghost use Rattle.std.specs.Int.{w64};
-ghost use Rattle.host_core.specs.Outside.{Outside, Stays, Rose, Continues, Elapses, IsSettled};
+ghost use Rattle.host_core.specs.Outside.{Outside, Rose, IsSettled};
+ghost use Rattle.host_core.specs.Frames.{OnlyReadsDisk};
 ghost use Rattle.wire_core.specs.Fields.{number};
 ghost use Rattle.wire_in.specs.declared.record.Record.{Record};
 ghost use Rattle.journal_core.specs.Layout.{IsBatch, IsLimit, Opens, frames_of, records_of, header, signature};
 
 use crate::ahead::Ahead;
+use crate::at_gate::AtGate;
 use crate::batch::Batch;
 use crate::error::ScanError;
-use crate::at_gate::AtGate;
+use crate::frames::BATCH_BYTES;
 use crate::journal::{Journal, LIMIT_MAX};
 use host_core::{Failed, Host};
 use std::alloc::Global;
 use std::marker::Model;
 use wire_core::u64_at;
-
-/// The most bytes of a batch with its gate.
-const BATCH_BYTES: u64 = 2309;
 
 /// A journal that is read batch by batch. It writes nothing, and takes no memory once it was begun.
 #[derive(Debug, Drop)]
@@ -56,11 +55,8 @@ impl Scan {
         ensures no_journal { result ≡ Err ScanError.NoJournal → (disk : List ℕ) → (H.outside host.new).disk ≡ Some disk → HasNoHeader disk }
         ensures not_damaged { (at : ℕ) → result ≢ Err (ScanError.Damaged at) }
         ensures cause { result ≡ Err ScanError.DiskFault → Rose (H.outside host.old).disk_faults (H.outside host.new).disk_faults }
-        ensures input { (H.outside host.new).input ≡ (H.outside host.old).input }
-        ensures sent { (H.outside host.new).sent ≡ (H.outside host.old).sent }
-        ensures disk { (H.outside host.new).disk ≡ (H.outside host.old).disk }
-        ensures moments { Elapses (H.outside host.old) (H.outside host.new) (Stays (H.outside host.old)) }
-        ensures continues { Continues (H.outside host.old) (H.outside host.new) }
+        ensures faultless { result ≢ Err ScanError.DiskFault → (H.outside host.new).disk_faults ≡ (H.outside host.old).disk_faults }
+        ensures keeps { OnlyReadsDisk (H.outside host.old) (H.outside host.new) }
     {
         let ahead = Ahead::new(alloc)?;
         host.disk_sync()?;
@@ -75,11 +71,8 @@ impl Scan {
         ensures no_journal { result ≡ Err ScanError.NoJournal → (disk : List ℕ) → (H.outside host.new).disk ≡ Some disk → HasNoHeader disk }
         ensures only { (error : _) → result ≡ Err error → (error ≡ ScanError.NoJournal) ⊎ (error ≡ ScanError.DiskFault) }
         ensures cause { result ≡ Err ScanError.DiskFault → Rose (H.outside host.old).disk_faults (H.outside host.new).disk_faults }
-        ensures input { (H.outside host.new).input ≡ (H.outside host.old).input }
-        ensures sent { (H.outside host.new).sent ≡ (H.outside host.old).sent }
-        ensures disk { (H.outside host.new).disk ≡ (H.outside host.old).disk }
-        ensures moments { Elapses (H.outside host.old) (H.outside host.new) (Stays (H.outside host.old)) }
-        ensures continues { Continues (H.outside host.old) (H.outside host.new) }
+        ensures faultless { result ≢ Err ScanError.DiskFault → (H.outside host.new).disk_faults ≡ (H.outside host.old).disk_faults }
+        ensures keeps { OnlyReadsDisk (H.outside host.old) (H.outside host.new) }
     {
         let mut ahead = ahead;
         let size = host.disk_len()?;
@@ -131,12 +124,9 @@ impl Scan {
         ensures no_memory { result ≢ Err ScanError.NoMemory }
         ensures no_journal { result ≢ Err ScanError.NoJournal }
         ensures cause { result ≡ Err ScanError.DiskFault → Rose (H.outside host.old).disk_faults (H.outside host.new).disk_faults }
-        ensures input { (H.outside host.new).input ≡ (H.outside host.old).input }
-        ensures sent { (H.outside host.new).sent ≡ (H.outside host.old).sent }
-        ensures disk { (H.outside host.new).disk ≡ (H.outside host.old).disk }
         ensures settled { IsSettled (H.outside host.old) → IsSettled (H.outside host.new) }
-        ensures moments { Elapses (H.outside host.old) (H.outside host.new) (Stays (H.outside host.old)) }
-        ensures continues { Continues (H.outside host.old) (H.outside host.new) }
+        ensures faultless { result ≢ Err ScanError.DiskFault → (H.outside host.new).disk_faults ≡ (H.outside host.old).disk_faults }
+        ensures keeps { OnlyReadsDisk (H.outside host.old) (H.outside host.new) }
     {
         into.clear();
         self.fill(host)?;
@@ -178,15 +168,12 @@ impl Scan {
         ensures enough { OnOk result ((self.new.gate + length self.new.ahead ≡ self.new.size) ⊎ (BATCH_BYTES ≤ length self.new.ahead)) }
         ensures reads { (batches : List (List Record)) (disk : List ℕ) → (H.outside host.old).disk ≡ Some disk
             → HasRead self.old batches disk → HasRead self.new batches disk }
-        ensures input { (H.outside host.new).input ≡ (H.outside host.old).input }
-        ensures sent { (H.outside host.new).sent ≡ (H.outside host.old).sent }
-        ensures disk { (H.outside host.new).disk ≡ (H.outside host.old).disk }
-        ensures moments { Elapses (H.outside host.old) (H.outside host.new) (Stays (H.outside host.old)) }
-        ensures continues { Continues (H.outside host.old) (H.outside host.new) }
+        ensures keeps { OnlyReadsDisk (H.outside host.old) (H.outside host.new) }
         ensures cause { OnErr result (Rose (H.outside host.old).disk_faults (H.outside host.new).disk_faults) }
+        ensures faultless { OnOk result ((H.outside host.new).disk_faults ≡ (H.outside host.old).disk_faults) }
     {
         let left = self.size - self.gate;
-        if (self.ahead.bytes().len() as u64) < left.min(BATCH_BYTES) {
+        if (self.ahead.bytes().len() as u64) < left.min(BATCH_BYTES as u64) {
             self.ahead.read(host, self.gate, left)?;
         }
         Ok(())

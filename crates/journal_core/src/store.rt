@@ -1,6 +1,7 @@
 // A write that is on the disk before the next step.
 ghost use Rattle.std.specs.Prelude.{◌≡◌, ◌≤◌, ◌<◌, ◌+◌, ◌^◌, ℕ, List, length, Some, option_map, OnOk, OnErr};
-ghost use Rattle.host_core.specs.Outside.{Outside, Changes, written, Torn, IsSettled, Rose, Continues, Elapses};
+ghost use Rattle.host_core.specs.Outside.{Outside, Changes, written, Torn, IsSettled, Rose, Elapses};
+ghost use Rattle.host_core.specs.Frames.{OnlyWrites};
 
 use host_core::{Failed, Host};
 
@@ -10,11 +11,10 @@ pub fn store<H: Host>(host: &mut H, at: u64, piece: &[u8]) -> Result<(), Failed>
     requires fits { at + length piece.now < 2 ^ 64 }
     ensures written { OnOk result ((H.outside host.new).disk ≡ option_map (written at piece.now) (H.outside host.old).disk) }
     ensures settled { OnOk result (IsSettled (H.outside host.new)) }
-    ensures input { (H.outside host.new).input ≡ (H.outside host.old).input }
-    ensures sent { (H.outside host.new).sent ≡ (H.outside host.old).sent }
     ensures moments { Elapses (H.outside host.old) (H.outside host.new) (Changes (Torn at (length piece.now)) (H.outside host.old)) }
-    ensures continues { Continues (H.outside host.old) (H.outside host.new) }
+    ensures keeps { OnlyWrites (H.outside host.old) (H.outside host.new) }
     ensures cause { OnErr result (Rose (H.outside host.old).disk_faults (H.outside host.new).disk_faults) }
+    ensures faultless { OnOk result ((H.outside host.new).disk_faults ≡ (H.outside host.old).disk_faults) }
 {
     host.disk_write(at, piece)?;
     host.disk_sync()

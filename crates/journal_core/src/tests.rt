@@ -1,9 +1,10 @@
 ghost use Rattle.std.specs.Prelude.{◌<◌, ◌≤◌, IfOk, IsTrue, length};
-ghost use Rattle.host_core.specs.Memory.{known};
+ghost use Rattle.memory_host.specs.Memory.{known};
 ghost use Rattle.journal_core.specs.Journal.{IsOfDisk};
 
 use super::*;
-use host_core::{Host, JournalFile, MemoryHost, Pick, RealHost};
+use host_core::{Host, JournalFile, RealHost};
+use memory_host::{MemoryHost, Pick};
 use price_core::{Index, Price};
 use session_core::{Close, Date, Day, Moment, Profile};
 use std::alloc::Global;

@@ -1,10 +1,6 @@
-pub mod Leaving
-pub mod Frames
-pub mod Pieces
-pub mod Reading
-pub mod Ending
 pub mod Again
 pub mod Recovering
-pub mod Restoring
-pub mod Sessions
+pub mod Finishing
 pub mod OneDamage
+pub mod Restoring
+pub mod Served

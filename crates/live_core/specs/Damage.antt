@@ -1,12 +1,12 @@
--- Where a journal is damaged, and what a session has sent by then.
+-- A journal that is damaged: what it holds before the first damage.
 use Rattle.std.specs.Prelude.{◌≡◌, ◌≢◌, ◌⊎◌, ℕ, List, [], ◌∷◌, ◌++◌, Option, None}
-use Rattle.std.specs.Io.KnownBytes.{append_known}
 use Rattle.host_core.specs.Outside.{Outside}
 use Rattle.wire_in.specs.declared.record.Record.{Record}
 use Rattle.journal_core.specs.Layout.{LeadsTo, records_of, with_batch}
 use Rattle.journal_core.specs.AtGate.{IsDamaged}
 use Rattle.rulebook.specs.Admission.{verdict, IsLawful}
 use Rattle.rulebook.specs.Sent.{sent_again, spelled}
+use Rattle.engine_core.specs.Pending.{SentPrefix}
 
 -- behind these batches, which have the records, stands neither a closed gate nor a batch
 pub record HasBadForm (batches : List (List Record)) (before : List Record) (rest : List ℕ) : Type 0 where
@@ -34,13 +34,10 @@ pub record IsDamagedAt (capacity at : ℕ) (before : List Record) (disk : List �
   pub lawful : IsLawful capacity before
   pub why : HasBadForm batches before rest ⊎ HasBadRecord capacity batches before disk
 
--- the disk is damaged there, and since the begin a front of the messages was sent that are asked for again of the records
+-- the disk is damaged there, and since the begin a prefix of the messages was sent that are asked for again of the records
 -- before the damage
 pub record StopsAtDamage (from : Option ℕ) (begin : Option (List ℕ)) (at : ℕ) (disk : List ℕ) (now : Outside) : Type 0 where
   pub capacity : ℕ
   pub before : List Record
   pub damaged : IsDamagedAt capacity at before disk
-  pub since : List ℕ
-  pub unsent : List ℕ
-  pub sent : now.sent ≡ append_known begin since
-  pub front : since ++ unsent ≡ spelled (sent_again from before)
+  pub part : SentPrefix begin now.sent (spelled (sent_again from before))

@@ -1,5 +1,7 @@
+pub mod InternalKeeping
 pub mod Safe
-pub mod Kept
 pub mod Ends
 pub mod Damage
-pub mod Recovered
+pub mod Served
+pub mod InternalRecovery
+pub mod InternalServing

@@ -1,5 +1,1 @@
-pub mod Sessions
-pub mod Pieces
-pub mod Reading
-pub mod Ending
-pub mod Moments
+pub mod Replaying

@@ -1,4 +1,3 @@
-pub mod Text
-pub mod Ends
-pub mod Kept
-pub mod Stops
+pub mod Replayed
+pub mod InternalSession
+pub mod InternalKeeping

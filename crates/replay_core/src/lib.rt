@@ -2,6 +2,6 @@
 #![tactic(auto)]
 
 mod input;
-mod session;
+mod keeper;
 
 pub use input::{ReplayOptions, replay};

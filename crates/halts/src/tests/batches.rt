@@ -3,8 +3,9 @@ ghost use Rattle.std.specs.Prelude.{◌<◌, IfOk, IsTrue, length};
 ghost use Rattle.journal_core.specs.Journal.{IsOfDisk};
 
 use super::run;
-use host_core::{Host, MemoryHost, Pick, Status};
+use host_core::{Host, Status};
 use journal_core::{Batch, Journal, Scan, ScanError, format};
+use memory_host::{MemoryHost, Pick};
 use price_core::Index;
 use session_core::{Close, Date, Day, Moment, Profile};
 use std::alloc::Global;

@@ -1,6 +1,7 @@
 // How a session ends: at the end of the input, inside a frame, at the limit of bytes, and at faults of reading and sending.
 use super::{fall, fresh, run, runs};
-use host_core::{Call, MemoryHost, Status};
+use host_core::Status;
+use memory_host::{Call, MemoryHost};
 use session_core::Phase;
 use std::process::Abort;
 use std::test::Fail;

@@ -1,6 +1,7 @@
 // A morning of many stocks.
 use super::{fresh, run};
-use host_core::{MemoryHost, Status};
+use host_core::Status;
+use memory_host::MemoryHost;
 use price_core::Tier;
 use session_core::Moment;
 use std::alloc::Global;

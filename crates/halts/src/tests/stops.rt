@@ -1,6 +1,7 @@
 // What a stop leaves, and what the next start makes of it.
 use super::{fall, fresh, run};
-use host_core::{Call, MemoryHost, Pick, Status};
+use host_core::Status;
+use memory_host::{Call, MemoryHost, Pick};
 use std::process::Abort;
 use std::test::Fail;
 use std::thread::Threads;

@@ -1,6 +1,7 @@
 // Worked days, replayed and served.
 use super::{fresh, run};
-use host_core::{MemoryHost, Status};
+use host_core::Status;
+use memory_host::MemoryHost;
 use std::process::Abort;
 use std::test::Fail;
 use std::thread::Threads;

@@ -1,5 +1,6 @@
 use Rattle.std.proofs.Common.{arith}
 use Rattle.host_core.proofs.Moments.{widened, goes_on}
+use Rattle.host_core.proofs.Chains.{writes_on}
 use Rattle.journal_core.specs.Layout.{IsBatch}
 use Rattle.journal_core.proofs.Appended.{first_step, second_step, grown_with}
 use Rattle.journal_core.proofs.FrameLemmas.{frames_most}
@@ -17,7 +18,7 @@ returns-in_err-store-2-clause-moments g c capacity records rest =
     let valid : IsBatch batch = record { least = c.requires.least; most = c.requires.most; sound = c.put_content-end.ensures.sound } in
     let body = rw c.put_content-end.ensures.bytes at c.in_ok-store.ensures.written in
     let first = widened c.store.ensures.moments _ (first_step _ capacity c.args.gate records batch valid rest _) in
-    goes_on first c.store-2.ensures.moments (second_step _ capacity c.args.gate records batch valid rest (g.H.Host.outside c.store.new.host) body c.in_ok-store.ensures.settled c.store.ensures.sent)
+    goes_on first c.store-2.ensures.moments (second_step _ capacity c.args.gate records batch valid rest (g.H.Host.outside c.store.new.host) body c.in_ok-store.ensures.settled c.store.ensures.keeps.sent)
 
 pub returns-clause-moments : goal.returns-clause-moments
 returns-clause-moments g c capacity records rest =
@@ -25,7 +26,7 @@ returns-clause-moments g c capacity records rest =
     let valid : IsBatch batch = record { least = c.requires.least; most = c.requires.most; sound = c.put_content-end.ensures.sound } in
     let body = rw c.put_content-end.ensures.bytes at c.in_ok-store.ensures.written in
     let first = widened c.store.ensures.moments _ (first_step _ capacity c.args.gate records batch valid rest _) in
-    goes_on first c.store-2.ensures.moments (second_step _ capacity c.args.gate records batch valid rest (g.H.Host.outside c.store.new.host) body c.in_ok-store.ensures.settled c.store.ensures.sent)
+    goes_on first c.store-2.ensures.moments (second_step _ capacity c.args.gate records batch valid rest (g.H.Host.outside c.store.new.host) body c.in_ok-store.ensures.settled c.store.ensures.keeps.sent)
 
 pub returns-clause-grown : goal.returns-clause-grown
 returns-clause-grown g c =
@@ -38,3 +39,9 @@ pub returns-clause-next : goal.returns-clause-next
 returns-clause-next g c =
     let most = frames_most c.args.batch.now c.put_content-end.ensures.sound in
     (omega arith, omega (arith, c.put_content-end.ensures.len, c.requires.least))
+
+pub returns-in_err-store-2-clause-keeps : goal.returns-in_err-store-2-clause-keeps
+returns-in_err-store-2-clause-keeps g c = writes_on c.store.ensures.keeps c.store-2.ensures.keeps
+
+pub returns-clause-keeps : goal.returns-clause-keeps
+returns-clause-keeps g c = writes_on c.store.ensures.keeps c.store-2.ensures.keeps

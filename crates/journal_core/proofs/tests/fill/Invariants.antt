@@ -1,6 +1,6 @@
 use Rattle.std.proofs.Common.{◌-◌}
 use Rattle.std.specs.Prelude.{IsTrue}
-use Rattle.host_core.specs.Memory.{known}
+use Rattle.memory_host.specs.Memory.{known}
 use Rattle.journal_core.specs.Journal.{IsOfDisk}
 use Rattle.journal_core.proofs.tests.fill.Given as goal
 

@@ -1,37 +1,31 @@
-use Rattle.std.proofs.Common.{◌≡◌, ℕ, ◌∷◌, ap, sym, ◌∙◌, rules}
-use Rattle.std.specs.Prelude.{None}
-use Rattle.rulebook.specs.Admission.{verdict}
-use Rattle.rulebook.specs.Sent.{spelled, sent_again}
-use Rattle.live_core.proofs.Again.{none_again, one_again, again_one, owes_text}
+use Rattle.std.proofs.Common.{[], ◌∷◌, refl, ◌∙◌}
+use Rattle.engine_core.proofs.Pending.{on_ok, expects_same}
+use Rattle.engine_core.proofs.Sending.{sends_same}
+use Rattle.live_core.specs.InternalRecovery.{again}
+use Rattle.live_core.proofs.Again.{again_one, part_waits}
 use Rattle.live_core.proofs.recovery.resume_record.Goals as goal
 
-pub returns-then-is_some-clause-moments : goal.returns-then-is_some-clause-moments
-returns-then-is_some-clause-moments g c = λ capacity held begin resumes.
-    none_again c.args.from c.args.x.now held (g.H.Host.outside c.args.host.now) (g.met.H.Host.sent_now c.args.host.now) _ resumes.owes
+pub returns-in_err-admit-clause-moments : goal.returns-in_err-admit-clause-moments
+returns-in_err-admit-clause-moments g c = λ capacity held begin resumes passed.
+    part_waits c.args.from (record { more = c.args.x.now ∷ []; whole = refl }) (g.H.Host.outside c.args.host.now) (g.met.H.Host.sent_now c.args.host.now) _ resumes.pending_is
 
-pub returns-in-Err-clause-moments : goal.returns-in-Err-clause-moments
-returns-in-Err-clause-moments g c = λ capacity held begin resumes.
-    none_again c.args.from c.args.x.now held (g.H.Host.outside c.args.host.now) (g.met.H.Host.sent_now c.args.host.now) _ resumes.owes
+pub returns-in_err-evaluate-clause-moments : goal.returns-in_err-evaluate-clause-moments
+returns-in_err-evaluate-clause-moments g c = λ capacity held begin resumes passed.
+    part_waits c.args.from (record { more = c.args.x.now ∷ []; whole = refl }) (g.H.Host.outside c.args.host.now) (g.met.H.Host.sent_now c.args.host.now) _ resumes.pending_is
 
-pub returns-in-Ok-put_again-clause-moments : goal.returns-in-Ok-put_again-clause-moments
-returns-in-Ok-put_again-clause-moments g c = λ capacity held begin resumes.
-    one_again _ (spelled (sent_again c.args.from (c.args.x.now ∷ held)))
-    (again_one c.args.from c.args.x.now held c.args.engine.now.published _ resumes.engine_of.published (c.deref.ensures.value ∙ (c.in-Ok.ensures).messages capacity held resumes.engine_of))
-    (c.put_again.ensures.moments begin (spelled (sent_again c.args.from held)) resumes.owes)
+pub returns-clause-resumes : goal.returns-clause-resumes
+returns-clause-resumes g c = λ capacity held begin resumes passed.
+    let admitted = c.in_ok-admit.ensures.represents capacity held held resumes.engine_is in
+    let gave = c.deref.ensures.value ∙ c.in_ok-evaluate.ensures.messages capacity (c.args.x.now ∷ held) held admitted passed in
+    on_ok c.append_again.result (c.append_again.ensures.pending begin (again c.args.from held) resumes.pending_is) (λ pending. record {
+      engine_is = c.in_ok-evaluate.ensures.represents capacity (c.args.x.now ∷ held) held admitted passed;
+      lawful = (passed, resumes.lawful);
+      pending_is = expects_same _ _ (again_one c.args.from c.args.x.now held c.args.engine.now.published _ resumes.engine_is.published gave) pending;
+    })
 
-pub returns-in-Err-put_again-clause-moments : goal.returns-in-Err-put_again-clause-moments
-returns-in-Err-put_again-clause-moments g c = λ capacity held begin resumes.
-    one_again _ (spelled (sent_again c.args.from (c.args.x.now ∷ held)))
-    (again_one c.args.from c.args.x.now held c.args.engine.now.published _ resumes.engine_of.published (c.deref.ensures.value ∙ (c.in-Ok.ensures).messages capacity held resumes.engine_of))
-    (c.put_again.ensures.moments begin (spelled (sent_again c.args.from held)) resumes.owes)
-
-pub returns-in-Ok-put_again-clause-resumes : goal.returns-in-Ok-put_again-clause-resumes
-returns-in-Ok-put_again-clause-resumes g c = λ capacity held begin resumes.
-    let none : c.verdict.result ≡ None = search rules in
-    record {
-      engine_of = (c.in-Ok.ensures).stands capacity held resumes.engine_of;
-      lawful = (sym (c.verdict.ensures.exact held resumes.engine_of.admission ∙ ap (λ (l : ℕ). verdict l held c.args.x.now) resumes.engine_of.limited) ∙ none, resumes.lawful);
-      owes = owes_text _ (spelled (sent_again c.args.from (c.args.x.now ∷ held)))
-          (again_one c.args.from c.args.x.now held c.args.engine.now.published _ resumes.engine_of.published (c.deref.ensures.value ∙ (c.in-Ok.ensures).messages capacity held resumes.engine_of))
-          ((c.in-Ok-put_again.ensures).owes begin (spelled (sent_again c.args.from held)) resumes.owes);
-    }
+pub returns-clause-moments : goal.returns-clause-moments
+returns-clause-moments g c = λ capacity held begin resumes passed.
+    let admitted = c.in_ok-admit.ensures.represents capacity held held resumes.engine_is in
+    let gave = c.deref.ensures.value ∙ c.in_ok-evaluate.ensures.messages capacity (c.args.x.now ∷ held) held admitted passed in
+    sends_same _ _ (again_one c.args.from c.args.x.now held c.args.engine.now.published _ resumes.engine_is.published gave)
+    (c.append_again.ensures.moments begin (again c.args.from held) resumes.pending_is)

@@ -1,34 +1,23 @@
-use Rattle.std.proofs.Common.{refl}
-use Rattle.engine_core.proofs.Taken.{takes_none}
-use Rattle.replay_core.proofs.Ending.{completes, serves_fresh}
-use Rattle.std.specs.Prelude.{take}
-use Rattle.replay_core.proofs.Moments.{runs_none}
+use Rattle.std.proofs.Common.{sym, ap, subst, ◌∙◌}
+use Rattle.std.specs.Prelude.{Err}
+use Rattle.host_core.specs.declared.status.Status.{Status}
+use Rattle.replay_core.specs.Replayed.{Replayed}
+use Rattle.replay_core.proofs.Replaying.{replayed_end, replayed_fault}
 use Rattle.replay_core.proofs.input.replay.Goals as goal
 
-pub returns-in-Ok-vec-clause-exact : goal.returns-in-Ok-vec-clause-exact
-returns-in-Ok-vec-clause-exact g c = λ input left end.
-    c.answer_input.ensures.exact (g.H.Host.outside c.args.host.now).sent input (serves_fresh input (g.H.Host.outside c.args.host.now) _ left (c.in-Ok.ensures).follows (c.in-Ok.ensures).outbox) end
+pub returns-in-Ok : goal.returns-in-Ok
+returns-in-Ok g c = record {
+  replayed =
+      replayed_end c.args.options.now.bytes _ _ c.answer_input.ensures.moments c.answer_input.ensures.prompt c.answer_input.ensures.bytes c.answer_input.ensures.disk c.answer_input.ensures.continues
+      (g.met.H.Host.sent_now c.answer_input.new.host) (g.met.H.Host.stops_now c.answer_input.new.host) c.in-Ok.status c.in-Ok.ensures.end c.in-Ok.ensures.exact;
+}
 
-pub returns-in-Ok-vec-clause-unread : goal.returns-in-Ok-vec-clause-unread
-returns-in-Ok-vec-clause-unread g c = λ input left is.
-    c.answer_input.ensures.unread (g.H.Host.outside c.args.host.now).sent input (serves_fresh input (g.H.Host.outside c.args.host.now) _ left (c.in-Ok.ensures).follows (c.in-Ok.ensures).outbox) is
-
-pub returns-in-Ok-vec-clause-part : goal.returns-in-Ok-vec-clause-part
-returns-in-Ok-vec-clause-part g c = λ input left.
-    c.answer_input.ensures.part (g.H.Host.outside c.args.host.now).sent input (serves_fresh input (g.H.Host.outside c.args.host.now) _ left (c.in-Ok.ensures).follows (c.in-Ok.ensures).outbox)
-
-pub returns-in-Ok-vec-clause-complete : goal.returns-in-Ok-vec-clause-complete
-returns-in-Ok-vec-clause-complete g c memory no_reads no_sends = completes _ _ _ c.answer_input.ensures.kind memory c.answer_input.ensures.read_cause c.answer_input.ensures.send_cause no_reads no_sends
-
-pub returns-in-Err-clause-capacity : goal.returns-in-Err-clause-capacity
-returns-in-Err-clause-capacity g c = takes_none c.args.options.now.bytes _ _ refl
-
-pub returns-in-Ok-vec-clause-moments : goal.returns-in-Ok-vec-clause-moments
-returns-in-Ok-vec-clause-moments g c = λ input left.
-    c.answer_input.ensures.moments (g.H.Host.outside c.args.host.now).sent input (serves_fresh input (g.H.Host.outside c.args.host.now) _ left (c.in-Ok.ensures).follows (c.in-Ok.ensures).outbox)
-
-pub returns-in-Err-clause-moments : goal.returns-in-Err-clause-moments
-returns-in-Err-clause-moments g c = λ input left. runs_none (g.H.Host.outside c.args.host.now) (take c.args.options.now.bytes input) (g.met.H.Host.sent_now c.args.host.now)
-
-pub returns-clause-moments : goal.returns-clause-moments
-returns-clause-moments g c = λ input left. runs_none (g.H.Host.outside c.args.host.now) (take c.args.options.now.bytes input) (g.met.H.Host.sent_now c.args.host.now)
+pub returns-in-Err : goal.returns-in-Err
+returns-in-Err g c = record {
+  replayed =
+      subst (λ (status : Status). Replayed c.args.options.now.bytes status (g.H.Host.outside c.args.host.now) (g.H.Host.outside c.answer_input.new.host)) (sym c.into.ensures)
+      (replayed_fault c.args.options.now.bytes _ _ c.answer_input.ensures.moments c.answer_input.ensures.prompt c.answer_input.ensures.bytes c.answer_input.ensures.disk c.answer_input.ensures.continues
+      (g.met.H.Host.sent_now c.answer_input.new.host) (g.met.H.Host.stops_now c.answer_input.new.host) c.in-Err.fault
+      (λ is. c.answer_input.ensures.unkept (c.in-Err.is ∙ ap Err is)) c.in-Err.ensures.causes
+      (λ input is failed. c.answer_input.ensures.unread input is (c.in-Err.is ∙ ap Err failed)));
+}

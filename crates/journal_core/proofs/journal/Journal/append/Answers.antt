@@ -1,5 +1,6 @@
 use Rattle.std.proofs.Common.{◌≡◌, ◌+◌, length, ap, arith}
 use Rattle.host_core.proofs.Moments.{nothing, widened, ended}
+use Rattle.host_core.proofs.Chains.{writes_nothing}
 use Rattle.journal_core.specs.Journal.{JournalState}
 use Rattle.journal_core.proofs.Appended.{settled_at, grown_by, rest_with, of_disk_with, before_steps}
 use Rattle.journal_core.proofs.journal.Journal.append.Goals as goal
@@ -41,3 +42,6 @@ returns-in_err-self-inside-clause-left g c records image rest left = (ended (ret
 
 pub returns-clause-left : goal.returns-clause-left
 returns-clause-left g c records image rest left = (ended (returns-clause-moments g c records rest) left).holds
+
+pub returns-then-len-saturating_sub-clause-keeps : goal.returns-then-len-saturating_sub-clause-keeps
+returns-then-len-saturating_sub-clause-keeps g c = writes_nothing (g.H.Host.outside c.args.host.now)

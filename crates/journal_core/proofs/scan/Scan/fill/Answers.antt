@@ -1,5 +1,5 @@
 use Rattle.std.proofs.Common.{◌≡◌, ℕ, ◌++◌, List, drop, sym, ap, subst}
-use Rattle.host_core.proofs.Moments.{nothing}
+use Rattle.host_core.proofs.Chains.{reads_nothing}
 use Rattle.journal_core.specs.Scan.{ScanState, HasRead}
 use Rattle.journal_core.proofs.ScanLemmas.{reads_on, read_at}
 use Rattle.journal_core.proofs.scan.Scan.fill.Goals as goal
@@ -19,5 +19,5 @@ returns-in_ok-read-clause-reads g c batches disk known read =
     subst (λ (s : ScanState). HasRead s batches disk) (sym (ap (λ (s : ScanState). record s { ahead = ahead }) c.self.view_is))
     (reads_on old ahead _ batches disk read (read_at _ old.gate c.self.inside.gate disk ahead gates (c.in_ok-read.ensures.bytes disk known)))
 
-pub returns-else-bytes-min-clause-moments : goal.returns-else-bytes-min-clause-moments
-returns-else-bytes-min-clause-moments g c = nothing (g.H.Host.outside c.args.host.now) (g.met.H.Host.sent_now c.args.host.now)
+pub returns-else-bytes-min-clause-keeps : goal.returns-else-bytes-min-clause-keeps
+returns-else-bytes-min-clause-keeps g c = reads_nothing (g.H.Host.outside c.args.host.now) (g.met.H.Host.sent_now c.args.host.now)

@@ -1,13 +1,13 @@
 use Rattle.std.proofs.Common.{⊎_elim, ◌++◌, ◌∷◌, [], sym, ◌∙◌}
-use Rattle.journal_core.proofs.Settled.{still_settled}
+use Rattle.host_core.proofs.Chains.{still_settled}
 use Rattle.journal_core.proofs.ScanLemmas.{took_batch, damaged_disk}
 use Rattle.journal_core.proofs.scan.Scan.next.Goals as goal
 
 pub returns-in_err-fill-clause-settled : goal.returns-in_err-fill-clause-settled
-returns-in_err-fill-clause-settled g c = still_settled c.fill.ensures.moments c.fill.ensures.disk
+returns-in_err-fill-clause-settled g c = still_settled c.fill.ensures.keeps.moments c.fill.ensures.keeps.disk
 
 pub returns-clause-settled : goal.returns-clause-settled
-returns-clause-settled g c = still_settled c.fill.ensures.moments c.fill.ensures.disk
+returns-clause-settled g c = still_settled c.fill.ensures.keeps.moments c.fill.ensures.keeps.disk
 
 pub returns-clause-batch : goal.returns-clause-batch
 returns-clause-batch g c is batches disk known read =
@@ -25,8 +25,8 @@ returns-clause-damaged g c at is batches disk known read =
 
 pub returns-clause-of_disk : goal.returns-clause-of_disk
 returns-clause-of_disk g c disk known =
-    let before = c.requires disk (sym c.fill.ensures.disk ∙ known) in
-    let read = c.fill.ensures.reads before.0 disk (sym c.fill.ensures.disk ∙ known) before.1 in
+    let before = c.requires disk (sym c.fill.ensures.keeps.disk ∙ known) in
+    let read = c.fill.ensures.reads before.0 disk (sym c.fill.ensures.keeps.disk ∙ known) before.1 in
     ⊎_elim (λ is.
     let took = c.take_at_gate.ensures.batch is in
     (before.0 ++ c.take_at_gate.new.into ∷ [], took_batch c.fill.new.self c.take_at_gate.new.self c.take_at_gate.new.into took.0 took.1 took.2 c.take_at_gate.ensures.capacity c.take_at_gate.ensures.size took.4 before.0 disk read))

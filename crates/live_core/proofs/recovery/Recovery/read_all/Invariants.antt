@@ -1,22 +1,19 @@
-use Rattle.std.proofs.Common.{◌≡◌, ◌-◌, ℕ, List}
-use Rattle.std.specs.Prelude.{Option, Some}
-use Rattle.host_core.specs.Outside.{Elapses, Continues}
+use Rattle.std.proofs.Common.{◌-◌, ℕ, List}
+use Rattle.std.specs.Prelude.{Option}
+use Rattle.host_core.specs.Outside.{Elapses, NoFault}
 use Rattle.wire_in.specs.declared.record.Record.{Record}
-use Rattle.rulebook.specs.Sent.{spelled, sent_again}
-use Rattle.journal_core.specs.Layout.{Holds}
-use Rattle.live_core.specs.Safe.{Leaves}
-use Rattle.live_core.specs.Recovered.{IsReading, Recovers}
+use Rattle.engine_core.specs.Pending.{SendsPrefix}
+use Rattle.live_core.specs.InternalRecovery.{again, Covers, IsReading, Recovers, OnlyRecovers}
 use Rattle.live_core.proofs.recovery.Recovery.read_all.Given as goal
 
 abbrev pub invariant-batches : goal.invariant-batches
 invariant-batches g l = record {
-  reading : IsReading l.self (g.H.Host.outside l.host).disk;
+  reading : IsReading l.self 0 (g.H.Host.outside l.host).disk;
   recovers : (begin : Option (List ℕ)) (disk : List ℕ) → Recovers l.from begin disk l.initial.self (g.H.Host.outside l.initial.host) → Recovers l.from begin disk l.self (g.H.Host.outside l.host);
-  moments : (before disk : List ℕ) (capacity : ℕ) (held : List Record) → Recovers l.from (Some before) disk l.initial.self (g.H.Host.outside l.initial.host) → Holds disk capacity held
-      → Elapses (g.H.Host.outside l.initial.host) (g.H.Host.outside l.host) (Leaves capacity held before (spelled (sent_again l.from held)));
-  input : (g.H.Host.outside l.host).input ≡ (g.H.Host.outside l.initial.host).input;
-  disk : (g.H.Host.outside l.host).disk ≡ (g.H.Host.outside l.initial.host).disk;
-  continues : Continues (g.H.Host.outside l.initial.host) (g.H.Host.outside l.host);
+  moments : (begin : Option (List ℕ)) (disk : List ℕ) (all : List Record) → Recovers l.from begin disk l.initial.self (g.H.Host.outside l.initial.host) → Covers disk all
+      → Elapses (g.H.Host.outside l.initial.host) (g.H.Host.outside l.host) (SendsPrefix begin (again l.from all) (g.H.Host.outside l.initial.host));
+  keeps : OnlyRecovers (g.H.Host.outside l.initial.host) (g.H.Host.outside l.host);
+  none : NoFault (g.H.Host.outside l.initial.host) (g.H.Host.outside l.host);
 }
 
 abbrev pub decreases-batches : goal.decreases-batches

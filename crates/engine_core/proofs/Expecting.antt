@@ -1,0 +1,135 @@
+-- What is expected for more frames, and what is safe for them.
+use Rattle.std.proofs.Common.{◌≡◌, ℕ, ◌+◌, ◌≤◌, Bool, true, false, List, [], ◌∷◌, ◌++◌, length, take, drop, refl, sym, ap, subst, ◌∙◌, append_assoc, length-append, arith}
+use Rattle.std.specs.Prelude.{Option}
+use Rattle.std.specs.Io.KnownBytes.{append_known}
+use Rattle.std.proofs.lemmas.List.{append-nil, take_at, take-append-le, take-append-drop}
+use Rattle.host_core.specs.Outside.{Outside, Agrees, MayLeave}
+use Rattle.wire_in.specs.declared.record.Record.{Record}
+use Rattle.wire_in.specs.Cutting.{bodies_of, rest_of}
+use Rattle.wire_in.proofs.Cuts.{bodies_of-append}
+use Rattle.wire_out.specs.declared.message.Frame.{Frame}
+use Rattle.rulebook.specs.Sent.{spelled, replies, reply, judged, with_record, accepted_of}
+use Rattle.rulebook.proofs.Sending.{spelled-append, replies-append, accepted_of-append, unacknowledged-append}
+use Rattle.engine_core.specs.Pending.{Expects, SendsPrefix}
+use Rattle.engine_core.specs.Sessions.{Start, held_after, expected, with_acknowledgements, IsSafe}
+
+with_acknowledgements-append : (acknowledges : Bool) (a b : List Frame) → with_acknowledgements acknowledges (a ++ b) ≡ with_acknowledgements acknowledges a ++ with_acknowledgements acknowledges b
+with_acknowledgements-append true a b = refl
+with_acknowledgements-append false a b = unacknowledged-append a b
+
+-- what further frames add
+abbrev pub added : Start → List (List ℕ) → List (List ℕ) → List ℕ
+added start a b = spelled (with_acknowledgements start.acknowledges (replies start.capacity (length a + 1) (held_after start a) b))
+
+pub expected-more : (start : Start) (a b : List (List ℕ)) → expected start (a ++ b) ≡ expected start a ++ added start a b
+unfolding expected
+expected-more start a b =
+    let first = replies start.capacity 1 start.held a in
+    let later = replies start.capacity (length a + 1) (held_after start a) b in
+    ap (λ (frames : List Frame). start.opening ++ spelled (with_acknowledgements start.acknowledges frames))
+    (replies-append start.capacity 1 start.held a b ∙ ap (λ (k : ℕ). first ++ replies start.capacity k (held_after start a) b) (omega arith))
+    ∙ ap (λ (frames : List Frame). start.opening ++ spelled frames) (with_acknowledgements-append start.acknowledges first later)
+    ∙ ap (λ (bytes : List ℕ). start.opening ++ bytes) (spelled-append (with_acknowledgements start.acknowledges first) (with_acknowledgements start.acknowledges later))
+    ∙ sym (append_assoc start.opening (spelled (with_acknowledgements start.acknowledges first)) (spelled (with_acknowledgements start.acknowledges later)))
+
+-- one frame more
+pub expected-one : (start : Start) (a : List (List ℕ)) (body : List ℕ)
+    → expected start (a ++ body ∷ []) ≡ expected start a ++ spelled (with_acknowledgements start.acknowledges (reply (length a + 1) (held_after start a) (judged start.capacity (held_after start a) body)))
+expected-one start a body =
+    expected-more start a (body ∷ [])
+    ∙ ap (λ (frames : List Frame). expected start a ++ spelled (with_acknowledgements start.acknowledges frames)) (append-nil (reply (length a + 1) (held_after start a) (judged start.capacity (held_after start a) body)))
+
+pub held-more : (start : Start) (a b : List (List ℕ)) → held_after start (a ++ b) ≡ accepted_of start.capacity (held_after start a) b
+held-more start a b = accepted_of-append start.capacity start.held a b
+
+pub held-one : (start : Start) (a : List (List ℕ)) (body : List ℕ) → held_after start (a ++ body ∷ []) ≡ with_record (held_after start a) (judged start.capacity (held_after start a) body)
+held-one start a body = held-more start a (body ∷ [])
+
+module _ (recovers : List Record → List ℕ → Type 0) (start : Start) where
+  -- what some frames gave is recovered, and a prefix of what is expected for them was sent
+  pub safe_of : (a b : List (List ℕ)) (image bytes since unsent : List ℕ) → recovers (held_after start a) image → Agrees (append_known start.sent since) bytes → since ++ unsent ≡ expected start a
+      → IsSafe recovers start (a ++ b) image bytes
+  safe_of a b image bytes since unsent recovered sent prefix =
+      let same : a ≡ take (length a) (a ++ b) = sym (take_at a b (length a) refl) in
+      record {
+        count = length a;
+        within = omega (arith, length-append a b);
+        recovered = subst (λ (bodies : List (List ℕ)). recovers (held_after start bodies) image) same recovered;
+        since = since;
+        unsent = unsent;
+        sent = sent;
+        prefix = prefix ∙ ap (expected start) same;
+      }
+
+  -- what is safe for some frames is safe for more
+  pub safe_more : (a b : List (List ℕ)) (image bytes : List ℕ) → IsSafe recovers start a image bytes → IsSafe recovers start (a ++ b) image bytes
+  safe_more a b image bytes safe =
+      let le : safe.count ≤ length a = safe.within in
+      let same : take safe.count a ≡ take safe.count (a ++ b) = sym (take-append-le safe.count a b le) in
+      record {
+        count = safe.count;
+        within = omega (arith, le, length-append a b);
+        recovered = subst (λ (bodies : List (List ℕ)). recovers (held_after start bodies) image) same safe.recovered;
+        since = safe.since;
+        unsent = safe.unsent;
+        sent = safe.sent;
+        prefix = safe.prefix ∙ ap (expected start) same;
+      }
+
+  -- and so for more bytes
+  pub safe_further : (read more image bytes : List ℕ) → IsSafe recovers start (bodies_of read) image bytes → IsSafe recovers start (bodies_of (read ++ more)) image bytes
+  safe_further read more image bytes safe =
+      subst (λ (bodies : List (List ℕ)). IsSafe recovers start bodies image bytes) (sym (bodies_of-append read more))
+      (safe_more (bodies_of read) (bodies_of (rest_of read ++ more)) image bytes safe)
+
+  -- while a prefix of what is expected for all frames is sent, what they gave is recovered
+  pub safe_sends : (bodies : List (List ℕ)) (now : Outside) (image bytes : List ℕ) → recovers (held_after start bodies) image → SendsPrefix start.sent (expected start bodies) now image bytes
+      → IsSafe recovers start bodies image bytes
+  safe_sends bodies now image bytes recovered stop =
+      subst (λ (all : List (List ℕ)). IsSafe recovers start all image bytes) (append-nil bodies)
+      (safe_of bodies [] image bytes stop.sent stop.rest recovered stop.known stop.prefix)
+
+  -- before anything more is sent
+  pub safe_expects : (a b : List (List ℕ)) {now : Option (List ℕ)} {waiting : List ℕ} (image bytes : List ℕ) → recovers (held_after start a) image → Expects start.sent now waiting (expected start a) → Agrees now bytes
+      → IsSafe recovers start (a ++ b) image bytes
+  safe_expects a b {now} {waiting} image bytes recovered expects sent =
+      safe_of a b image bytes expects.sent waiting recovered (subst (λ (known : Option (List ℕ)). Agrees known bytes) expects.known sent) expects.whole
+
+  -- what is safe by one test of images is safe by a wider one
+  pub safe_by : (wider : List Record → List ℕ → Type 0) → ((records : List Record) (image : List ℕ) → recovers records image → wider records image)
+      → (bodies : List (List ℕ)) (image bytes : List ℕ) → IsSafe recovers start bodies image bytes → IsSafe wider start bodies image bytes
+  safe_by wider more bodies image bytes safe = record {
+    count = safe.count;
+    within = safe.within;
+    recovered = more (held_after start (take safe.count bodies)) image safe.recovered;
+    since = safe.since;
+    unsent = safe.unsent;
+    sent = safe.sent;
+    prefix = safe.prefix;
+  }
+
+-- before the first frame
+pub expected-none : (start : Start) → expected start [] ≡ start.opening
+unfolding expected
+expected-none start = ap (λ (frames : List Frame). start.opening ++ spelled frames) (no_frames start.acknowledges) ∙ append-nil start.opening
+  where
+    no_frames : (acknowledges : Bool) → with_acknowledgements acknowledges [] ≡ []
+    no_frames true = refl
+    no_frames false = refl
+
+-- a prefix of what is expected for some frames is one of what is expected for more
+pub safe_prefix : (start : Start) (bodies : List (List ℕ)) (now : Outside) (image bytes : List ℕ) (recovers : List Record → List ℕ → Type 0)
+    → ((records : List Record) (image : List ℕ) → recovers records image → MayLeave now image) → IsSafe recovers start bodies image bytes
+    → SendsPrefix start.sent (expected start bodies) now image bytes
+safe_prefix start bodies now image bytes recovers left safe =
+    let first = take safe.count bodies in
+    let later = drop safe.count bodies in
+    let all : first ++ later ≡ bodies = take-append-drop safe.count bodies in
+    record {
+      was = left (held_after start first) image safe.recovered;
+      sent = safe.since;
+      rest = safe.unsent ++ added start first later;
+      known = safe.sent;
+      prefix = sym (append_assoc safe.since safe.unsent (added start first later)) ∙ ap (λ (bytes : List ℕ). bytes ++ added start first later) safe.prefix
+          ∙ sym (expected-more start first later) ∙ ap (expected start) all;
+    }

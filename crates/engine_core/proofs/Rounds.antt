@@ -1,0 +1,62 @@
+-- The outcomes of a round, and the records that it accepts.
+use Rattle.std.proofs.Common.{◌≡◌, ℕ, ◌≤◌, List, [], ◌∷◌, ◌++◌, length, refl, ap, ◌∙◌, append_assoc, arith}
+use Rattle.std.specs.Prelude.{Option, Some, None, Result, Ok, Err, reverse}
+use Rattle.std.proofs.lemmas.List.{reverse-append}
+use Rattle.wire_in.specs.declared.record.Record.{Record}
+use Rattle.wire_in.specs.declared.record.Refusal.{Refusal}
+use Rattle.wire_in.specs.Reading.{record_of}
+use Rattle.journal_core.specs.Layout.{with_batch}
+use Rattle.rulebook.specs.Admission.{verdict}
+use Rattle.rulebook.specs.Sent.{record_or_refusal, admitted, judged, with_record, accepted_of}
+use Rattle.engine_core.specs.Rounds.{Outcome, outcomes_of, records_in, IsAdmissible}
+
+pub outcomes-append : (capacity : ℕ) (held : List Record) (a b : List (List ℕ)) → outcomes_of capacity held (a ++ b) ≡ outcomes_of capacity held a ++ outcomes_of capacity (accepted_of capacity held a) b
+outcomes-append capacity held [] b = refl
+outcomes-append capacity held (body ∷ a) b =
+    ap (λ (later : List Outcome). judged capacity held body ∷ later) (outcomes-append capacity (with_record held (judged capacity held body)) a b)
+
+pub length-outcomes : (capacity : ℕ) (held : List Record) (bodies : List (List ℕ)) → length (outcomes_of capacity held bodies) ≡ length bodies
+length-outcomes capacity held [] = refl
+length-outcomes capacity held (body ∷ later) = omega (arith, length-outcomes capacity (with_record held (judged capacity held body)) later)
+
+-- a batch with one record less, held behind it
+one_record : (held : List Record) (outcome : Outcome) (later : List Outcome) → with_batch held (records_in (outcome ∷ later)) ≡ with_batch (with_record held outcome) (records_in later)
+one_record held (Ok x) later =
+    ap (λ (r : List Record). r ++ held) (reverse-append (x ∷ []) (records_in later)) ∙ append_assoc (reverse (records_in later)) (x ∷ []) held
+one_record held (Err refusal) later = refl
+
+-- the accepted records of a round, kept as a batch
+pub batch_of : (capacity : ℕ) (held : List Record) (bodies : List (List ℕ)) → with_batch held (records_in (outcomes_of capacity held bodies)) ≡ accepted_of capacity held bodies
+batch_of capacity held [] = refl
+batch_of capacity held (body ∷ later) =
+    let next = with_record held (judged capacity held body) in
+    one_record held (judged capacity held body) (outcomes_of capacity next later) ∙ batch_of capacity next later
+
+-- what was judged may follow
+admissible_passed : (capacity : ℕ) (held : List Record) (x : Record) (v : Option Refusal) → verdict capacity held x ≡ v → IsAdmissible capacity held (record_or_refusal x v)
+admissible_passed capacity held x None is = is
+admissible_passed capacity held x (Some refusal) is = tt
+
+admissible_admitted : (capacity : ℕ) (held : List Record) (r : Result Record Refusal) → IsAdmissible capacity held (admitted capacity held r)
+admissible_admitted capacity held (Ok x) = admissible_passed capacity held x (verdict capacity held x) refl
+admissible_admitted capacity held (Err refusal) = tt
+
+pub admissible_judged : (capacity : ℕ) (held : List Record) (body : List ℕ) → IsAdmissible capacity held (judged capacity held body)
+admissible_judged capacity held body = admissible_admitted capacity held (record_of body)
+
+-- the first frame of a round
+pub judged_first : (capacity : ℕ) (held : List Record) (outcome : Outcome) (later : List Outcome) (waiting : List (List ℕ)) → outcome ∷ later ≡ outcomes_of capacity held waiting
+    → (body : List ℕ) × (rest : List (List ℕ)) × (waiting ≡ body ∷ rest) × (outcome ≡ judged capacity held body)
+    × (later ≡ outcomes_of capacity (with_record held (judged capacity held body)) rest)
+judged_first capacity held outcome later [] is = absurd cc
+judged_first capacity held outcome later (body ∷ rest) is = (body, rest, refl, cc, cc)
+
+pub records-append : (a b : List Outcome) → records_in (a ++ b) ≡ records_in a ++ records_in b
+records-append [] b = refl
+records-append (Ok x ∷ a) b = ap (λ (r : List Record). x ∷ r) (records-append a b)
+records-append (Err refusal ∷ a) b = records-append a b
+
+pub few_records : (outcomes : List Outcome) → length (records_in outcomes) ≤ length outcomes
+few_records [] = omega arith
+few_records (Ok x ∷ later) = let le = few_records later in omega (arith, le)
+few_records (Err refusal ∷ later) = let le = few_records later in omega (arith, le)

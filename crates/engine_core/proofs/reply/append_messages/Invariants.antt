@@ -1,0 +1,18 @@
+use Rattle.std.proofs.Common.{◌≡◌, ◌+◌, ◌++◌, ℕ, List, take}
+use Rattle.std.specs.Prelude.{Option}
+use Rattle.host_core.specs.Outside.{Elapses, NoFault}
+use Rattle.host_core.specs.Frames.{OnlySends}
+use Rattle.rulebook.specs.Sent.{spelled, numbered}
+use Rattle.engine_core.specs.Pending.{Expects, SendsPrefix}
+use Rattle.engine_core.proofs.reply.append_messages.Given as goal
+
+abbrev pub invariant-loop-message : goal.invariant-loop-message
+invariant-loop-message g l = record {
+  number : l.number ≡ l.before + l.message-index;
+  pending : (begin : Option (List ℕ)) (text : List ℕ) → Expects begin (g.H.Host.outside l.initial.host).sent l.initial.outbox text
+      → Expects begin (g.H.Host.outside l.host).sent l.outbox (text ++ spelled (numbered l.before (take l.message-index l.messages)));
+  moments : (begin : Option (List ℕ)) (text : List ℕ) → Expects begin (g.H.Host.outside l.initial.host).sent l.initial.outbox text
+      → Elapses (g.H.Host.outside l.initial.host) (g.H.Host.outside l.host) (SendsPrefix begin (text ++ spelled (numbered l.before l.messages)) (g.H.Host.outside l.initial.host));
+  keeps : OnlySends (g.H.Host.outside l.initial.host) (g.H.Host.outside l.host);
+  none : NoFault (g.H.Host.outside l.initial.host) (g.H.Host.outside l.host);
+}

@@ -1,0 +1,16 @@
+-- What an engine keeps, and the records that it represents.
+use Rattle.std.specs.Prelude.{◌≡◌, ℕ, List, length}
+use Rattle.wire_in.specs.declared.record.Record.{Record}
+use Rattle.rulebook.specs.Book.{messages_of}
+use Rattle.market_core.specs.AdmissionState as admission
+use Rattle.market_core.specs.MarketState as market
+use Rattle.engine_core.specs.declared.engine.Engine.{Engine}
+
+-- Admission has the accepted records, the market those of them that were evaluated, each list with the newest first,
+-- under a capacity of records.
+pub record Represents (engine : Engine) (capacity : ℕ) (accepted evaluated : List Record) : Type 0 where
+  pub within : engine.admission.capacity ≡ capacity
+  pub admission : admission.Represents engine.admission accepted
+  pub market : market.Represents engine.market evaluated
+  pub evaluated_is : engine.evaluated ≡ length evaluated
+  pub published : engine.published ≡ length (messages_of evaluated)

@@ -1,0 +1,32 @@
+-- The frames of a round: judged one after the other, kept together, and then answered.
+use Rattle.std.specs.Prelude.{◌≡◌, ℕ, ◌≤◌, List, [], ◌∷◌, length, None, Result, Ok, Err}
+use Rattle.wire_in.specs.declared.record.Record.{Record}
+use Rattle.wire_in.specs.declared.record.Refusal.{Refusal}
+use Rattle.rulebook.specs.Admission.{verdict}
+use Rattle.rulebook.specs.Sent.{judged, with_record}
+
+-- what was found of a frame: its record, which is accepted, or the first refusal that applies
+abbrev pub Outcome : Type 0
+Outcome = Result Record Refusal
+
+-- the outcomes of the frames of these bodies, one after the other
+abbrev pub outcomes_of : ℕ → List Record → List (List ℕ) → List Outcome
+outcomes_of capacity held [] = []
+outcomes_of capacity held (body ∷ later) = judged capacity held body ∷ outcomes_of capacity (with_record held (judged capacity held body)) later
+
+-- the accepted records among these, the oldest first
+abbrev pub records_in : List Outcome → List Record
+records_in [] = []
+records_in (Ok x ∷ later) = x ∷ records_in later
+records_in (Err refusal ∷ later) = records_in later
+
+-- a record may follow these, and a refusal always may
+abbrev pub IsAdmissible : ℕ → List Record → Outcome → Type 0
+IsAdmissible capacity held (Ok x) = verdict capacity held x ≡ None
+IsAdmissible capacity held (Err refusal) = Unit {0}
+
+-- at most 64 outcomes
+pub record IsRound (outcomes : List Outcome) (accepted : List Record) (reserved : ℕ) : Type 0 where
+  pub most : length outcomes ≤ 64
+  pub reserve : 64 ≤ reserved
+  pub accepted_are : accepted ≡ records_in outcomes

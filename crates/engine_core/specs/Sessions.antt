@@ -1,0 +1,66 @@
+-- What a session expects to send, and what a stop of it may leave.
+use Rattle.std.specs.Prelude.{◌≡◌, ℕ, ◌≤◌, Bool, true, false, List, [], ◌∷◌, ◌++◌, length, take, drop, Option, Some}
+use Rattle.std.specs.Io.KnownBytes.{append_known}
+use Rattle.host_core.specs.Outside.{Outside, Ask, Agrees}
+use Rattle.wire_in.specs.declared.record.Record.{Record}
+use Rattle.wire_in.specs.Cutting.{bodies_of}
+use Rattle.wire_out.specs.declared.message.Frame.{Frame}
+use Rattle.rulebook.specs.Sent.{accepted_of, replies, unacknowledged, spelled}
+
+-- What a session begins with: the capacity of records, the records that are held, the newest first, whether accepted
+-- records are acknowledged, what is sent before the first frame is answered, and what was sent before, where it is known.
+pub record Start : Type 0 where
+  pub capacity : ℕ
+  pub held : List Record
+  pub acknowledges : Bool
+  pub opening : List ℕ
+  pub sent : Option (List ℕ)
+
+-- the records that are held after the frames of these bodies
+abbrev pub held_after : Start → List (List ℕ) → List Record
+held_after start bodies = accepted_of start.capacity start.held bodies
+
+-- frames with the acknowledgements among them, or without
+abbrev pub with_acknowledgements : Bool → List Frame → List Frame
+with_acknowledgements true frames = frames
+with_acknowledgements false frames = unacknowledged frames
+
+-- all that is sent for the frames of these bodies
+unfoldable pub expected : Start → List (List ℕ) → List ℕ
+expected start bodies = start.opening ++ spelled (with_acknowledgements start.acknowledges (replies start.capacity 1 start.held bodies))
+
+-- For some number of the first frames, the image is one that recovers the records from before and those that these
+-- frames gave, and what was sent since the start is a prefix of what is expected for them.
+pub record IsSafe (recovers : List Record → List ℕ → Type 0) (start : Start) (bodies : List (List ℕ)) (image bytes : List ℕ) : Type 0 where
+  pub count : ℕ
+  pub within : count ≤ length bodies
+  pub recovered : recovers (held_after start (take count bodies)) image
+  pub since : List ℕ
+  pub unsent : List ℕ
+  pub sent : Agrees (append_known start.sent since) bytes
+  pub prefix : since ++ unsent ≡ expected start (take count bodies)
+
+-- So many bytes of the input were read, all that is expected for them was sent, and the records that they gave are held.
+pub record Answered (holds : List Record → Outside → Type 0) (start : Start) (input : List ℕ) (count : ℕ) (now : Outside) : Type 0 where
+  pub input_left : now.input ≡ Some (drop count input)
+  pub there : count ≤ length input
+  pub sent : now.sent ≡ append_known start.sent (expected start (bodies_of (take count input)))
+  pub held : holds (held_after start (bodies_of (take count input))) now
+
+-- When a read began, some of the first bytes of the input had been read, and all that is expected for the whole frames
+-- among them, no more and no less, had been sent.
+pub record IsAnswered (start : Start) (input : List ℕ) (ask : Ask) : Type 0 where
+  pub count : ℕ
+  pub within : count ≤ length input
+  pub left_is : ask.left ≡ drop count input
+  pub sent_is : Some ask.sent ≡ append_known start.sent (expected start (bodies_of (take count input)))
+
+-- each of these reads was so
+abbrev pub AllAnswered : Start → List ℕ → List Ask → Type 0
+AllAnswered start input [] = Unit {0}
+AllAnswered start input (ask ∷ asks) = IsAnswered start input ask × AllAnswered start input asks
+
+-- behind the reads from before stand those of the session, and each began when all that was read had been answered
+abbrev pub Prompt : Start → List ℕ → Option (List Ask) → Option (List Ask) → Type 0
+Prompt start input old new = (before : List Ask) (sent : List ℕ) → old ≡ Some before → start.sent ≡ Some sent
+    → (since : List Ask) × (new ≡ Some (before ++ since)) × AllAnswered start input since

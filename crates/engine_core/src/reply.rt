@@ -1,0 +1,189 @@
+//! What is sent for a frame, appended to what waits.
+
+ghost use Rattle.std.specs.Prelude.{◌≡◌, ◌≢◌, ◌+◌, ◌*◌, ◌<◌, ◌≤◌, ◌^◌, ◌++◌, ◌∷◌, [], ℕ, Bool, true, List, Option, None, IfOk, Err, OnOk, length};
+ghost use Rattle.host_core.specs.Outside.{Elapses};
+ghost use Rattle.host_core.specs.Frames.{OnlySends};
+ghost use Rattle.host_core.specs.Faults.{Causes};
+ghost use Rattle.wire_in.specs.declared.record.Record.{Record};
+ghost use Rattle.rulebook.specs.Admission.{verdict};
+ghost use Rattle.rulebook.specs.Sent.{spelled, numbered, refused, accepted, reply, with_record};
+ghost use Rattle.rulebook.specs.Book.{messages_of, newest_messages};
+ghost use Rattle.engine_core.specs.Pending.{Expects, SendsPrefix};
+ghost use Rattle.engine_core.specs.EngineState.{Represents};
+ghost use Rattle.engine_core.specs.Rounds.{IsAdmissible, records_in};
+ghost use Rattle.engine_core.specs.Sessions.{with_acknowledgements};
+
+use crate::engine::Engine;
+use crate::outbox::Outbox;
+use crate::round::Outcome;
+use host_core::{Fault, Host};
+use wire_in::{Record, Refusal};
+use wire_out::{Frame, Stamped};
+
+/// Appends messages, numbered on from those before them.
+pub fn append_messages<H: Host>(
+    outbox: &mut Outbox,
+    host: &mut H,
+    before: u64,
+    messages: &[Stamped],
+) -> Result<(), Fault>
+    requires { before + length messages.now < 2 ^ 64 }
+    ensures pending { (begin : Option (List ℕ)) (text : List ℕ) → Expects begin (H.outside host.old).sent outbox.old text
+        → OnOk result (Expects begin (H.outside host.new).sent outbox.new (text ++ spelled (numbered before messages.now))) }
+    ensures moments { (begin : Option (List ℕ)) (text : List ℕ) → Expects begin (H.outside host.old).sent outbox.old text
+        → Elapses (H.outside host.old) (H.outside host.new) (SendsPrefix begin (text ++ spelled (numbered before messages.now)) (H.outside host.old)) }
+    ensures keeps { OnlySends (H.outside host.old) (H.outside host.new) }
+    ensures causes { Causes result (H.outside host.old) (H.outside host.new) }
+    ensures unread { result ≢ Err Fault.Read }
+    ensures unkept { result ≢ Err Fault.Disk }
+{
+    let mut number = before;
+    for message in messages {
+        number += 1;
+        let frame = Frame::Numbered {
+            number,
+            stamped: *message,
+        };
+        outbox.append(host, &frame)?;
+    }
+    Ok(())
+}
+
+/// Appends the acknowledgement of a record, where records are acknowledged.
+fn acknowledge<H: Host>(
+    outbox: &mut Outbox,
+    host: &mut H,
+    acknowledges: bool,
+    input: u64,
+) -> Result<(), Fault>
+    ensures pending { (begin : Option (List ℕ)) (text : List ℕ) → Expects begin (H.outside host.old).sent outbox.old text
+        → OnOk result (Expects begin (H.outside host.new).sent outbox.new (text ++ spelled (with_acknowledgements acknowledges (Frame.Ack input ∷ [])))) }
+    ensures moments { (begin : Option (List ℕ)) (text : List ℕ) → Expects begin (H.outside host.old).sent outbox.old text
+        → Elapses (H.outside host.old) (H.outside host.new) (SendsPrefix begin text (H.outside host.old)) }
+    ensures keeps { OnlySends (H.outside host.old) (H.outside host.new) }
+    ensures causes { Causes result (H.outside host.old) (H.outside host.new) }
+    ensures unread { result ≢ Err Fault.Read }
+    ensures unkept { result ≢ Err Fault.Disk }
+{
+    if !acknowledges {
+        return Ok(());
+    }
+    outbox.append(host, &Frame::Ack { input })
+}
+
+/// Evaluates a record, and appends its messages.
+fn publish<H: Host>(
+    engine: &mut Engine,
+    outbox: &mut Outbox,
+    host: &mut H,
+    x: &Record,
+) -> Result<(), Fault>
+    requires room { engine.old.published + 524292 < 2 ^ 64 }
+    requires count { engine.old.evaluated + 1 < 2 ^ 64 }
+    ensures represents { (capacity : ℕ) (accepted evaluated : List Record) → Represents engine.old capacity accepted evaluated → verdict capacity evaluated x.now ≡ None
+        → OnOk result (Represents engine.new capacity accepted (x.now ∷ evaluated)) }
+    ensures pending { (capacity : ℕ) (accepted evaluated : List Record) (begin : Option (List ℕ)) (text : List ℕ) → Represents engine.old capacity accepted evaluated
+        → verdict capacity evaluated x.now ≡ None → Expects begin (H.outside host.old).sent outbox.old text
+        → OnOk result (Expects begin (H.outside host.new).sent outbox.new (text ++ spelled (numbered (length (messages_of evaluated)) (newest_messages (x.now ∷ evaluated))))) }
+    ensures moments { (capacity : ℕ) (accepted evaluated : List Record) (begin : Option (List ℕ)) (text : List ℕ) → Represents engine.old capacity accepted evaluated
+        → verdict capacity evaluated x.now ≡ None → Expects begin (H.outside host.old).sent outbox.old text
+        → Elapses (H.outside host.old) (H.outside host.new) (SendsPrefix begin (text ++ spelled (numbered (length (messages_of evaluated)) (newest_messages (x.now ∷ evaluated)))) (H.outside host.old)) }
+    ensures admission { engine.new.admission ≡ engine.old.admission }
+    ensures evaluated { OnOk result (engine.new.evaluated ≡ engine.old.evaluated + 1) }
+    ensures published { OnOk result (engine.new.published ≤ engine.old.published + 262146) }
+    ensures keeps { OnlySends (H.outside host.old) (H.outside host.new) }
+    ensures causes { Causes result (H.outside host.old) (H.outside host.new) }
+    ensures unread { result ≢ Err Fault.Read }
+    ensures unkept { result ≢ Err Fault.Disk }
+{
+    let before = engine.published;
+    engine.evaluate(x)?;
+    append_messages(outbox, host, before, &engine.messages)
+}
+
+/// Evaluates an accepted record, and appends its messages and its acknowledgement.
+fn answer_record<H: Host>(
+    engine: &mut Engine,
+    outbox: &mut Outbox,
+    host: &mut H,
+    acknowledges: bool,
+    x: &Record,
+) -> Result<(), Fault>
+    requires room { engine.old.published + 524292 < 2 ^ 64 }
+    requires count { engine.old.evaluated + 1 < 2 ^ 64 }
+    ensures represents { (capacity : ℕ) (accepted evaluated : List Record) → Represents engine.old capacity accepted evaluated → verdict capacity evaluated x.now ≡ None
+        → OnOk result (Represents engine.new capacity accepted (x.now ∷ evaluated)) }
+    ensures pending { (capacity : ℕ) (held evaluated : List Record) (begin : Option (List ℕ)) (text : List ℕ) → Represents engine.old capacity held evaluated
+        → verdict capacity evaluated x.now ≡ None → Expects begin (H.outside host.old).sent outbox.old text
+        → OnOk result (Expects begin (H.outside host.new).sent outbox.new (text ++ spelled (with_acknowledgements acknowledges (accepted evaluated x.now)))) }
+    ensures moments { (capacity : ℕ) (held evaluated : List Record) (begin : Option (List ℕ)) (text : List ℕ) → Represents engine.old capacity held evaluated
+        → verdict capacity evaluated x.now ≡ None → Expects begin (H.outside host.old).sent outbox.old text
+        → Elapses (H.outside host.old) (H.outside host.new) (SendsPrefix begin (text ++ spelled (with_acknowledgements acknowledges (accepted evaluated x.now))) (H.outside host.old)) }
+    ensures admission { engine.new.admission ≡ engine.old.admission }
+    ensures evaluated { OnOk result (engine.new.evaluated ≡ engine.old.evaluated + 1) }
+    ensures published { OnOk result (engine.new.published ≤ engine.old.published + 262146) }
+    ensures keeps { OnlySends (H.outside host.old) (H.outside host.new) }
+    ensures causes { Causes result (H.outside host.old) (H.outside host.new) }
+    ensures unread { result ≢ Err Fault.Read }
+    ensures unkept { result ≢ Err Fault.Disk }
+{
+    publish(engine, outbox, host, x)?;
+    acknowledge(outbox, host, acknowledges, engine.evaluated)
+}
+
+/// Appends the refusal of the frame of that number.
+fn refuse<H: Host>(
+    outbox: &mut Outbox,
+    host: &mut H,
+    number: u64,
+    refusal: Refusal,
+) -> Result<(), Fault>
+    ensures pending { (acknowledges : Bool) (begin : Option (List ℕ)) (text : List ℕ) → Expects begin (H.outside host.old).sent outbox.old text
+        → OnOk result (Expects begin (H.outside host.new).sent outbox.new (text ++ spelled (with_acknowledgements acknowledges (refused number refusal)))) }
+    ensures moments { (acknowledges : Bool) (begin : Option (List ℕ)) (text : List ℕ) → Expects begin (H.outside host.old).sent outbox.old text
+        → Elapses (H.outside host.old) (H.outside host.new) (SendsPrefix begin (text ++ spelled (with_acknowledgements acknowledges (refused number refusal))) (H.outside host.old)) }
+    ensures keeps { OnlySends (H.outside host.old) (H.outside host.new) }
+    ensures causes { Causes result (H.outside host.old) (H.outside host.new) }
+    ensures unread { result ≢ Err Fault.Read }
+    ensures unkept { result ≢ Err Fault.Disk }
+{
+    let frame = Frame::Refused {
+        place: number,
+        code: refusal.code(),
+        field: refusal.field(),
+    };
+    outbox.append(host, &frame)
+}
+
+/// Appends what is sent for the frame of that number: messages and an acknowledgement, or its refusal.
+pub fn answer<H: Host>(
+    engine: &mut Engine,
+    outbox: &mut Outbox,
+    host: &mut H,
+    acknowledges: bool,
+    number: u64,
+    outcome: &Outcome,
+) -> Result<(), Fault>
+    requires room { engine.old.published + 524292 < 2 ^ 64 }
+    requires count { engine.old.evaluated + 1 < 2 ^ 64 }
+    ensures represents { (capacity : ℕ) (accepted evaluated : List Record) → Represents engine.old capacity accepted evaluated → IsAdmissible capacity evaluated outcome.now
+        → OnOk result (Represents engine.new capacity accepted (with_record evaluated outcome.now)) }
+    ensures pending { (capacity : ℕ) (accepted evaluated : List Record) (begin : Option (List ℕ)) (text : List ℕ) → Represents engine.old capacity accepted evaluated
+        → IsAdmissible capacity evaluated outcome.now → Expects begin (H.outside host.old).sent outbox.old text
+        → OnOk result (Expects begin (H.outside host.new).sent outbox.new (text ++ spelled (with_acknowledgements acknowledges (reply number evaluated outcome.now)))) }
+    ensures moments { (capacity : ℕ) (accepted evaluated : List Record) (begin : Option (List ℕ)) (text : List ℕ) → Represents engine.old capacity accepted evaluated
+        → IsAdmissible capacity evaluated outcome.now → Expects begin (H.outside host.old).sent outbox.old text
+        → Elapses (H.outside host.old) (H.outside host.new) (SendsPrefix begin (text ++ spelled (with_acknowledgements acknowledges (reply number evaluated outcome.now))) (H.outside host.old)) }
+    ensures admission { engine.new.admission ≡ engine.old.admission }
+    ensures evaluated { OnOk result (engine.new.evaluated ≡ engine.old.evaluated + length (records_in (outcome.now ∷ []))) }
+    ensures published { OnOk result (engine.new.published ≤ engine.old.published + 262146 * length (records_in (outcome.now ∷ []))) }
+    ensures keeps { OnlySends (H.outside host.old) (H.outside host.new) }
+    ensures causes { Causes result (H.outside host.old) (H.outside host.new) }
+    ensures unread { result ≢ Err Fault.Read }
+    ensures unkept { result ≢ Err Fault.Disk }
+{
+    match outcome {
+        Ok(x) => answer_record(engine, outbox, host, acknowledges, x),
+        Err(refusal) => refuse(outbox, host, number, *refusal),
+    }
+}

@@ -1,0 +1,323 @@
+//! A session: from pieces of the input to what is kept and sent.
+
+ghost use Rattle.std.specs.Prelude.{◌≡◌, ◌≢◌, ◌-◌, ◌+◌, ◌*◌, ◌<◌, ◌≤◌, ◌^◌, ◌++◌, ◌∷◌, [], ℕ, Bool, List, Option, None, Err, OnOk, OnErr, IfOk, IsTrue, length, take};
+ghost use Rattle.host_core.specs.Outside.{Outside, Elapses};
+ghost use Rattle.host_core.specs.Frames.{OnlySends, OnlyWrites};
+ghost use Rattle.host_core.specs.Faults.{Causes};
+ghost use Rattle.wire_in.specs.declared.record.Record.{Record};
+ghost use Rattle.wire_in.specs.Spelling.{InRange};
+ghost use Rattle.wire_core.specs.Frames.{framed};
+ghost use Rattle.wire_in.specs.Cutting.{bodies_of, rest_of, is_frame};
+ghost use Rattle.journal_core.specs.Layout.{with_batch};
+ghost use Rattle.rulebook.specs.Sent.{with_record};
+ghost use Rattle.market_core.specs.AdmissionState.{refusal_of};
+ghost use Rattle.engine_core.specs.Pending.{SendsPrefix};
+ghost use Rattle.engine_core.specs.EngineState.{Represents};
+ghost use Rattle.engine_core.specs.Rounds.{Outcome, records_in};
+ghost use Rattle.engine_core.specs.Sessions.{Start, IsSafe, expected};
+ghost use Rattle.engine_core.specs.Answering.{Waits};
+ghost use Rattle.engine_core.specs.Serving.{Serves, IsReady, Keeps, OnlyAnswers};
+
+use crate::engine::{Engine, judge};
+use crate::keeper::Keeper;
+use crate::outbox::Outbox;
+use crate::reply::answer;
+use crate::round::{Outcome, Round};
+use host_core::{Fault, Host};
+use journal_core::BATCH_MAX;
+use price_core::NoMemory;
+use wire_in::Cutter;
+
+/// What is kept from piece to piece: the frame begun, the accepted records' engine, the frames that were judged and wait to
+/// be answered, what waits to be sent, and how many frames were answered.
+#[derive(Drop)]
+pub struct Session {
+    pub cutter: Cutter,
+    pub engine: Engine,
+    pub round: Round,
+    pub outbox: Outbox,
+    pub answered: u64,
+}
+
+/// Admits the record of a frame, where it is accepted.
+fn admit(engine: &mut Engine, outcome: &Outcome) -> Result<(), NoMemory>
+    requires admissible { IfOk outcome.now (λ x. refusal_of engine.old.admission x ≡ None) }
+    ensures represents { (capacity : ℕ) (accepted evaluated : List Record) → Represents engine.old capacity accepted evaluated
+        → OnOk result (Represents engine.new capacity (with_record accepted outcome.now) evaluated) }
+    ensures rest { engine.new ≡ record engine.old { admission = engine.new.admission } }
+    ensures count { OnOk result (engine.new.admission.count ≡ engine.old.admission.count + length (records_in (outcome.now ∷ []))) }
+    ensures within { engine.old.admission.count ≤ engine.old.admission.capacity → OnOk result (engine.new.admission.count ≤ engine.new.admission.capacity) }
+    ensures capacity { engine.new.admission.capacity ≡ engine.old.admission.capacity }
+{
+    match outcome {
+        Ok(x) => engine.admit(x),
+        Err(_) => Ok(()),
+    }
+}
+
+/// Answers the frames of a round, the first of which comes behind so many answered ones.
+fn answer_each<H: Host>(
+    engine: &mut Engine,
+    outbox: &mut Outbox,
+    host: &mut H,
+    acknowledges: bool,
+    answered: u64,
+    outcomes: &[Outcome],
+) -> Result<(), Fault>
+    requires most { length outcomes.now ≤ BATCH_MAX }
+    requires few { engine.old.published ≤ 262146 * engine.old.evaluated }
+    requires small { engine.old.evaluated ≤ 2 ^ 32 + answered }
+    requires answered { answered < 2 ^ 42 }
+    ensures waits { (start : Start) (before waiting : List (List ℕ)) → acknowledges ≡ start.acknowledges
+        → Waits start before waiting answered outcomes.now engine.old outbox.old (H.outside host.old).sent
+        → OnOk result (Waits start (before ++ waiting) [] (answered + length outcomes.now) [] engine.new outbox.new (H.outside host.new).sent) }
+    ensures moments { (start : Start) (before waiting : List (List ℕ)) → acknowledges ≡ start.acknowledges
+        → Waits start before waiting answered outcomes.now engine.old outbox.old (H.outside host.old).sent
+        → Elapses (H.outside host.old) (H.outside host.new) (SendsPrefix start.sent (expected start (before ++ waiting)) (H.outside host.old)) }
+    ensures admission { engine.new.admission ≡ engine.old.admission }
+    ensures evaluated { OnOk result (engine.new.evaluated ≡ engine.old.evaluated + length (records_in outcomes.now)) }
+    ensures few { OnOk result (engine.new.published ≤ 262146 * engine.new.evaluated) }
+    ensures keeps { OnlySends (H.outside host.old) (H.outside host.new) }
+    ensures causes { Causes result (H.outside host.old) (H.outside host.new) }
+    ensures unread { result ≢ Err Fault.Read }
+    ensures unkept { result ≢ Err Fault.Disk }
+{
+    let mut number = answered;
+    for outcome in outcomes {
+        number += 1;
+        answer(engine, outbox, host, acknowledges, number, outcome)?;
+    }
+    Ok(())
+}
+
+/// Answers the frames that wait, whose accepted records are kept.
+fn answer_round<H: Host>(
+    session: &mut Session,
+    host: &mut H,
+    acknowledges: bool,
+) -> Result<(), Fault>
+    requires few { session.old.engine.published ≤ 262146 * session.old.engine.evaluated }
+    requires small { session.old.engine.evaluated ≤ 2 ^ 32 + session.old.answered }
+    requires answered { session.old.answered < 2 ^ 42 }
+    ensures waits { (start : Start) (before waiting : List (List ℕ)) → acknowledges ≡ start.acknowledges
+        → Waits start before waiting session.old.answered session.old.round session.old.engine session.old.outbox (H.outside host.old).sent
+        → OnOk result (Waits start (before ++ waiting) [] session.new.answered [] session.new.engine session.new.outbox (H.outside host.new).sent) }
+    ensures moments { (start : Start) (before waiting : List (List ℕ)) → acknowledges ≡ start.acknowledges
+        → Waits start before waiting session.old.answered session.old.round session.old.engine session.old.outbox (H.outside host.old).sent
+        → Elapses (H.outside host.old) (H.outside host.new) (SendsPrefix start.sent (expected start (before ++ waiting)) (H.outside host.old)) }
+    ensures empty { OnOk result (session.new.round ≡ []) }
+    ensures answered { OnOk result (session.new.answered ≡ session.old.answered + length session.old.round) }
+    ensures cutter { session.new.cutter ≡ session.old.cutter }
+    ensures admission { session.new.engine.admission ≡ session.old.engine.admission }
+    ensures evaluated { OnOk result (session.new.engine.evaluated ≡ session.old.engine.evaluated + length (records_in session.old.round)) }
+    ensures few { OnOk result (session.new.engine.published ≤ 262146 * session.new.engine.evaluated) }
+    ensures keeps { OnlySends (H.outside host.old) (H.outside host.new) }
+    ensures causes { Causes result (H.outside host.old) (H.outside host.new) }
+    ensures unread { result ≢ Err Fault.Read }
+    ensures unkept { result ≢ Err Fault.Disk }
+{
+    answer_each(
+        &mut session.engine,
+        &mut session.outbox,
+        host,
+        acknowledges,
+        session.answered,
+        session.round.outcomes(),
+    )?;
+    session.answered += session.round.len() as u64;
+    session.round.clear();
+    Ok(())
+}
+
+/// Keeps the accepted records of the frames that wait.
+fn keep_round<K: Keeper, H: Host>(
+    session: &Session,
+    keeper: &mut K,
+    host: &mut H,
+) -> Result<(), Fault>
+    requires room { K.has_room keeper.old (H.outside host.old).disk (length (records_in session.now.round)) }
+    ensures moments { (records : List Record) → K.holds keeper.old records (H.outside host.old)
+        → Elapses (H.outside host.old) (H.outside host.new) (Keeps (K.recovers keeper.old (H.outside host.old)) records (records_in session.now.round) (H.outside host.old)) }
+    ensures held { OnOk result ((records : List Record) → K.holds keeper.old records (H.outside host.old)
+        → K.holds keeper.new (with_batch records (records_in session.now.round)) (H.outside host.new)) }
+    ensures before { OnOk result ((records : List Record) (image : List ℕ) → K.recovers keeper.new (H.outside host.new) records image
+        → K.recovers keeper.old (H.outside host.old) records image) }
+    ensures room { OnOk result ((more : ℕ) → K.has_room keeper.old (H.outside host.old).disk (length (records_in session.now.round) + more)
+        → K.has_room keeper.new (H.outside host.new).disk more) }
+    ensures touches { K.touches (H.outside host.old) (H.outside host.new) }
+    ensures keeps { OnlyWrites (H.outside host.old) (H.outside host.new) }
+    ensures causes { Causes result (H.outside host.old) (H.outside host.new) }
+    ensures unread { result ≢ Err Fault.Read }
+    ensures unkept { result ≡ Err Fault.Disk → K.fails }
+{
+    let batch = session.round.accepted();
+    if batch.is_empty() {
+        return Ok(());
+    }
+    keeper.keep(host, batch)
+}
+
+/// Keeps the accepted records of the frames that wait, evaluates them, and answers the frames.
+fn settle<K: Keeper, H: Host>(
+    session: &mut Session,
+    keeper: &mut K,
+    host: &mut H,
+) -> Result<(), Fault>
+    requires ready { IsReady (K.has_room keeper.old (H.outside host.old).disk) session.old }
+    requires few { session.old.answered + length session.old.round < 2 ^ 42 }
+    ensures serves { (start : Start) (bodies : List (List ℕ)) (rest : List ℕ) → start.acknowledges ≡ K.acknowledges
+        → Serves (K.holds keeper.old) start bodies rest session.old (H.outside host.old)
+        → OnOk result (Serves (K.holds keeper.new) start bodies rest session.new (H.outside host.new)) }
+    ensures empty { OnOk result (session.new.round ≡ []) }
+    ensures moments { (start : Start) (bodies : List (List ℕ)) (rest : List ℕ) → start.acknowledges ≡ K.acknowledges
+        → Serves (K.holds keeper.old) start bodies rest session.old (H.outside host.old)
+        → Elapses (H.outside host.old) (H.outside host.new) (IsSafe (K.recovers keeper.old (H.outside host.old)) start bodies) }
+    ensures before { OnOk result ((records : List Record) (image : List ℕ) → K.recovers keeper.new (H.outside host.new) records image
+        → K.recovers keeper.old (H.outside host.old) records image) }
+    ensures ready { OnOk result (IsReady (K.has_room keeper.new (H.outside host.new).disk) session.new) }
+    ensures answered { OnOk result (session.new.answered ≡ session.old.answered + length session.old.round) }
+    ensures touches { K.touches (H.outside host.old) (H.outside host.new) }
+    ensures keeps { OnlyAnswers (H.outside host.old) (H.outside host.new) }
+    ensures causes { Causes result (H.outside host.old) (H.outside host.new) }
+    ensures unread { result ≢ Err Fault.Read }
+    ensures unkept { result ≡ Err Fault.Disk → K.fails }
+{
+    keep_round(session, keeper, host)?;
+    answer_round(session, host, keeper.acknowledges())
+}
+
+impl Session {
+    ghost use Rattle.engine_core.specs.Serving.{Judges, IsSound};
+    ghost use Rattle.engine_core.specs.Answering.{Judged};
+
+    /// A session that has read nothing.
+    pub fn new(engine: Engine, round: Round, outbox: Outbox) -> Session
+        ensures cutter { result.cutter ≡ [] }
+        ensures engine { result.engine ≡ engine }
+        ensures round { result.round ≡ round }
+        ensures outbox { result.outbox ≡ outbox }
+        ensures answered { result.answered ≡ 0 }
+    {
+        Session {
+            cutter: Cutter::new(),
+            engine,
+            round,
+            outbox,
+            answered: 0,
+        }
+    }
+
+    /// Judges the frame that the cutter has whole, and admits its record where it is accepted.
+    fn judge(&mut self) -> Result<(), NoMemory>
+        requires whole { IsTrue (is_frame self.old.cutter) }
+        requires room { length self.old.round < BATCH_MAX }
+        ensures outcome { OnOk result ((body : List ℕ) × (framed body ≡ self.old.cutter)
+            × ((capacity : ℕ) (accepted evaluated : List Record) → Represents self.old.engine capacity accepted evaluated
+            → Judged capacity accepted evaluated body self.old.round self.new.round self.new.engine)) }
+        ensures more { OnOk result (length self.new.round ≡ length self.old.round + 1) }
+        ensures sound { IsSound self.old → OnOk result (IsSound self.new) }
+        ensures rest { self.new ≡ record self.old { engine = record self.old.engine { admission = self.new.engine.admission }; round = self.new.round } }
+        ensures capacity { self.new.engine.admission.capacity ≡ self.old.engine.admission.capacity }
+    {
+        let outcome = judge(&self.engine.admission, self.cutter.body());
+        admit(&mut self.engine, &outcome)?;
+        self.round.push(&outcome);
+        Ok(())
+    }
+
+    /// Takes bytes up to the end of a frame or of the piece, and judges the frame if it is whole. Answers how many bytes
+    /// it took.
+    fn advance(&mut self, piece: &[u8]) -> Result<usize, NoMemory>
+        requires room { length self.old.round < BATCH_MAX }
+        ensures used { IfOk result (λ n. (n ≤ length piece.now) × (0 < length piece.now → 0 < n)) }
+        ensures judges { (start : Start) (read : List ℕ) → Judges start (bodies_of read) (rest_of read) self.old
+            → IfOk result (λ n. Judges start (bodies_of (read ++ take n piece.now)) (rest_of (read ++ take n piece.now)) self.new) }
+        ensures more { OnOk result (length self.new.round ≤ length self.old.round + 1) }
+        ensures sound { IsSound self.old → OnOk result (IsSound self.new) }
+        ensures capacity { self.new.engine.admission.capacity ≡ self.old.engine.admission.capacity }
+        ensures evaluated { self.new.engine.evaluated ≡ self.old.engine.evaluated }
+        ensures outbox { self.new.outbox ≡ self.old.outbox }
+        ensures answered { self.new.answered ≡ self.old.answered }
+    {
+        let cut = self.cutter.take(piece);
+        if !cut.whole {
+            return Ok(cut.used);
+        }
+        self.judge()?;
+        Ok(cut.used)
+    }
+}
+
+/// Takes bytes up to the end of a frame or of the piece, and answers the round once it has as many frames as it may.
+fn step<K: Keeper, H: Host>(
+    session: &mut Session,
+    keeper: &mut K,
+    host: &mut H,
+    frames: usize,
+    piece: &[u8],
+) -> Result<usize, Fault>
+    requires frames { (1 ≤ frames) × (frames ≤ BATCH_MAX) }
+    requires room { length session.old.round < frames }
+    requires ready { IsReady (K.has_room keeper.old (H.outside host.old).disk) session.old }
+    requires few { session.old.answered + length session.old.round + 1 < 2 ^ 42 }
+    ensures used { IfOk result (λ n. (n ≤ length piece.now) × (0 < length piece.now → 0 < n)) }
+    ensures serves { (start : Start) (read : List ℕ) → start.acknowledges ≡ K.acknowledges
+        → Serves (K.holds keeper.old) start (bodies_of read) (rest_of read) session.old (H.outside host.old)
+        → IfOk result (λ n. Serves (K.holds keeper.new) start (bodies_of (read ++ take n piece.now)) (rest_of (read ++ take n piece.now)) session.new (H.outside host.new)) }
+    ensures moments { (start : Start) (read : List ℕ) → start.acknowledges ≡ K.acknowledges
+        → Serves (K.holds keeper.old) start (bodies_of read) (rest_of read) session.old (H.outside host.old)
+        → Elapses (H.outside host.old) (H.outside host.new) (IsSafe (K.recovers keeper.old (H.outside host.old)) start (bodies_of (read ++ piece.now))) }
+    ensures before { OnOk result ((records : List Record) (image : List ℕ) → K.recovers keeper.new (H.outside host.new) records image
+        → K.recovers keeper.old (H.outside host.old) records image) }
+    ensures room { OnOk result (length session.new.round < frames) }
+    ensures ready { OnOk result (IsReady (K.has_room keeper.new (H.outside host.new).disk) session.new) }
+    ensures few { OnOk result (session.new.answered + length session.new.round ≤ session.old.answered + length session.old.round + 1) }
+    ensures touches { K.touches (H.outside host.old) (H.outside host.new) }
+    ensures keeps { OnlyAnswers (H.outside host.old) (H.outside host.new) }
+    ensures causes { Causes result (H.outside host.old) (H.outside host.new) }
+    ensures unread { result ≢ Err Fault.Read }
+    ensures unkept { result ≡ Err Fault.Disk → K.fails }
+{
+    let used = session.advance(piece)?;
+    if session.round.len() < frames {
+        return Ok(used);
+    }
+    settle(session, keeper, host)?;
+    Ok(used)
+}
+
+/// Takes all bytes of a piece, and answers each frame that is whole.
+pub fn feed<K: Keeper, H: Host>(
+    session: &mut Session,
+    keeper: &mut K,
+    host: &mut H,
+    frames: usize,
+    piece: &[u8],
+) -> Result<(), Fault>
+    requires frames { (1 ≤ frames) × (frames ≤ BATCH_MAX) }
+    requires empty { session.old.round ≡ [] }
+    requires ready { IsReady (K.has_room keeper.old (H.outside host.old).disk) session.old }
+    requires few { session.old.answered + length piece.now < 2 ^ 42 }
+    ensures serves { (start : Start) (read : List ℕ) → start.acknowledges ≡ K.acknowledges
+        → Serves (K.holds keeper.old) start (bodies_of read) (rest_of read) session.old (H.outside host.old)
+        → OnOk result (Serves (K.holds keeper.new) start (bodies_of (read ++ piece.now)) (rest_of (read ++ piece.now)) session.new (H.outside host.new)) }
+    ensures moments { (start : Start) (read : List ℕ) → start.acknowledges ≡ K.acknowledges
+        → Serves (K.holds keeper.old) start (bodies_of read) (rest_of read) session.old (H.outside host.old)
+        → Elapses (H.outside host.old) (H.outside host.new) (IsSafe (K.recovers keeper.old (H.outside host.old)) start (bodies_of (read ++ piece.now))) }
+    ensures before { OnOk result ((records : List Record) (image : List ℕ) → K.recovers keeper.new (H.outside host.new) records image
+        → K.recovers keeper.old (H.outside host.old) records image) }
+    ensures empty { OnOk result (session.new.round ≡ []) }
+    ensures ready { OnOk result (IsReady (K.has_room keeper.new (H.outside host.new).disk) session.new) }
+    ensures few { OnOk result (session.new.answered ≤ session.old.answered + length piece.now) }
+    ensures touches { K.touches (H.outside host.old) (H.outside host.new) }
+    ensures keeps { OnlyAnswers (H.outside host.old) (H.outside host.new) }
+    ensures causes { Causes result (H.outside host.old) (H.outside host.new) }
+    ensures unread { result ≢ Err Fault.Read }
+    ensures unkept { result ≡ Err Fault.Disk → K.fails }
+{
+    let mut at = 0;
+    while at < piece.len() {
+        at += step(session, keeper, host, frames, &piece[at..])?;
+    }
+    settle(session, keeper, host)
+}

@@ -1,9 +1,0 @@
-use Rattle.std.proofs.Common.{◌≡◌, take}
-use Rattle.host_core.specs.Effects.{disk_of, image_of}
-use Rattle.host_core.proofs.replay.replayed.Given as goal
-
-abbrev pub invariant-loop-effect : goal.invariant-loop-effect
-invariant-loop-effect l = record {
-  disk : l.disk.items ≡ disk_of l.start (take l.effect-index l.effects);
-  image : l.image.items ≡ image_of l.pick l.start l.start (take l.effect-index l.effects);
-}

@@ -1,0 +1,30 @@
+-- A journal that keeps what a session accepts.
+use Rattle.std.specs.Prelude.{◌≡◌, ℕ, ◌+◌, ◌≤◌, IsTrue, List, Option}
+use Rattle.std.proofs.Common.{sym, ◌∙◌}
+use Rattle.std.proofs.Math.Nat.{le_trans}
+use Rattle.host_core.specs.Outside.{Outside, MayLeave}
+use Rattle.wire_in.specs.declared.record.Record.{Record}
+use Rattle.journal_core.specs.Layout.{Holds}
+use Rattle.journal_core.specs.Journal.{JournalState, IsOfDisk, IsAtRest}
+
+-- the journal may be written, is of this disk, where it is known, and takes up to so many records more
+pub record HasRoom (journal : JournalState) (known : Option (List ℕ)) (more : ℕ) : Type 0 where
+  pub whole : IsTrue journal.whole
+  pub of_disk : IsOfDisk journal known
+  pub room : (n : ℕ) → n ≤ more → journal.count + n ≤ journal.capacity
+
+pub room_for_fewer : (journal : JournalState) (known : Option (List ℕ)) (fewer more : ℕ) → fewer ≤ more → HasRoom journal known more → HasRoom journal known fewer
+room_for_fewer journal known fewer more le has = record { whole = has.whole; of_disk = has.of_disk; room = λ n few. has.room n (le_trans few le) }
+
+-- the journal rests where nothing is written
+pub rests_still : (journal : JournalState) (records : List Record) (old new : Outside) → IsAtRest journal records old → new.disk ≡ old.disk
+    → ((image : List ℕ) → MayLeave new image → MayLeave old image) → IsAtRest journal records new
+rests_still journal records old new rest same left = record {
+  settled = record { only = λ image now. same ∙ rest.settled.only image (left image now) };
+  keeps = λ disk known. rest.keeps disk (sym same ∙ known);
+}
+
+-- and a stop leaves what it holds
+pub held_now : (journal : JournalState) (records : List Record) (now : Outside) (image : List ℕ) → IsAtRest journal records now → MayLeave now image
+    → Holds image journal.capacity records
+held_now journal records now image rest left = record { gate = journal.gate; held = (rest.keeps image (rest.settled.only image left)).held }

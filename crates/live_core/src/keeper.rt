@@ -1,0 +1,56 @@
+//! The journal as the keeper of a session's accepted records.
+
+ghost use Rattle.std.specs.Prelude.{◌≡◌, ◌<◌, ◌+◌, ℕ, List, length, true, OnOk};
+ghost use Rattle.host_core.specs.Outside.{Elapses};
+ghost use Rattle.host_core.specs.Frames.{OnlyWrites};
+ghost use Rattle.host_core.specs.Faults.{Causes};
+ghost use Rattle.wire_in.specs.declared.record.Record.{Record};
+ghost use Rattle.journal_core.specs.Layout.{Holds, with_batch};
+ghost use Rattle.journal_core.specs.Journal.{IsAtRest};
+ghost use Rattle.engine_core.specs.Serving.{Keeps};
+ghost use Rattle.live_core.specs.InternalKeeping.{HasRoom, rests_still, held_now, room_for_fewer};
+
+use engine_core::Keeper;
+use host_core::{Fault, Host};
+use journal_core::{Batch, Journal};
+
+/// Keeps accepted records in a journal, after which they are acknowledged.
+#[derive(Drop)]
+pub struct JournalKeeper {
+    pub journal: Journal,
+}
+
+impl Keeper for JournalKeeper {
+    ghost acknowledges = { true };
+
+    ghost holds = { λ keeper records now. IsAtRest keeper.journal records now };
+
+    ghost recovers = { λ keeper _ records image. Holds image keeper.journal.capacity records };
+
+    ghost has_room = { λ keeper known more. HasRoom keeper.journal known more };
+
+    ghost fails = { Unit {0} };
+
+    ghost touches = { λ _ _. Unit {0} };
+
+    ghost still_held = { λ keeper records old new rest same left. rests_still keeper.journal records old new rest same left };
+
+    ghost recovered_before = { λ _ _ _ _ _ _ holds. holds };
+
+    ghost recovers_now = { λ keeper records now image rest left. held_now keeper.journal records now image rest left };
+
+    ghost room_for_fewer = { λ keeper known fewer more le has. room_for_fewer keeper.journal known fewer more le has };
+
+    ghost untouched = { λ _ _ _ _. tt };
+
+    ghost touches_both = { λ _ _ _ _ _. tt };
+
+    fn acknowledges(&self) -> bool {
+        true
+    }
+
+    fn keep<H: Host>(&mut self, host: &mut H, batch: &Batch) -> Result<(), Fault> {
+        self.journal.append(host, batch)?;
+        Ok(())
+    }
+}

@@ -1,0 +1,6 @@
+pub mod Asked
+mod Requested
+mod Pushed
+mod Remembered
+mod Replayed
+mod Answered

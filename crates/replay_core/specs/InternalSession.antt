@@ -1,0 +1,16 @@
+-- A session of a replay at its start.
+use Rattle.std.specs.Prelude.{◌≡◌, []}
+use Rattle.engine_core.specs.declared.session.Session.{Session}
+use Rattle.engine_core.specs.EngineState.{Represents}
+use Rattle.replay_core.specs.Replayed.{capacity}
+
+-- it has read, accepted and judged nothing, and nothing waits
+pub record IsFresh (session : Session) : Type 0 where
+  pub cutter : session.cutter ≡ []
+  pub round : session.round ≡ []
+  pub answered : session.answered ≡ 0
+  pub engine : Represents session.engine capacity [] []
+  pub none : session.engine.admission.count ≡ 0
+  pub evaluated : session.engine.evaluated ≡ 0
+  pub published : session.engine.published ≡ 0
+  pub outbox : session.outbox ≡ []
