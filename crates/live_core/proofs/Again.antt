@@ -1,71 +1,21 @@
 -- Messages that are asked for again, record by record.
-use Rattle.std.proofs.Common.{◌≡◌, ◌⊎◌, inl, inr, ℕ, zero, suc, ◌+◌, ◌-◌, ◌<◌, ◌≤◌, ◌≢◌, List, [], ◌∷◌, ◌++◌, length, get_or, take, drop, Some, None, refl, sym, ap, subst, ◌∙◌, append_assoc, arith}
-use Rattle.std.specs.Prelude.{Option, min, reverse}
-use Rattle.std.proofs.lemmas.Bool.{cases_lt}
-use Rattle.std.proofs.lemmas.List.{append-nil, reverse-append, drop_all, take-append-drop, take_more}
+use Rattle.std.proofs.Common.{◌≡◌, ℕ, ◌+◌, ◌<◌, ◌≢◌, List, [], ◌∷◌, ◌++◌, length, get_or, take, drop, None, refl, sym, ap, subst, ◌∙◌, append_assoc}
+use Rattle.std.specs.Prelude.{Option, reverse}
+use Rattle.std.proofs.lemmas.List.{append-nil, reverse-append, take-append-drop, take_more}
 use Rattle.host_core.specs.Outside.{Outside, Agrees, Elapses}
 use Rattle.wire_in.specs.declared.record.Record.{Record}
 use Rattle.wire_in.specs.declared.record.Refusal.{Refusal}
-use Rattle.wire_out.specs.declared.message.Frame.{Frame}
 use Rattle.wire_out.specs.declared.message.Stamped.{Stamped}
 use Rattle.rulebook.specs.Admission.{verdict, IsLawful}
 use Rattle.rulebook.specs.Book.{messages_of, newest_messages}
-use Rattle.rulebook.specs.Sent.{spelled, numbered, sent_again}
+use Rattle.rulebook.specs.Sent.{spelled, numbered, sent_again, passed_over}
 use Rattle.market_core.specs.AdmissionState as admission
-use Rattle.rulebook.proofs.Sending.{spelled-append, numbered-append, messages_of-more}
+use Rattle.rulebook.proofs.Sending.{spelled-append, sent_again-more}
 use Rattle.journal_core.specs.Layout.{with_batch}
 use Rattle.engine_core.specs.Pending.{Expects, SendsPrefix}
 use Rattle.engine_core.specs.declared.engine.Engine.{Engine}
 use Rattle.engine_core.proofs.Sending.{sends_on, sends_longer, sends_none}
-use Rattle.live_core.specs.InternalRecovery.{passed_over, again, Resumes, IsRefusedIn, IsPart, CoversBatch}
-
-drop-over : (k : ℕ) (a b : List Frame) → drop k (a ++ b) ≡ drop k a ++ drop (k - length a) b
-drop-over zero a b = let e : 0 ≡ 0 - length a = omega arith in ap (λ (i : ℕ). a ++ drop i b) e
-drop-over (suc k) [] b = let e : suc k ≡ suc k - 0 = omega arith in ap (λ (i : ℕ). drop i b) e
-drop-over (suc k) (f ∷ a) b =
-    let e : k - length a ≡ suc k - suc (length a) = omega arith in drop-over k a b ∙ ap (λ (i : ℕ). drop k a ++ drop i b) e
-
-length-numbered : (n : ℕ) (ms : List Stamped) → length (numbered n ms) ≡ length ms
-length-numbered n [] = refl
-length-numbered n (m ∷ ms) = ap suc (length-numbered (n + 1) ms)
-
-drop-numbered : (k n : ℕ) (ms : List Stamped) → drop k (numbered n ms) ≡ numbered (n + k) (drop k ms)
-drop-numbered zero n ms = ap (λ (i : ℕ). numbered i ms) (omega arith)
-drop-numbered (suc k) n [] = refl
-drop-numbered (suc k) n (m ∷ ms) = drop-numbered k (n + 1) ms ∙ ap (λ (i : ℕ). numbered i (drop k ms)) (omega arith)
-
-none_left : (n k : ℕ) (ms : List Stamped) → length ms ≤ k → numbered (n + k) (drop k ms) ≡ numbered (n + length ms) (drop (length ms) ms)
-none_left n k ms le =
-    ap (λ later. numbered (n + k) later) (drop_all k ms le)
-    ∙ sym (ap (λ later. numbered (n + length ms) later) (drop_all (length ms) ms (omega arith)))
-
-up_to : (n k : ℕ) (ms : List Stamped) → numbered (n + k) (drop k ms) ≡ numbered (n + min k (length ms)) (drop (min k (length ms)) ms)
-up_to n k ms = by (cases_lt (length ms) k) where
-  by : (length ms < k) ⊎ (k ≤ length ms) → numbered (n + k) (drop k ms) ≡ numbered (n + min k (length ms)) (drop (min k (length ms)) ms)
-  by (inl more) = none_left n k ms (omega arith) ∙ ap (λ (i : ℕ). numbered (n + i) (drop i ms)) (omega arith)
-  by (inr within) = ap (λ (i : ℕ). numbered (n + i) (drop i ms)) (omega arith)
-
--- what is sent again for one more record
-sent_again-more : (from : Option ℕ) (x : Record) (held : List Record) (before : ℕ) (ms : List Stamped) → before ≡ length (messages_of held) → ms ≡ newest_messages (x ∷ held)
-    → sent_again from (x ∷ held) ≡ sent_again from held ++ numbered (before + passed_over from before (length ms)) (drop (passed_over from before (length ms)) ms)
-sent_again-more None x held before ms at gave = sym (ap (λ later. numbered (before + length ms) later) (drop_all (length ms) ms (omega arith)))
-sent_again-more (Some from) x held before ms at gave =
-    ap (λ all. drop (from - 1) (numbered 0 all)) (messages_of-more x held)
-    ∙ ap (drop (from - 1)) (numbered-append 0 (messages_of held) (newest_messages (x ∷ held)))
-    ∙ drop-over (from - 1) (numbered 0 (messages_of held)) (numbered (0 + length (messages_of held)) (newest_messages (x ∷ held)))
-    ∙ ap (λ later. drop (from - 1) (numbered 0 (messages_of held)) ++ later)
-    ((λ i. drop (count_is i) (numbered (before_is i) (gave_is i)))
-    ∙ drop-numbered (from - 1 - before) before ms
-    ∙ up_to before (from - 1 - before) ms)
-  where
-    count_is : from - 1 - length (numbered 0 (messages_of held)) ≡ from - 1 - before
-    count_is = ap (λ (n : ℕ). from - 1 - n) (length-numbered 0 (messages_of held) ∙ sym at)
-
-    before_is : 0 + length (messages_of held) ≡ before
-    before_is = omega (arith, at)
-
-    gave_is : newest_messages (x ∷ held) ≡ ms
-    gave_is = sym gave
+use Rattle.live_core.specs.InternalRecovery.{again, Resumes, IsRefusedIn, IsPart, CoversBatch}
 
 -- the text for one more record
 pub again_one : (from : Option ℕ) (x : Record) (held : List Record) (before : ℕ) (ms : List Stamped) → before ≡ length (messages_of held) → ms ≡ newest_messages (x ∷ held)

@@ -1,5 +1,5 @@
 -- What is kept while a journal is read, and what it represents.
-use Rattle.std.specs.Prelude.{◌≡◌, ◌≢◌, ℕ, ◌+◌, ◌-◌, ◌*◌, ◌≤◌, min, List, [], ◌∷◌, ◌++◌, Option, Some, None, Result, Ok, Err}
+use Rattle.std.specs.Prelude.{◌≡◌, ◌≢◌, ℕ, ◌+◌, ◌*◌, ◌≤◌, List, [], ◌∷◌, ◌++◌, Option, Some, None, Result, Ok, Err}
 use Rattle.host_core.specs.declared.status.Status.{Status}
 use Rattle.host_core.specs.declared.status.Status.TheVariants.{SendFault, DiskFault, Damaged, NoJournal, NoMemory}
 use Rattle.host_core.specs.Outside.{Outside, IsSettled, Rose, NoFault, Continues}
@@ -13,11 +13,6 @@ use Rattle.engine_core.specs.declared.engine.Engine.{Engine}
 use Rattle.engine_core.specs.EngineState.{Represents}
 use Rattle.engine_core.specs.Pending.{Expects}
 use Rattle.live_core.specs.declared.recovery.Recovery.{Recovery}
-
--- how many of a record's messages are not asked for again, where so many messages came before them
-abbrev pub passed_over : Option ℕ → ℕ → ℕ → ℕ
-passed_over None before count = count
-passed_over (Some from) before count = min (from - 1 - before) count
 
 -- the messages of these records that are asked for again, spelled
 abbrev pub again : Option ℕ → List Record → List ℕ

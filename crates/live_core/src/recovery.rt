@@ -6,14 +6,14 @@ ghost use Rattle.host_core.specs.Frames.{OnlySends};
 ghost use Rattle.host_core.specs.Faults.{Causes};
 ghost use Rattle.wire_in.specs.declared.record.Record.{Record};
 ghost use Rattle.rulebook.specs.Admission.{verdict};
-ghost use Rattle.rulebook.specs.Sent.{spelled, numbered, hello};
+ghost use Rattle.rulebook.specs.Sent.{spelled, numbered, hello, passed_over};
 ghost use Rattle.wire_out.specs.Spelling.{spelling};
 ghost use Rattle.market_core.specs.AdmissionState.{refusal_of};
 ghost use Rattle.journal_core.specs.Layout.{with_batch};
 ghost use Rattle.engine_core.specs.EngineState as engines;
 ghost use Rattle.engine_core.specs.Pending.{Expects, SendsPrefix};
 ghost use Rattle.live_core.specs.InternalServing.{IsRestored, IsUnread};
-ghost use Rattle.live_core.specs.InternalRecovery.{passed_over, again, IsSmall, Resumes, IsRefusedIn, CoversBatch};
+ghost use Rattle.live_core.specs.InternalRecovery.{again, IsSmall, Resumes, IsRefusedIn, CoversBatch};
 
 use crate::keeper::JournalKeeper;
 use engine_core::{Engine, Outbox, Round, Session, append_messages};
