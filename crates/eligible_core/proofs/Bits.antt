@@ -66,6 +66,14 @@ has_barring_bit-is flags false none =
 has_barring_bit-is flags true some =
     sym (ne_eqb _ 0 (λ none. both_ways (has_barring_bit flags) (any-none (bars flags) (range_with_len 0 16) (λ bit. bars-zero flags bit none)) some))
 
+not_not : (b : Bool) → not (not b) ≡ b
+not_not true = refl
+not_not false = refl
+
+-- so one mask tells whether one of the bits bars
+pub mask_bars : (flags : ℕ) → not (bit_and flags barring_bits == 0) ≡ has_barring_bit flags
+mask_bars flags = ap not (sym (has_barring_bit-is flags _ refl)) ∙ not_not (has_barring_bit flags)
+
 -- in the session a trade counts where none of its bits bars it
 pub eligible-in_session : (flags t : ℕ) (day : Day) → true ≡ in_session t day → not (has_barring_bit flags) ≡ eligible flags t day
 eligible-in_session flags t day inside =

@@ -6,4 +6,5 @@ mod condition;
 mod tests;
 mod trade;
 
+pub use condition::Condition;
 pub use trade::{eligible, opening};

@@ -69,7 +69,6 @@ fn the_lowest_bit_marks_an_opening_trade(rt: HostRuntime) {
 
 #[test]
 fn the_six_upper_bits_are_not_assigned(rt: HostRuntime) {
-    use crate::condition::Condition;
     for bit in 10..16 {
         assert_eq!(rt; Condition::of(bit), Condition::NotAssigned, "of {bit}");
     }

@@ -1,8 +1,10 @@
 ghost use Rattle.std.specs.Prelude.{◌≡◌, ◌<◌};
 ghost use Rattle.eligible_core.specs.Conditions.{eligible, is_opening_trade, has_barring_bit, is_set};
 
-use crate::condition::Condition;
 use session_core::{Day, Moment, in_session};
+
+/// The condition bits that bar a trade: those of which `Condition::of` says so.
+const BARRING_BITS: u16 = 0b1111_1110;
 
 /// Whether a trade with these condition bits counts in means and for the short sale restriction: it is in the session,
 /// and none of its bits bars it. The six upper bits are not assigned, and bar nothing.
@@ -23,7 +25,7 @@ pub fn opening(flags: u16) -> bool
 fn has_barring_bit(flags: u16) -> bool
     ensures { result ≡ has_barring_bit flags }
 {
-    (0..16).any(|bit| is_set(flags, bit) && Condition::of(bit) == Condition::Bars)
+    flags & BARRING_BITS != 0
 }
 
 /// Whether the condition bit of that number is set.

@@ -1,5 +1,5 @@
 -- How a session ends.
-use Rattle.std.proofs.Common.{◌≡◌, ℕ, ◌+◌, ◌<◌, ◌≤◌, ◌==◌, true, false, cond, List, length, take, sym, ap, subst, ◌∙◌, arith}
+use Rattle.std.proofs.Common.{◌≡◌, ◌⊎◌, inl, inr, ℕ, ◌≤◌, ◌==◌, cond, List, length, take, subst, ◌∙◌, arith}
 use Rattle.std.specs.Prelude.{min, nat_le}
 use Rattle.std.proofs.lemmas.List.{take_all}
 use Rattle.std.proofs.lemmas.Bool.Decides.{nat_tests}
@@ -11,23 +11,17 @@ use Rattle.wire_in.specs.Cutting.{rest_of}
 use Rattle.engine_core.specs.Ends.{end_of}
 use Rattle.engine_core.specs.Sessions.{Start, Answered}
 
-module _ (holds : List Record → Outside → Type 0) (start : Start) (input : List ℕ) (most read : ℕ) (now : Outside) where
-  -- the input's end came before the most bytes of the session
-  pub last_end : (n : ℕ) (status : Status) → read < most → read ≡ length input → Answered holds start input read now
-      → status ≡ (cond (length (rest_of (take (read + n) input)) == 0) Done Truncated) → n ≡ 0
-      → (status ≡ end_of most input) × Answered holds start input (min most (length input)) now
-  last_end n status lt all answered is none =
-      let whole : take (read + n) input ≡ input = take_all (read + n) input (omega (arith, all)) in
-      let early : nat_le most (length input) ≡ false = grind (arith, nat_tests) in (
-        is ∙ ap (λ bytes. cond (length (rest_of bytes) == 0) Done Truncated) whole ∙ ap (λ b. cond b SessionFull (cond (length (rest_of input) == 0) Done Truncated)) (sym early),
-        subst (λ (k : ℕ). Answered holds start input k now) (omega arith) answered,
-      )
+-- the input was read to its end, or the most bytes were read
+pub ends : {holds : List Record → Outside → Type 0} {start : Start} {input : List ℕ} {read : ℕ} {now : Outside} (most : ℕ) (status : Status) → read ≤ most → Answered holds start input read now
+    → (read ≡ length input) ⊎ (read ≡ most) → status ≡ cond (nat_le most read) SessionFull (cond (length (rest_of (take read input)) == 0) Done Truncated)
+    → (status ≡ end_of most input) × Answered holds start input (min most (length input)) now
+ends {holds} {start} {input} {read} {now} most status le answered either is = (by either, subst (λ (k : ℕ). Answered holds start input k now) (fewer either) answered) where
+  fewer : (read ≡ length input) ⊎ (read ≡ most) → read ≡ min most (length input)
+  fewer (inl all) = omega (arith, le, all)
+  fewer (inr full) = omega (arith, full, answered.there)
 
-  -- the most bytes were read
-  pub full_end : read ≤ most → most ≤ read → read ≤ length input → Answered holds start input read now
-      → (SessionFull ≡ end_of most input) × Answered holds start input (min most (length input)) now
-  full_end le ge there answered =
-      let reached : nat_le most (length input) ≡ true = grind (arith, nat_tests) in (
-        ap (λ b. cond b SessionFull (cond (length (rest_of input) == 0) Done Truncated)) (sym reached),
-        subst (λ (k : ℕ). Answered holds start input k now) (omega arith) answered,
-      )
+  by : (read ≡ length input) ⊎ (read ≡ most) → status ≡ end_of most input
+  by (inl all) =
+      let whole : take read input ≡ input = take_all read input (omega (arith, all)) in
+      is ∙ (λ i. cond (nat_le most (all i)) SessionFull (cond (length (rest_of (whole i)) == 0) Done Truncated))
+  by (inr full) = grind (arith, nat_tests, is, full, answered.there)

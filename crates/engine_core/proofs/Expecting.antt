@@ -1,6 +1,5 @@
 -- What is expected for more frames, and what is safe for them.
-use Rattle.std.proofs.Common.{◌≡◌, ℕ, ◌+◌, ◌≤◌, Bool, true, false, List, [], ◌∷◌, ◌++◌, length, take, drop, refl, sym, ap, subst, ◌∙◌, append_assoc, length-append, arith}
-use Rattle.std.specs.Prelude.{Option}
+use Rattle.std.proofs.Common.{◌≡◌, ℕ, ◌+◌, Bool, true, false, List, [], ◌∷◌, ◌++◌, length, take, drop, refl, sym, ap, subst, ◌∙◌, append_assoc, length-append, arith}
 use Rattle.std.specs.Io.KnownBytes.{append_known}
 use Rattle.std.proofs.lemmas.List.{append-nil, take_at, take-append-le, take-append-drop}
 use Rattle.host_core.specs.Outside.{Outside, Agrees, MayLeave}
@@ -10,8 +9,9 @@ use Rattle.wire_in.proofs.Cuts.{bodies_of-append}
 use Rattle.wire_out.specs.declared.message.Frame.{Frame}
 use Rattle.rulebook.specs.Sent.{spelled, replies, reply, judged, with_record, accepted_of}
 use Rattle.rulebook.proofs.Sending.{spelled-append, replies-append, accepted_of-append, unacknowledged-append}
-use Rattle.engine_core.specs.Pending.{Expects, SendsPrefix}
+use Rattle.engine_core.specs.Pending.{SendsPrefix}
 use Rattle.engine_core.specs.Sessions.{Start, held_after, expected, with_acknowledgements, IsSafe}
+use Rattle.engine_core.proofs.Sending.{prefix_of_longer}
 
 with_acknowledgements-append : (acknowledges : Bool) (a b : List Frame) → with_acknowledgements acknowledges (a ++ b) ≡ with_acknowledgements acknowledges a ++ with_acknowledgements acknowledges b
 with_acknowledgements-append true a b = refl
@@ -45,6 +45,11 @@ held-more start a b = accepted_of-append start.capacity start.held a b
 pub held-one : (start : Start) (a : List (List ℕ)) (body : List ℕ) → held_after start (a ++ body ∷ []) ≡ with_record (held_after start a) (judged start.capacity (held_after start a) body)
 held-one start a body = held-more start a (body ∷ [])
 
+-- these are the first of all bytes
+pub record Begins (front all : List ℕ) : Type 0 where
+  pub more : List ℕ
+  pub whole : front ++ more ≡ all
+
 module _ (recovers : List Record → List ℕ → Type 0) (start : Start) where
   -- what some frames gave is recovered, and a prefix of what is expected for them was sent
   pub safe_of : (a b : List (List ℕ)) (image bytes since unsent : List ℕ) → recovers (held_after start a) image → Agrees (append_known start.sent since) bytes → since ++ unsent ≡ expected start a
@@ -61,26 +66,30 @@ module _ (recovers : List Record → List ℕ → Type 0) (start : Start) where
         prefix = prefix ∙ ap (expected start) same;
       }
 
-  -- what is safe for some frames is safe for more
-  pub safe_more : (a b : List (List ℕ)) (image bytes : List ℕ) → IsSafe recovers start a image bytes → IsSafe recovers start (a ++ b) image bytes
-  safe_more a b image bytes safe =
-      let le : safe.count ≤ length a = safe.within in
-      let same : take safe.count a ≡ take safe.count (a ++ b) = sym (take-append-le safe.count a b le) in
+  -- what is safe for some frames is safe for more, and by a wider test of images
+  safe_wider : (wider : List Record → List ℕ → Type 0) → ((records : List Record) (image : List ℕ) → recovers records image → wider records image)
+      → (a b : List (List ℕ)) (image bytes : List ℕ) → IsSafe recovers start a image bytes → IsSafe wider start (a ++ b) image bytes
+  safe_wider wider more a b image bytes safe =
+      let same : take safe.count a ≡ take safe.count (a ++ b) = sym (take-append-le safe.count a b safe.within) in
       record {
         count = safe.count;
-        within = omega (arith, le, length-append a b);
-        recovered = subst (λ (bodies : List (List ℕ)). recovers (held_after start bodies) image) same safe.recovered;
+        within = omega (arith, safe.within, length-append a b);
+        recovered = more _ image (subst (λ (bodies : List (List ℕ)). recovers (held_after start bodies) image) same safe.recovered);
         since = safe.since;
         unsent = safe.unsent;
         sent = safe.sent;
         prefix = safe.prefix ∙ ap (expected start) same;
       }
 
+  pub safe_more : (a b : List (List ℕ)) (image bytes : List ℕ) → IsSafe recovers start a image bytes → IsSafe recovers start (a ++ b) image bytes
+  safe_more = safe_wider recovers (λ records image recovered. recovered)
+
   -- and so for more bytes
-  pub safe_further : (read more image bytes : List ℕ) → IsSafe recovers start (bodies_of read) image bytes → IsSafe recovers start (bodies_of (read ++ more)) image bytes
-  safe_further read more image bytes safe =
-      subst (λ (bodies : List (List ℕ)). IsSafe recovers start bodies image bytes) (sym (bodies_of-append read more))
-      (safe_more (bodies_of read) (bodies_of (rest_of read ++ more)) image bytes safe)
+  pub safe_further : {front all : List ℕ} → Begins front all → (wider : List Record → List ℕ → Type 0) → ((records : List Record) (image : List ℕ) → recovers records image → wider records image)
+      → (image bytes : List ℕ) → IsSafe recovers start (bodies_of front) image bytes → IsSafe wider start (bodies_of all) image bytes
+  safe_further {front = front} begins wider more image bytes safe =
+      subst (λ (bodies : List (List ℕ)). IsSafe wider start bodies image bytes) (sym (bodies_of-append front begins.more) ∙ ap bodies_of begins.whole)
+      (safe_wider wider more (bodies_of front) (bodies_of (rest_of front ++ begins.more)) image bytes safe)
 
   -- while a prefix of what is expected for all frames is sent, what they gave is recovered
   pub safe_sends : (bodies : List (List ℕ)) (now : Outside) (image bytes : List ℕ) → recovers (held_after start bodies) image → SendsPrefix start.sent (expected start bodies) now image bytes
@@ -88,25 +97,6 @@ module _ (recovers : List Record → List ℕ → Type 0) (start : Start) where
   safe_sends bodies now image bytes recovered stop =
       subst (λ (all : List (List ℕ)). IsSafe recovers start all image bytes) (append-nil bodies)
       (safe_of bodies [] image bytes stop.sent stop.rest recovered stop.known stop.prefix)
-
-  -- before anything more is sent
-  pub safe_expects : (a b : List (List ℕ)) {now : Option (List ℕ)} {waiting : List ℕ} (image bytes : List ℕ) → recovers (held_after start a) image → Expects start.sent now waiting (expected start a) → Agrees now bytes
-      → IsSafe recovers start (a ++ b) image bytes
-  safe_expects a b {now} {waiting} image bytes recovered expects sent =
-      safe_of a b image bytes expects.sent waiting recovered (subst (λ (known : Option (List ℕ)). Agrees known bytes) expects.known sent) expects.whole
-
-  -- what is safe by one test of images is safe by a wider one
-  pub safe_by : (wider : List Record → List ℕ → Type 0) → ((records : List Record) (image : List ℕ) → recovers records image → wider records image)
-      → (bodies : List (List ℕ)) (image bytes : List ℕ) → IsSafe recovers start bodies image bytes → IsSafe wider start bodies image bytes
-  safe_by wider more bodies image bytes safe = record {
-    count = safe.count;
-    within = safe.within;
-    recovered = more (held_after start (take safe.count bodies)) image safe.recovered;
-    since = safe.since;
-    unsent = safe.unsent;
-    sent = safe.sent;
-    prefix = safe.prefix;
-  }
 
 -- before the first frame
 pub expected-none : (start : Start) → expected start [] ≡ start.opening
@@ -124,12 +114,6 @@ pub safe_prefix : (start : Start) (bodies : List (List ℕ)) (now : Outside) (im
 safe_prefix start bodies now image bytes recovers left safe =
     let first = take safe.count bodies in
     let later = drop safe.count bodies in
-    let all : first ++ later ≡ bodies = take-append-drop safe.count bodies in
-    record {
-      was = left (held_after start first) image safe.recovered;
-      sent = safe.since;
-      rest = safe.unsent ++ added start first later;
-      known = safe.sent;
-      prefix = sym (append_assoc safe.since safe.unsent (added start first later)) ∙ ap (λ (bytes : List ℕ). bytes ++ added start first later) safe.prefix
-          ∙ sym (expected-more start first later) ∙ ap (expected start) all;
-    }
+    let was : MayLeave now image = left (held_after start first) image safe.recovered in
+    prefix_of_longer (expected start first) (added start first later) _ (sym (expected-more start first later) ∙ ap (expected start) (take-append-drop safe.count bodies)) image bytes
+    was (record { was = was; sent = safe.since; rest = safe.unsent; known = safe.sent; prefix = safe.prefix })

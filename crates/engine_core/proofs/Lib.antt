@@ -2,16 +2,12 @@ pub mod Pending
 pub mod Sending
 pub mod Messages
 pub mod Taken
-pub mod Room
-pub mod Cuts
-pub mod Pieces
 pub mod Rounds
 pub mod Expecting
 pub mod Answering
 pub mod Keeping
-pub mod Judging
-pub mod Feeding
 pub mod Reading
 pub mod Asking
 pub mod Ending
+pub mod Statuses
 pub mod Beginning

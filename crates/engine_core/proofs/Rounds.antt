@@ -15,9 +15,9 @@ outcomes-append capacity held [] b = refl
 outcomes-append capacity held (body ∷ a) b =
     ap (λ (later : List Outcome). judged capacity held body ∷ later) (outcomes-append capacity (with_record held (judged capacity held body)) a b)
 
-pub length-outcomes : (capacity : ℕ) (held : List Record) (bodies : List (List ℕ)) → length (outcomes_of capacity held bodies) ≡ length bodies
-length-outcomes capacity held [] = refl
-length-outcomes capacity held (body ∷ later) = omega (arith, length-outcomes capacity (with_record held (judged capacity held body)) later)
+pub no_outcome : (capacity : ℕ) (held : List Record) (bodies : List (List ℕ)) → [] ≡ outcomes_of capacity held bodies → bodies ≡ []
+no_outcome capacity held [] is = refl
+no_outcome capacity held (body ∷ later) is = absurd cc
 
 -- a batch with one record less, held behind it
 one_record : (held : List Record) (outcome : Outcome) (later : List Outcome) → with_batch held (records_in (outcome ∷ later)) ≡ with_batch (with_record held outcome) (records_in later)

@@ -1,9 +1,9 @@
 -- The stops while frames are sent.
-use Rattle.std.proofs.Common.{◌≡◌, ℕ, List, ◌++◌, take, drop, sym, ap, subst, ◌∙◌, append_assoc}
+use Rattle.std.proofs.Common.{◌≡◌, ℕ, List, [], ◌++◌, take, drop, sym, ap, subst, ◌∙◌, append_assoc}
 use Rattle.std.specs.Prelude.{Option}
 use Rattle.std.specs.Io.KnownBytes.{append_known}
-use Rattle.std.proofs.lemmas.List.{take-append-drop}
-use Rattle.host_core.specs.Outside.{Outside, Agrees, Elapses, Sends, Stays}
+use Rattle.std.proofs.lemmas.List.{append-nil, take-append-drop}
+use Rattle.host_core.specs.Outside.{Outside, Agrees, MayLeave, Elapses, Sends, Stays}
 use Rattle.host_core.proofs.Moments.{ended, goes_on, nothing, widened}
 use Rattle.host_core.proofs.Known.{append_known-append}
 use Rattle.engine_core.specs.Pending.{Expects, SendsPrefix}
@@ -37,32 +37,25 @@ sends_prefix begin old piece waiting text expects same image bytes stop = record
 }
 
 -- a prefix of a text is one of a longer text
-pub prefix_of_longer : {begin : Option (List ℕ)} {old : Outside} (text more long : List ℕ) → text ++ more ≡ long
-    → (image bytes : List ℕ) → SendsPrefix begin text old image bytes → SendsPrefix begin long old image bytes
-prefix_of_longer text more long is image bytes stop = record {
-  was = stop.was;
+pub prefix_of_longer : {begin : Option (List ℕ)} {old mid : Outside} (text more long : List ℕ) → text ++ more ≡ long
+    → (image bytes : List ℕ) → MayLeave old image → SendsPrefix begin text mid image bytes → SendsPrefix begin long old image bytes
+prefix_of_longer text more long is image bytes was stop = record {
+  was = was;
   sent = stop.sent;
   rest = stop.rest ++ more;
   known = stop.known;
   prefix = sym (append_assoc stop.sent stop.rest more) ∙ ap (λ b. b ++ more) stop.prefix ∙ is;
 }
 
--- what a stop leaves after a run that only sends, it might have left before
-pub since_begin : {begin : Option (List ℕ)} {old mid : Outside} {long : List ℕ} → Elapses old mid (SendsPrefix begin long old)
-    → (text more : List ℕ) → text ++ more ≡ long → (image bytes : List ℕ) → SendsPrefix begin text mid image bytes → SendsPrefix begin long old image bytes
-since_begin {old = old} {mid = mid} {long = long} run text more is image bytes stop =
-    let here : SendsPrefix _ long mid image bytes = prefix_of_longer text more long is image bytes stop in
-    record { was = (ended run stop.was).was; sent = here.sent; rest = here.rest; known = here.known; prefix = here.prefix }
-
 -- a run that sends a prefix of a text, and then one that sends a prefix of a part of it
 pub sends_on : {begin : Option (List ℕ)} {old mid new : Outside} {long : List ℕ} → Elapses old mid (SendsPrefix begin long old)
     → (text more : List ℕ) → text ++ more ≡ long → Elapses mid new (SendsPrefix begin text mid) → Elapses old new (SendsPrefix begin long old)
-sends_on first text more is second = goes_on first second (since_begin first text more is)
+sends_on first text more is second = goes_on first second (λ image bytes stop. prefix_of_longer text more _ is image bytes (ended first stop.was).was stop)
 
 -- a run that sends a prefix of a text
 pub sends_longer : {begin : Option (List ℕ)} {old new : Outside} (text more long : List ℕ) → text ++ more ≡ long
     → Elapses old new (SendsPrefix begin text old) → Elapses old new (SendsPrefix begin long old)
-sends_longer {begin} {old} text more long is run = widened run (SendsPrefix begin long old) (prefix_of_longer text more long is)
+sends_longer {begin} {old} text more long is run = widened run (SendsPrefix begin long old) (λ image bytes stop. prefix_of_longer text more long is image bytes stop.was stop)
 
 pub sends_same : {begin : Option (List ℕ)} {old new : Outside} (text same : List ℕ) → text ≡ same
     → Elapses old new (SendsPrefix begin text old) → Elapses old new (SendsPrefix begin same old)
@@ -72,3 +65,9 @@ sends_same {begin} {old} {new} text same is run = subst (λ (t : List ℕ). Elap
 pub sends_none : {begin : Option (List ℕ)} (now : Outside) → ((image bytes : List ℕ) → now.leaves now.moment image bytes → Agrees now.sent bytes)
     → (waiting text : List ℕ) → Expects begin now.sent waiting text → Elapses now now (SendsPrefix begin text now)
 sends_none {begin} now sent_now waiting text expects = widened (nothing now sent_now) (SendsPrefix begin text now) (waits begin now waiting text expects)
+
+-- a run that sends all of a text, and then one that sends nothing
+pub sends_stays : {begin : Option (List ℕ)} {old mid new : Outside} {text : List ℕ} → Elapses old mid (SendsPrefix begin text old) → mid.sent ≡ append_known begin text → Elapses mid new (Stays mid)
+    → Elapses old new (SendsPrefix begin text old)
+sends_stays {begin} {mid = mid} {text = text} first all second =
+    sends_on first text [] (append-nil text) (widened second (SendsPrefix begin text mid) (waits begin mid [] text (record { sent = text; known = all; whole = append-nil text })))

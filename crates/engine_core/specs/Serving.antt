@@ -1,56 +1,47 @@
 -- What a session keeps, and what it represents.
-use Rattle.std.specs.Prelude.{◌≡◌, ◌⊎◌, ℕ, ◌+◌, ◌-◌, ◌*◌, ◌^◌, ◌≤◌, List, ◌++◌, length, take, drop, Some}
-use Rattle.std.specs.Io.KnownBytes.{append_known}
-use Rattle.host_core.specs.Outside.{Outside, Agrees, Continues}
+use Rattle.std.specs.Prelude.{◌≡◌, ◌⊎◌, ℕ, ◌+◌, ◌-◌, ◌*◌, ◌^◌, ◌≤◌, List, [], length, take, drop, Option, Some, option_map}
+use Rattle.host_core.specs.Outside.{Outside, Agrees, MayLeave, Continues}
 use Rattle.wire_in.specs.declared.record.Record.{Record}
 use Rattle.wire_in.specs.Cutting.{pending, bodies_of, rest_of}
 use Rattle.journal_core.specs.Layout.{with_batch}
+use Rattle.market_core.specs.MarketState.{most_messages}
+use Rattle.engine_core.specs.declared.engine.Engine.{Engine}
 use Rattle.engine_core.specs.declared.session.Session.{Session}
+use Rattle.engine_core.specs.Answering.{Waits}
 use Rattle.engine_core.specs.Pending.{Expects}
-use Rattle.engine_core.specs.EngineState.{Represents}
-use Rattle.engine_core.specs.Rounds.{outcomes_of, records_in}
+use Rattle.engine_core.specs.Rounds.{Outcome, records_in}
 use Rattle.engine_core.specs.Sessions.{Start, held_after, expected}
 
--- The frames of these bodies were judged, and those that wait to be answered are the session's round; these bytes of a
--- further frame were taken.
-pub record Judges (start : Start) (bodies : List (List ℕ)) (rest : List ℕ) (session : Session) : Type 0 where
-  pub cutter : pending session.cutter ≡ rest
-  pub judged : length bodies ≡ session.answered + length session.round
-  pub round : session.round ≡ outcomes_of start.capacity (held_after start (take session.answered bodies)) (drop session.answered bodies)
-  pub engine : Represents session.engine start.capacity (held_after start bodies) (held_after start (take session.answered bodies))
+-- The whole frames of the bytes read were judged, these of them were answered, and the others wait in the session's round;
+-- the rest of the bytes is the frame begun.
+pub record Judges (start : Start) (answered : List (List ℕ)) (read : List ℕ) (session : Session) : Type 0 where
+  pub cutter : pending session.cutter ≡ rest_of read
+  pub waits : Waits start answered (bodies_of read) session.answered session.round session.engine
 
 -- and what the answered frames gave is held, and was sent but for what is pending
-pub record Serves (holds : List Record → Outside → Type 0) (start : Start) (bodies : List (List ℕ)) (rest : List ℕ) (session : Session) (now : Outside) : Type 0 where
-  pub judges : Judges start bodies rest session
-  pub held : holds (held_after start (take session.answered bodies)) now
-  pub pending_is : Expects start.sent now.sent session.outbox (expected start (take session.answered bodies))
+pub record Serves (holds : List Record → Outside → Type 0) (start : Start) (read : List ℕ) (session : Session) (now : Outside) : Type 0 where
+  pub answered : List (List ℕ)
+  pub judges : Judges start answered read session
+  pub held : holds (held_after start answered) now
+  pub pending_is : Expects start.sent now.sent session.outbox (expected start answered)
 
 -- so many bytes of the input were read, and their whole frames answered
 pub record Reads (holds : List Record → Outside → Type 0) (start : Start) (input : List ℕ) (count : ℕ) (session : Session) (now : Outside) : Type 0 where
   pub input_left : now.input ≡ Some (drop count input)
   pub there : count ≤ length input
-  pub serves : Serves holds start (bodies_of (take count input)) (rest_of (take count input)) session now
-
--- after all was sent for so many bytes of the input, n more were read, which stand at the front of the buffer
-pub record HasRead (holds : List Record → Outside → Type 0) (start : Start) (input : List ℕ) (count n : ℕ) (session : Session) (now : Outside) (buffer : List ℕ) : Type 0 where
-  pub input_left : now.input ≡ Some (drop (count + n) input)
-  pub there : count + n ≤ length input
-  pub bytes : take (count + n) input ≡ take count input ++ take n buffer
-  pub end : n ≡ 0 → count ≡ length input
-  pub sent : now.sent ≡ append_known start.sent (expected start (bodies_of (take count input)))
-  pub serves : Serves holds start (bodies_of (take count input)) (rest_of (take count input)) session now
+  pub serves : Serves holds start (take count input) session now
 
 -- Admission has accepted what was evaluated and what waits, within its capacity, and counts stay far below the ends of
 -- their types.
-pub record IsSound (session : Session) : Type 0 where
-  pub within : session.engine.admission.count ≤ session.engine.admission.capacity
-  pub count : session.engine.admission.count ≡ session.engine.evaluated + length (records_in session.round)
-  pub few : session.engine.published ≤ 262146 * session.engine.evaluated
-  pub small : session.engine.evaluated ≤ 2 ^ 32 + session.answered
+pub record IsSound (engine : Engine) (outcomes : List Outcome) (answered : ℕ) : Type 0 where
+  pub within : engine.admission.count ≤ engine.admission.capacity
+  pub count : engine.admission.count ≡ engine.evaluated + length (records_in outcomes)
+  pub few : engine.published ≤ most_messages * engine.evaluated
+  pub small : engine.evaluated ≤ 2 ^ 32 + answered
 
 -- and the keeper has room for every record that admission may still accept
 pub record IsReady (has_room : ℕ → Type 0) (session : Session) : Type 0 where
-  pub sound : IsSound session
+  pub sound : IsSound session.engine session.round session.answered
   pub room : has_room (session.engine.admission.capacity - session.engine.evaluated)
 
 -- a keep leaves the records as they were or with the batch, and sends nothing
@@ -58,9 +49,25 @@ pub record Keeps (recovers : List Record → List ℕ → Type 0) (records batch
   pub either : recovers records image ⊎ recovers (with_batch records batch) image
   pub sent : Agrees old.sent bytes
 
--- the input is not read
-pub record OnlyAnswers (old new : Outside) : Type 0 where
+-- the input is not read, and to the disk that alone is done which may be
+pub record OnlyAnswers (touches : Outside → Outside → Type 0) (old new : Outside) : Type 0 where
   pub input : new.input ≡ old.input
   pub asks : new.asks ≡ old.asks
   pub read_faults : new.read_faults ≡ old.read_faults
+  pub continues : Continues old new
+  pub to_disk : touches old new
+
+-- at most so many bytes were taken from the front of the input, none only at its end or where none may be
+pub record TakesPiece (most : ℕ) (old new : Option (List ℕ)) (into : List ℕ) (n : ℕ) : Type 0 where
+  pub within : n ≤ most
+  pub left : new ≡ option_map (λ input. drop n input) old
+  pub given : (input : List ℕ) → old ≡ Some input → take n into ≡ take n input
+  pub there : (input : List ℕ) → old ≡ Some input → n ≤ length input
+  pub end : (input : List ℕ) → old ≡ Some input → n ≡ 0 → (input ≡ []) ⊎ (most ≡ 0)
+
+-- bytes are sent and the input is read, and the disk is left alone
+pub record OnlyExchanges (old new : Outside) : Type 0 where
+  pub disk : new.disk ≡ old.disk
+  pub left : (image : List ℕ) → MayLeave new image → MayLeave old image
+  pub disk_faults : new.disk_faults ≡ old.disk_faults
   pub continues : Continues old new

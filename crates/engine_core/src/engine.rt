@@ -8,6 +8,7 @@ ghost use Rattle.rulebook.specs.Sent.{judged};
 ghost use Rattle.rulebook.specs.Book.{newest_messages};
 ghost use Rattle.market_core.specs.AdmissionState as admissions;
 ghost use Rattle.market_core.specs.AdmissionState.{refusal_of};
+ghost use Rattle.market_core.specs.MarketState.{most_messages};
 
 use crate::round::Outcome;
 use market_core::{Admission, Market};
@@ -76,7 +77,7 @@ impl Engine {
     /// Evaluates the oldest of the accepted records that wait, and keeps its messages. After an error the engine is of no
     /// further use.
     pub fn evaluate(&mut self, x: &Record) -> Result<(), NoMemory>
-        requires room { self.old.published + 262146 < 2 ^ 64 }
+        requires room { self.old.published + most_messages < 2 ^ 64 }
         requires count { self.old.evaluated + 1 < 2 ^ 64 }
         ensures represents { (capacity : ℕ) (accepted evaluated : List Record) → Represents self.old capacity accepted evaluated → verdict capacity evaluated x.now ≡ None
             → OnOk result (Represents self.new capacity accepted (x.now ∷ evaluated)) }
@@ -85,7 +86,7 @@ impl Engine {
         ensures admission { self.new.admission ≡ self.old.admission }
         ensures evaluated { OnOk result (self.new.evaluated ≡ self.old.evaluated + 1) }
         ensures published { OnOk result (self.new.published ≡ self.old.published + vec_len self.new.messages) }
-        ensures few { OnOk result (vec_len self.new.messages ≤ 262146) }
+        ensures few { OnOk result (vec_len self.new.messages ≤ most_messages) }
     {
         self.messages.clear();
         self.market.apply(x, &mut self.messages)?;

@@ -1,16 +1,19 @@
 //! The input of a session, read piece by piece.
 
-ghost use Rattle.std.specs.Prelude.{◌≡◌, ◌≢◌, ◌⊎◌, ◌+◌, ◌<◌, ◌≤◌, ◌^◌, ◌++◌, ◌==◌, if◌then◌else◌, [], ℕ, List, Some, Ok, Err, IfOk, OnOk, OnErr, length, min, take, MatchResult};
+ghost use Rattle.std.specs.Prelude.{◌≡◌, ◌≢◌, ◌⊎◌, ◌+◌, ◌<◌, ◌≤◌, ◌^◌, ◌++◌, ◌==◌, if◌then◌else◌, nat_le, [], ℕ, List, Option, Some, Ok, Err, IfOk, OnOk, OnErr, length, min, take, drop, MatchResult};
+ghost use Rattle.std.specs.Io.KnownBytes.{append_known};
 ghost use Rattle.host_core.specs.Outside.{Continues, Elapses};
 ghost use Rattle.host_core.specs.Faults.{Causes};
 ghost use Rattle.host_core.specs.HostCalls.{ReadsInput};
 ghost use Rattle.wire_in.specs.declared.record.Record.{Record};
 ghost use Rattle.wire_in.specs.Cutting.{pending, bodies_of, rest_of};
 ghost use Rattle.engine_core.specs.Ends.{IsEnd, ReadsAtMost, end_of};
-ghost use Rattle.engine_core.specs.Sessions.{Start, IsSafe, Answered, Prompt};
-ghost use Rattle.engine_core.specs.Serving.{Reads, HasRead, IsReady};
+ghost use Rattle.engine_core.specs.Pending.{Expects, SendsPrefix};
+ghost use Rattle.engine_core.specs.Sessions.{Start, IsSafe, Answered, Prompt, expected};
+ghost use Rattle.engine_core.specs.Serving.{Reads, IsReady, TakesPiece, OnlyExchanges};
 
 use crate::keeper::Keeper;
+use crate::outbox::Outbox;
 use crate::session::{Session, feed};
 use host_core::{Failed, Fault, Host, Status};
 use journal_core::BATCH_MAX;
@@ -27,101 +30,53 @@ fn read_piece<H: Host>(host: &mut H, buffer: &mut [u8], most: usize) -> Result<u
     host.read_input(&mut buffer[..most])
 }
 
-/// Sends all that waits, and reads the next piece.
-fn exchange<K: Keeper, H: Host>(
-    session: &mut Session,
-    keeper: &K,
+/// Sends all that waits, and then reads the next piece of at most so many bytes. It answers how many were read: 0 at the
+/// input's end, and where none may be read.
+fn exchange<H: Host>(
+    outbox: &mut Outbox,
     host: &mut H,
     buffer: &mut [u8],
     most: usize,
 ) -> Result<usize, Fault>
-    requires some { 0 < most }
     requires room { most ≤ length buffer.old }
-    requires empty { session.old.round ≡ [] }
-    requires ready { IsReady (K.has_room keeper.now (H.outside host.old).disk) session.old }
-    ensures session { session.new ≡ record session.old { outbox = session.new.outbox } }
-    ensures read { (start : Start) (input : List ℕ) (count : ℕ) → Reads (K.holds keeper.now) start input count session.old (H.outside host.old)
-        → IfOk result (λ n. HasRead (K.holds keeper.now) start input count n session.new (H.outside host.new) buffer.new) }
-    ensures most { IfOk result (λ n. n ≤ most) }
-    ensures taken { IfOk result (λ n. ReadsAtMost n (H.outside host.old).input (H.outside host.new).input) }
-    ensures untaken { OnErr result ((H.outside host.new).input ≡ (H.outside host.old).input) }
-    ensures unread { (start : Start) (input : List ℕ) (count : ℕ) → Reads (K.holds keeper.now) start input count session.old (H.outside host.old)
-        → result ≡ Err Fault.Read → Answered (K.holds keeper.now) start input count (H.outside host.new) }
-    ensures moments { (start : Start) (input : List ℕ) (count : ℕ) → Reads (K.holds keeper.now) start input count session.old (H.outside host.old)
-        → Elapses (H.outside host.old) (H.outside host.new) (IsSafe (K.recovers keeper.now (H.outside host.old)) start (bodies_of (take count input))) }
-    ensures prompt { (start : Start) (input : List ℕ) (count : ℕ) → Reads (K.holds keeper.now) start input count session.old (H.outside host.old)
+    ensures empty { OnOk result (outbox.new ≡ []) }
+    ensures sent { (begin : Option (List ℕ)) (text : List ℕ) → Expects begin (H.outside host.old).sent outbox.old text
+        → OnOk result ((H.outside host.new).sent ≡ append_known begin text) }
+    ensures unread { (begin : Option (List ℕ)) (text : List ℕ) → Expects begin (H.outside host.old).sent outbox.old text
+        → result ≡ Err Fault.Read → (H.outside host.new).sent ≡ append_known begin text }
+    ensures asked { result ≡ Err Fault.Read → 0 < most }
+    ensures moments { (begin : Option (List ℕ)) (text : List ℕ) → Expects begin (H.outside host.old).sent outbox.old text
+        → Elapses (H.outside host.old) (H.outside host.new) (SendsPrefix begin text (H.outside host.old)) }
+    ensures prompt { (start : Start) (input : List ℕ) (count : ℕ) → (H.outside host.old).input ≡ Some (drop count input) → count ≤ length input
+        → Expects start.sent (H.outside host.old).sent outbox.old (expected start (bodies_of (take count input)))
         → Prompt start input (H.outside host.old).asks (H.outside host.new).asks }
-    ensures before { (records : List Record) (image : List ℕ) → K.recovers keeper.now (H.outside host.new) records image
-        → K.recovers keeper.now (H.outside host.old) records image }
-    ensures ready { OnOk result (IsReady (K.has_room keeper.now (H.outside host.new).disk) session.new) }
-    ensures touches { K.touches (H.outside host.old) (H.outside host.new) }
-    ensures continues { Continues (H.outside host.old) (H.outside host.new) }
+    ensures taken { IfOk result (λ n. TakesPiece most (H.outside host.old).input (H.outside host.new).input buffer.new n) }
+    ensures untaken { OnErr result ((H.outside host.new).input ≡ (H.outside host.old).input) }
+    ensures keeps { OnlyExchanges (H.outside host.old) (H.outside host.new) }
     ensures causes { Causes result (H.outside host.old) (H.outside host.new) }
     ensures unkept { result ≢ Err Fault.Disk }
 {
-    let _ = keeper;
-    let Ok(()) = session.outbox.flush(host) else {
+    let Ok(()) = outbox.flush(host) else {
         return Err(Fault::Send);
     };
+    if most == 0 {
+        return Ok(0);
+    }
     let Ok(count) = read_piece(host, buffer, most) else {
         return Err(Fault::Read);
     };
     Ok(count)
 }
 
-/// Sends what waits, reads a piece, and answers its frames. It answers how many bytes were read, 0 only at the input's
-/// end.
-fn poll<K: Keeper, H: Host>(
-    session: &mut Session,
-    keeper: &mut K,
-    host: &mut H,
-    frames: usize,
-    buffer: &mut [u8],
-    most: usize,
-) -> Result<usize, Fault>
-    requires frames { (1 ≤ frames) × (frames ≤ BATCH_MAX) }
-    requires some { 0 < most }
-    requires room { most ≤ length buffer.old }
-    requires empty { session.old.round ≡ [] }
-    requires ready { IsReady (K.has_room keeper.old (H.outside host.old).disk) session.old }
-    requires few { session.old.answered + most < 2 ^ 42 }
-    ensures reads { (start : Start) (input : List ℕ) (count : ℕ) → start.acknowledges ≡ K.acknowledges → Reads (K.holds keeper.old) start input count session.old (H.outside host.old)
-        → IfOk result (λ n. Reads (K.holds keeper.new) start input (count + n) session.new (H.outside host.new)) }
-    ensures end { (start : Start) (input : List ℕ) (count : ℕ) → start.acknowledges ≡ K.acknowledges → Reads (K.holds keeper.old) start input count session.old (H.outside host.old)
-        → result ≡ Ok 0 → (count ≡ length input) × Answered (K.holds keeper.new) start input count (H.outside host.new) }
-    ensures most { IfOk result (λ n. n ≤ most) }
-    ensures taken { IfOk result (λ n. ReadsAtMost n (H.outside host.old).input (H.outside host.new).input) }
-    ensures taken_most { OnErr result (ReadsAtMost most (H.outside host.old).input (H.outside host.new).input) }
-    ensures unread { (start : Start) (input : List ℕ) (count : ℕ) → start.acknowledges ≡ K.acknowledges → Reads (K.holds keeper.old) start input count session.old (H.outside host.old)
-        → result ≡ Err Fault.Read → Answered (K.holds keeper.new) start input count (H.outside host.new) }
-    ensures moments { (start : Start) (input : List ℕ) (count : ℕ) → start.acknowledges ≡ K.acknowledges → Reads (K.holds keeper.old) start input count session.old (H.outside host.old)
-        → Elapses (H.outside host.old) (H.outside host.new) (IsSafe (K.recovers keeper.old (H.outside host.old)) start (bodies_of (take (count + most) input))) }
-    ensures prompt { (start : Start) (input : List ℕ) (count : ℕ) → start.acknowledges ≡ K.acknowledges → Reads (K.holds keeper.old) start input count session.old (H.outside host.old)
-        → Prompt start input (H.outside host.old).asks (H.outside host.new).asks }
-    ensures before { OnOk result ((records : List Record) (image : List ℕ) → K.recovers keeper.new (H.outside host.new) records image
-        → K.recovers keeper.old (H.outside host.old) records image) }
-    ensures empty { OnOk result (session.new.round ≡ []) }
-    ensures ready { OnOk result (IsReady (K.has_room keeper.new (H.outside host.new).disk) session.new) }
-    ensures few { IfOk result (λ n. session.new.answered ≤ session.old.answered + n) }
-    ensures touches { K.touches (H.outside host.old) (H.outside host.new) }
-    ensures continues { Continues (H.outside host.old) (H.outside host.new) }
-    ensures causes { Causes result (H.outside host.old) (H.outside host.new) }
-    ensures unkept { result ≡ Err Fault.Disk → K.fails }
+/// How a session ends that has read so many bytes of at most so many, and all that the input has where they are fewer.
+fn ending(session: &Session, read: u64, most: u64) -> Status
+    ensures end { IsEnd result }
+    ensures status { (bytes : List ℕ) → pending session.now.cutter ≡ rest_of bytes
+        → result ≡ (if nat_le most read then Status.SessionFull else if length (rest_of bytes) == 0 then Status.Done else Status.Truncated) }
 {
-    let count = exchange(session, keeper, host, buffer, most)?;
-    if count == 0 {
-        return Ok(0);
-    }
-    feed(session, keeper, host, frames, &buffer[..count])?;
-    Ok(count)
-}
-
-/// How a session ends whose input was read to its end.
-fn ended(session: &Session) -> Status
-    ensures kind { (result ≡ Status.Done) ⊎ (result ≡ Status.Truncated) }
-    ensures rest { (read : List ℕ) → pending session.now.cutter ≡ rest_of read → result ≡ (if length (rest_of read) == 0 then Status.Done else Status.Truncated) }
-{
-    if session.cutter.inside() {
+    if read >= most {
+        Status::SessionFull
+    } else if session.cutter.inside() {
         Status::Truncated
     } else {
         Status::Done
@@ -160,14 +115,13 @@ pub fn serve_input<K: Keeper, H: Host>(
     ensures unkept { result ≡ Err Fault.Disk → K.fails }
 {
     let mut read = 0;
-    while read < most {
+    let mut open = true;
+    while open {
         let room = buffer.len().min((most - read) as usize);
-        let count = poll(session, keeper, host, frames, buffer, room)?;
-        if count == 0 {
-            return Ok(ended(session));
-        }
+        let count = exchange(&mut session.outbox, host, buffer, room)?;
+        feed(session, keeper, host, frames, &buffer[..count])?;
+        open = count > 0;
         read += count as u64;
     }
-    session.outbox.flush(host)?;
-    Ok(Status::SessionFull)
+    Ok(ending(session, read, most))
 }

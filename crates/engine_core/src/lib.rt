@@ -2,6 +2,7 @@
 //! answered, bytes that wait to be sent, and the loop that reads the input.
 #![tactic(auto)]
 
+mod ended;
 mod engine;
 mod input;
 mod keeper;
@@ -10,6 +11,7 @@ mod reply;
 mod round;
 mod session;
 
+pub use ended::answer_of;
 pub use engine::{Engine, judge};
 pub use input::{PIECE, serve_input};
 pub use keeper::Keeper;

@@ -8,6 +8,7 @@ ghost use Rattle.wire_in.specs.declared.record.Record.{Record};
 ghost use Rattle.rulebook.specs.Admission.{verdict};
 ghost use Rattle.rulebook.specs.Sent.{spelled, numbered, refused, accepted, reply, with_record};
 ghost use Rattle.rulebook.specs.Book.{messages_of, newest_messages};
+ghost use Rattle.market_core.specs.MarketState.{most_messages};
 ghost use Rattle.engine_core.specs.Pending.{Expects, SendsPrefix};
 ghost use Rattle.engine_core.specs.EngineState.{Represents};
 ghost use Rattle.engine_core.specs.Rounds.{IsAdmissible, records_in};
@@ -78,7 +79,7 @@ fn publish<H: Host>(
     host: &mut H,
     x: &Record,
 ) -> Result<(), Fault>
-    requires room { engine.old.published + 524292 < 2 ^ 64 }
+    requires room { engine.old.published + 2 * most_messages < 2 ^ 64 }
     requires count { engine.old.evaluated + 1 < 2 ^ 64 }
     ensures represents { (capacity : ℕ) (accepted evaluated : List Record) → Represents engine.old capacity accepted evaluated → verdict capacity evaluated x.now ≡ None
         → OnOk result (Represents engine.new capacity accepted (x.now ∷ evaluated)) }
@@ -90,7 +91,7 @@ fn publish<H: Host>(
         → Elapses (H.outside host.old) (H.outside host.new) (SendsPrefix begin (text ++ spelled (numbered (length (messages_of evaluated)) (newest_messages (x.now ∷ evaluated)))) (H.outside host.old)) }
     ensures admission { engine.new.admission ≡ engine.old.admission }
     ensures evaluated { OnOk result (engine.new.evaluated ≡ engine.old.evaluated + 1) }
-    ensures published { OnOk result (engine.new.published ≤ engine.old.published + 262146) }
+    ensures published { OnOk result (engine.new.published ≤ engine.old.published + most_messages) }
     ensures keeps { OnlySends (H.outside host.old) (H.outside host.new) }
     ensures causes { Causes result (H.outside host.old) (H.outside host.new) }
     ensures unread { result ≢ Err Fault.Read }
@@ -109,7 +110,7 @@ fn answer_record<H: Host>(
     acknowledges: bool,
     x: &Record,
 ) -> Result<(), Fault>
-    requires room { engine.old.published + 524292 < 2 ^ 64 }
+    requires room { engine.old.published + 2 * most_messages < 2 ^ 64 }
     requires count { engine.old.evaluated + 1 < 2 ^ 64 }
     ensures represents { (capacity : ℕ) (accepted evaluated : List Record) → Represents engine.old capacity accepted evaluated → verdict capacity evaluated x.now ≡ None
         → OnOk result (Represents engine.new capacity accepted (x.now ∷ evaluated)) }
@@ -121,7 +122,7 @@ fn answer_record<H: Host>(
         → Elapses (H.outside host.old) (H.outside host.new) (SendsPrefix begin (text ++ spelled (with_acknowledgements acknowledges (accepted evaluated x.now))) (H.outside host.old)) }
     ensures admission { engine.new.admission ≡ engine.old.admission }
     ensures evaluated { OnOk result (engine.new.evaluated ≡ engine.old.evaluated + 1) }
-    ensures published { OnOk result (engine.new.published ≤ engine.old.published + 262146) }
+    ensures published { OnOk result (engine.new.published ≤ engine.old.published + most_messages) }
     ensures keeps { OnlySends (H.outside host.old) (H.outside host.new) }
     ensures causes { Causes result (H.outside host.old) (H.outside host.new) }
     ensures unread { result ≢ Err Fault.Read }
@@ -164,7 +165,7 @@ pub fn answer<H: Host>(
     number: u64,
     outcome: &Outcome,
 ) -> Result<(), Fault>
-    requires room { engine.old.published + 524292 < 2 ^ 64 }
+    requires room { engine.old.published + 2 * most_messages < 2 ^ 64 }
     requires count { engine.old.evaluated + 1 < 2 ^ 64 }
     ensures represents { (capacity : ℕ) (accepted evaluated : List Record) → Represents engine.old capacity accepted evaluated → IsAdmissible capacity evaluated outcome.now
         → OnOk result (Represents engine.new capacity accepted (with_record evaluated outcome.now)) }
@@ -176,7 +177,7 @@ pub fn answer<H: Host>(
         → Elapses (H.outside host.old) (H.outside host.new) (SendsPrefix begin (text ++ spelled (with_acknowledgements acknowledges (reply number evaluated outcome.now))) (H.outside host.old)) }
     ensures admission { engine.new.admission ≡ engine.old.admission }
     ensures evaluated { OnOk result (engine.new.evaluated ≡ engine.old.evaluated + length (records_in (outcome.now ∷ []))) }
-    ensures published { OnOk result (engine.new.published ≤ engine.old.published + 262146 * length (records_in (outcome.now ∷ []))) }
+    ensures published { OnOk result (engine.new.published ≤ engine.old.published + most_messages * length (records_in (outcome.now ∷ []))) }
     ensures keeps { OnlySends (H.outside host.old) (H.outside host.new) }
     ensures causes { Causes result (H.outside host.old) (H.outside host.new) }
     ensures unread { result ≢ Err Fault.Read }

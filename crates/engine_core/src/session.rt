@@ -15,8 +15,8 @@ ghost use Rattle.engine_core.specs.Pending.{SendsPrefix};
 ghost use Rattle.engine_core.specs.EngineState.{Represents};
 ghost use Rattle.engine_core.specs.Rounds.{Outcome, records_in};
 ghost use Rattle.engine_core.specs.Sessions.{Start, IsSafe, expected};
-ghost use Rattle.engine_core.specs.Answering.{Waits};
-ghost use Rattle.engine_core.specs.Serving.{Serves, IsReady, Keeps, OnlyAnswers};
+ghost use Rattle.engine_core.specs.Answering.{Answers};
+ghost use Rattle.engine_core.specs.Serving.{Serves, IsSound, IsReady, Keeps, OnlyAnswers};
 
 use crate::engine::{Engine, judge};
 use crate::keeper::Keeper;
@@ -65,18 +65,16 @@ fn answer_each<H: Host>(
     outcomes: &[Outcome],
 ) -> Result<(), Fault>
     requires most { length outcomes.now ≤ BATCH_MAX }
-    requires few { engine.old.published ≤ 262146 * engine.old.evaluated }
-    requires small { engine.old.evaluated ≤ 2 ^ 32 + answered }
+    requires sound { IsSound engine.old outcomes.now answered }
     requires answered { answered < 2 ^ 42 }
-    ensures waits { (start : Start) (before waiting : List (List ℕ)) → acknowledges ≡ start.acknowledges
-        → Waits start before waiting answered outcomes.now engine.old outbox.old (H.outside host.old).sent
-        → OnOk result (Waits start (before ++ waiting) [] (answered + length outcomes.now) [] engine.new outbox.new (H.outside host.new).sent) }
-    ensures moments { (start : Start) (before waiting : List (List ℕ)) → acknowledges ≡ start.acknowledges
-        → Waits start before waiting answered outcomes.now engine.old outbox.old (H.outside host.old).sent
-        → Elapses (H.outside host.old) (H.outside host.new) (SendsPrefix start.sent (expected start (before ++ waiting)) (H.outside host.old)) }
+    ensures answers { (start : Start) (all : List (List ℕ)) → acknowledges ≡ start.acknowledges
+        → Answers start all answered outcomes.now engine.old outbox.old (H.outside host.old).sent
+        → OnOk result (Answers start all (answered + length outcomes.now) [] engine.new outbox.new (H.outside host.new).sent) }
+    ensures moments { (start : Start) (all : List (List ℕ)) → acknowledges ≡ start.acknowledges
+        → Answers start all answered outcomes.now engine.old outbox.old (H.outside host.old).sent
+        → Elapses (H.outside host.old) (H.outside host.new) (SendsPrefix start.sent (expected start all) (H.outside host.old)) }
     ensures admission { engine.new.admission ≡ engine.old.admission }
-    ensures evaluated { OnOk result (engine.new.evaluated ≡ engine.old.evaluated + length (records_in outcomes.now)) }
-    ensures few { OnOk result (engine.new.published ≤ 262146 * engine.new.evaluated) }
+    ensures sound { OnOk result (IsSound engine.new [] (answered + length outcomes.now)) }
     ensures keeps { OnlySends (H.outside host.old) (H.outside host.new) }
     ensures causes { Causes result (H.outside host.old) (H.outside host.new) }
     ensures unread { result ≢ Err Fault.Read }
@@ -96,21 +94,19 @@ fn answer_round<H: Host>(
     host: &mut H,
     acknowledges: bool,
 ) -> Result<(), Fault>
-    requires few { session.old.engine.published ≤ 262146 * session.old.engine.evaluated }
-    requires small { session.old.engine.evaluated ≤ 2 ^ 32 + session.old.answered }
+    requires sound { IsSound session.old.engine session.old.round session.old.answered }
     requires answered { session.old.answered < 2 ^ 42 }
-    ensures waits { (start : Start) (before waiting : List (List ℕ)) → acknowledges ≡ start.acknowledges
-        → Waits start before waiting session.old.answered session.old.round session.old.engine session.old.outbox (H.outside host.old).sent
-        → OnOk result (Waits start (before ++ waiting) [] session.new.answered [] session.new.engine session.new.outbox (H.outside host.new).sent) }
-    ensures moments { (start : Start) (before waiting : List (List ℕ)) → acknowledges ≡ start.acknowledges
-        → Waits start before waiting session.old.answered session.old.round session.old.engine session.old.outbox (H.outside host.old).sent
-        → Elapses (H.outside host.old) (H.outside host.new) (SendsPrefix start.sent (expected start (before ++ waiting)) (H.outside host.old)) }
+    ensures answers { (start : Start) (all : List (List ℕ)) → acknowledges ≡ start.acknowledges
+        → Answers start all session.old.answered session.old.round session.old.engine session.old.outbox (H.outside host.old).sent
+        → OnOk result (Answers start all session.new.answered session.new.round session.new.engine session.new.outbox (H.outside host.new).sent) }
+    ensures moments { (start : Start) (all : List (List ℕ)) → acknowledges ≡ start.acknowledges
+        → Answers start all session.old.answered session.old.round session.old.engine session.old.outbox (H.outside host.old).sent
+        → Elapses (H.outside host.old) (H.outside host.new) (SendsPrefix start.sent (expected start all) (H.outside host.old)) }
     ensures empty { OnOk result (session.new.round ≡ []) }
     ensures answered { OnOk result (session.new.answered ≡ session.old.answered + length session.old.round) }
     ensures cutter { session.new.cutter ≡ session.old.cutter }
     ensures admission { session.new.engine.admission ≡ session.old.engine.admission }
-    ensures evaluated { OnOk result (session.new.engine.evaluated ≡ session.old.engine.evaluated + length (records_in session.old.round)) }
-    ensures few { OnOk result (session.new.engine.published ≤ 262146 * session.new.engine.evaluated) }
+    ensures sound { OnOk result (IsSound session.new.engine session.new.round session.new.answered) }
     ensures keeps { OnlySends (H.outside host.old) (H.outside host.new) }
     ensures causes { Causes result (H.outside host.old) (H.outside host.new) }
     ensures unread { result ≢ Err Fault.Read }
@@ -164,20 +160,17 @@ fn settle<K: Keeper, H: Host>(
     host: &mut H,
 ) -> Result<(), Fault>
     requires ready { IsReady (K.has_room keeper.old (H.outside host.old).disk) session.old }
-    requires few { session.old.answered + length session.old.round < 2 ^ 42 }
-    ensures serves { (start : Start) (bodies : List (List ℕ)) (rest : List ℕ) → start.acknowledges ≡ K.acknowledges
-        → Serves (K.holds keeper.old) start bodies rest session.old (H.outside host.old)
-        → OnOk result (Serves (K.holds keeper.new) start bodies rest session.new (H.outside host.new)) }
+    requires few { session.old.answered < 2 ^ 42 }
+    ensures serves { (start : Start) (read : List ℕ) → start.acknowledges ≡ K.acknowledges → Serves (K.holds keeper.old) start read session.old (H.outside host.old)
+        → OnOk result (Serves (K.holds keeper.new) start read session.new (H.outside host.new)) }
     ensures empty { OnOk result (session.new.round ≡ []) }
-    ensures moments { (start : Start) (bodies : List (List ℕ)) (rest : List ℕ) → start.acknowledges ≡ K.acknowledges
-        → Serves (K.holds keeper.old) start bodies rest session.old (H.outside host.old)
-        → Elapses (H.outside host.old) (H.outside host.new) (IsSafe (K.recovers keeper.old (H.outside host.old)) start bodies) }
+    ensures moments { (start : Start) (read : List ℕ) → start.acknowledges ≡ K.acknowledges → Serves (K.holds keeper.old) start read session.old (H.outside host.old)
+        → Elapses (H.outside host.old) (H.outside host.new) (IsSafe (K.recovers keeper.old (H.outside host.old)) start (bodies_of read)) }
     ensures before { OnOk result ((records : List Record) (image : List ℕ) → K.recovers keeper.new (H.outside host.new) records image
         → K.recovers keeper.old (H.outside host.old) records image) }
     ensures ready { OnOk result (IsReady (K.has_room keeper.new (H.outside host.new).disk) session.new) }
     ensures answered { OnOk result (session.new.answered ≡ session.old.answered + length session.old.round) }
-    ensures touches { K.touches (H.outside host.old) (H.outside host.new) }
-    ensures keeps { OnlyAnswers (H.outside host.old) (H.outside host.new) }
+    ensures keeps { OnlyAnswers K.touches (H.outside host.old) (H.outside host.new) }
     ensures causes { Causes result (H.outside host.old) (H.outside host.new) }
     ensures unread { result ≢ Err Fault.Read }
     ensures unkept { result ≡ Err Fault.Disk → K.fails }
@@ -187,8 +180,8 @@ fn settle<K: Keeper, H: Host>(
 }
 
 impl Session {
-    ghost use Rattle.engine_core.specs.Serving.{Judges, IsSound};
-    ghost use Rattle.engine_core.specs.Answering.{Judged};
+    ghost use Rattle.engine_core.specs.Serving.{Judges};
+    ghost use Rattle.engine_core.specs.Answering.{Waits};
 
     /// A session that has read nothing.
     pub fn new(engine: Engine, round: Round, outbox: Outbox) -> Session
@@ -211,11 +204,11 @@ impl Session {
     fn judge(&mut self) -> Result<(), NoMemory>
         requires whole { IsTrue (is_frame self.old.cutter) }
         requires room { length self.old.round < BATCH_MAX }
-        ensures outcome { OnOk result ((body : List ℕ) × (framed body ≡ self.old.cutter)
-            × ((capacity : ℕ) (accepted evaluated : List Record) → Represents self.old.engine capacity accepted evaluated
-            → Judged capacity accepted evaluated body self.old.round self.new.round self.new.engine)) }
+        ensures waits { OnOk result ((body : List ℕ) × (framed body ≡ self.old.cutter)
+            × ((start : Start) (answered all : List (List ℕ)) → Waits start answered all self.old.answered self.old.round self.old.engine
+            → Waits start answered (all ++ body ∷ []) self.new.answered self.new.round self.new.engine)) }
         ensures more { OnOk result (length self.new.round ≡ length self.old.round + 1) }
-        ensures sound { IsSound self.old → OnOk result (IsSound self.new) }
+        ensures sound { IsSound self.old.engine self.old.round self.old.answered → OnOk result (IsSound self.new.engine self.new.round self.new.answered) }
         ensures rest { self.new ≡ record self.old { engine = record self.old.engine { admission = self.new.engine.admission }; round = self.new.round } }
         ensures capacity { self.new.engine.admission.capacity ≡ self.old.engine.admission.capacity }
     {
@@ -230,10 +223,10 @@ impl Session {
     fn advance(&mut self, piece: &[u8]) -> Result<usize, NoMemory>
         requires room { length self.old.round < BATCH_MAX }
         ensures used { IfOk result (λ n. (n ≤ length piece.now) × (0 < length piece.now → 0 < n)) }
-        ensures judges { (start : Start) (read : List ℕ) → Judges start (bodies_of read) (rest_of read) self.old
-            → IfOk result (λ n. Judges start (bodies_of (read ++ take n piece.now)) (rest_of (read ++ take n piece.now)) self.new) }
+        ensures judges { (start : Start) (answered : List (List ℕ)) (read : List ℕ) → Judges start answered read self.old
+            → IfOk result (λ n. Judges start answered (read ++ take n piece.now) self.new) }
         ensures more { OnOk result (length self.new.round ≤ length self.old.round + 1) }
-        ensures sound { IsSound self.old → OnOk result (IsSound self.new) }
+        ensures sound { IsSound self.old.engine self.old.round self.old.answered → OnOk result (IsSound self.new.engine self.new.round self.new.answered) }
         ensures capacity { self.new.engine.admission.capacity ≡ self.old.engine.admission.capacity }
         ensures evaluated { self.new.engine.evaluated ≡ self.old.engine.evaluated }
         ensures outbox { self.new.outbox ≡ self.old.outbox }
@@ -246,47 +239,31 @@ impl Session {
         self.judge()?;
         Ok(cut.used)
     }
-}
 
-/// Takes bytes up to the end of a frame or of the piece, and answers the round once it has as many frames as it may.
-fn step<K: Keeper, H: Host>(
-    session: &mut Session,
-    keeper: &mut K,
-    host: &mut H,
-    frames: usize,
-    piece: &[u8],
-) -> Result<usize, Fault>
-    requires frames { (1 ≤ frames) × (frames ≤ BATCH_MAX) }
-    requires room { length session.old.round < frames }
-    requires ready { IsReady (K.has_room keeper.old (H.outside host.old).disk) session.old }
-    requires few { session.old.answered + length session.old.round + 1 < 2 ^ 42 }
-    ensures used { IfOk result (λ n. (n ≤ length piece.now) × (0 < length piece.now → 0 < n)) }
-    ensures serves { (start : Start) (read : List ℕ) → start.acknowledges ≡ K.acknowledges
-        → Serves (K.holds keeper.old) start (bodies_of read) (rest_of read) session.old (H.outside host.old)
-        → IfOk result (λ n. Serves (K.holds keeper.new) start (bodies_of (read ++ take n piece.now)) (rest_of (read ++ take n piece.now)) session.new (H.outside host.new)) }
-    ensures moments { (start : Start) (read : List ℕ) → start.acknowledges ≡ K.acknowledges
-        → Serves (K.holds keeper.old) start (bodies_of read) (rest_of read) session.old (H.outside host.old)
-        → Elapses (H.outside host.old) (H.outside host.new) (IsSafe (K.recovers keeper.old (H.outside host.old)) start (bodies_of (read ++ piece.now))) }
-    ensures before { OnOk result ((records : List Record) (image : List ℕ) → K.recovers keeper.new (H.outside host.new) records image
-        → K.recovers keeper.old (H.outside host.old) records image) }
-    ensures room { OnOk result (length session.new.round < frames) }
-    ensures ready { OnOk result (IsReady (K.has_room keeper.new (H.outside host.new).disk) session.new) }
-    ensures few { OnOk result (session.new.answered + length session.new.round ≤ session.old.answered + length session.old.round + 1) }
-    ensures touches { K.touches (H.outside host.old) (H.outside host.new) }
-    ensures keeps { OnlyAnswers (H.outside host.old) (H.outside host.new) }
-    ensures causes { Causes result (H.outside host.old) (H.outside host.new) }
-    ensures unread { result ≢ Err Fault.Read }
-    ensures unkept { result ≡ Err Fault.Disk → K.fails }
-{
-    let used = session.advance(piece)?;
-    if session.round.len() < frames {
-        return Ok(used);
+    /// Takes bytes of a piece from a place on, up to its end or until so many frames wait. Answers the place behind them.
+    fn fill(&mut self, frames: usize, piece: &[u8], from: usize) -> Result<usize, NoMemory>
+        requires frames { (1 ≤ frames) × (frames ≤ BATCH_MAX) }
+        requires empty { self.old.round ≡ [] }
+        requires some { from < length piece.now }
+        ensures place { IfOk result (λ at. (from < at) × (at ≤ length piece.now)) }
+        ensures judges { (start : Start) (answered : List (List ℕ)) (read : List ℕ) → Judges start answered (read ++ take from piece.now) self.old
+            → IfOk result (λ at. Judges start answered (read ++ take at piece.now) self.new) }
+        ensures few { IfOk result (λ at. from + length self.new.round ≤ at) }
+        ensures sound { IsSound self.old.engine self.old.round self.old.answered → OnOk result (IsSound self.new.engine self.new.round self.new.answered) }
+        ensures capacity { self.new.engine.admission.capacity ≡ self.old.engine.admission.capacity }
+        ensures evaluated { self.new.engine.evaluated ≡ self.old.engine.evaluated }
+        ensures outbox { self.new.outbox ≡ self.old.outbox }
+        ensures answered { self.new.answered ≡ self.old.answered }
+    {
+        let mut at = from;
+        while at < piece.len() && self.round.len() < frames {
+            at += self.advance(&piece[at..])?;
+        }
+        Ok(at)
     }
-    settle(session, keeper, host)?;
-    Ok(used)
 }
 
-/// Takes all bytes of a piece, and answers each frame that is whole.
+/// Takes all bytes of a piece, and answers each frame that is whole, in rounds of at most so many frames.
 pub fn feed<K: Keeper, H: Host>(
     session: &mut Session,
     keeper: &mut K,
@@ -298,26 +275,25 @@ pub fn feed<K: Keeper, H: Host>(
     requires empty { session.old.round ≡ [] }
     requires ready { IsReady (K.has_room keeper.old (H.outside host.old).disk) session.old }
     requires few { session.old.answered + length piece.now < 2 ^ 42 }
-    ensures serves { (start : Start) (read : List ℕ) → start.acknowledges ≡ K.acknowledges
-        → Serves (K.holds keeper.old) start (bodies_of read) (rest_of read) session.old (H.outside host.old)
-        → OnOk result (Serves (K.holds keeper.new) start (bodies_of (read ++ piece.now)) (rest_of (read ++ piece.now)) session.new (H.outside host.new)) }
-    ensures moments { (start : Start) (read : List ℕ) → start.acknowledges ≡ K.acknowledges
-        → Serves (K.holds keeper.old) start (bodies_of read) (rest_of read) session.old (H.outside host.old)
+    ensures serves { (start : Start) (read : List ℕ) → start.acknowledges ≡ K.acknowledges → Serves (K.holds keeper.old) start read session.old (H.outside host.old)
+        → OnOk result (Serves (K.holds keeper.new) start (read ++ piece.now) session.new (H.outside host.new)) }
+    ensures moments { (start : Start) (read : List ℕ) → start.acknowledges ≡ K.acknowledges → Serves (K.holds keeper.old) start read session.old (H.outside host.old)
         → Elapses (H.outside host.old) (H.outside host.new) (IsSafe (K.recovers keeper.old (H.outside host.old)) start (bodies_of (read ++ piece.now))) }
     ensures before { OnOk result ((records : List Record) (image : List ℕ) → K.recovers keeper.new (H.outside host.new) records image
         → K.recovers keeper.old (H.outside host.old) records image) }
+    ensures still { length piece.now ≡ 0 → OnOk result ((H.outside host.new).sent ≡ (H.outside host.old).sent) }
     ensures empty { OnOk result (session.new.round ≡ []) }
     ensures ready { OnOk result (IsReady (K.has_room keeper.new (H.outside host.new).disk) session.new) }
     ensures few { OnOk result (session.new.answered ≤ session.old.answered + length piece.now) }
-    ensures touches { K.touches (H.outside host.old) (H.outside host.new) }
-    ensures keeps { OnlyAnswers (H.outside host.old) (H.outside host.new) }
+    ensures keeps { OnlyAnswers K.touches (H.outside host.old) (H.outside host.new) }
     ensures causes { Causes result (H.outside host.old) (H.outside host.new) }
     ensures unread { result ≢ Err Fault.Read }
     ensures unkept { result ≡ Err Fault.Disk → K.fails }
 {
     let mut at = 0;
     while at < piece.len() {
-        at += step(session, keeper, host, frames, &piece[at..])?;
+        at = session.fill(frames, piece, at)?;
+        settle(session, keeper, host)?;
     }
-    settle(session, keeper, host)
+    Ok(())
 }

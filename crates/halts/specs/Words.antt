@@ -1,5 +1,5 @@
 -- The words behind the journal's path, and what they ask for.
-use Rattle.std.specs.Prelude.{ℕ, ◌+◌, ◌-◌, ◌*◌, Bool, ◌&&◌, ◌==◌, not, nat_le, if◌then◌else◌, List, [], ◌∷◌, length, get_or, codes, Option, Some, None, option_map}
+use Rattle.std.specs.Prelude.{ℕ, ◌+◌, ◌-◌, ◌*◌, Bool, ◌&&◌, ◌==◌, not, nat_le, if◌then◌else◌, List, [], ◌∷◌, length, get_or, drop, codes, Option, Some, None, option_map}
 use Rattle.std.specs.List.{list_all}
 use Rattle.std.specs.Str.{bytes_eq}
 use Rattle.halts.specs.declared.words.Command.{Command}
@@ -70,3 +70,7 @@ command_of words =
     else if says words 0 (codes "serve") then serve_of words
     else if says words 0 (codes "replay") then replay_of words
     else None
+
+-- What the words of a process ask for: the program's own name and the journal's path stand before the command.
+abbrev pub asked : List (List ℕ) → Option Command
+asked args = command_of (drop 2 args)

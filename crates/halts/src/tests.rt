@@ -3,6 +3,7 @@ mod batches;
 mod bytes;
 mod ends;
 mod morning;
+mod process;
 mod refusals;
 mod restarts;
 mod stops;

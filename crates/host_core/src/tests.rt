@@ -1,5 +1,8 @@
 use super::*;
+use std::alloc::Global;
+use std::fs;
 use std::io::{self, Read, Write};
+use std::ops::Range;
 use std::test::Fail;
 
 #[test]
@@ -78,5 +81,81 @@ fn a_real_host_reads_and_sends_until_one_fails(rt: HostRuntime) -> Result<(), Fa
     assert_eq!(rt; host.disk_sync(), Err(Failed));
     drop(host);
     assert_eq!(rt; sink.taken, 2);
+    Ok(())
+}
+
+/// The byte that a test writes at a place.
+fn pattern(place: usize) -> u8 {
+    (place % 251) as u8
+}
+
+/// The bytes of the pattern at these places.
+fn patterned(alloc: Global, places: Range<usize>) -> Result<Vec<u8>, Fail> {
+    let mut bytes = Vec::new(alloc);
+    for place in places {
+        bytes.push(pattern(place))?;
+    }
+    Ok(bytes)
+}
+
+/// Whether a disk has so many bytes, which are those of the pattern but for a run of one byte.
+fn has_pattern<D: Disk>(
+    alloc: Global,
+    disk: &mut D,
+    len: usize,
+    run: Range<usize>,
+) -> Result<bool, Fail> {
+    let mut bytes = vec![in alloc; 0_u8; len]?;
+    disk.read(0, &mut bytes)?;
+    let same = bytes.iter().enumerate().all(|(place, byte)| {
+        *byte
+            == if run.contains(&place) {
+                b'#'
+            } else {
+                pattern(place)
+            }
+    });
+    Ok(same && disk.len()? == len as u64)
+}
+
+#[test]
+fn a_file_keeps_each_byte_where_it_was_written(rt: HostRuntime) -> Result<(), Fail> {
+    let alloc = rt.alloc();
+    // A file of an earlier run may stand there.
+    let _ = fs::remove_file(&rt, "pages.bin");
+    let mut file = JournalFile::new(&rt, "pages.bin");
+    file.write(0, &patterned(alloc, 0..9_000)?)?;
+    file.write(9_000, &patterned(alloc, 9_000..10_000)?)?;
+    file.sync()?;
+    assert!(rt; has_pattern(alloc, &mut file, 10_000, 0..0)?);
+    file.write(4_090, b"############")?;
+    assert!(rt; has_pattern(alloc, &mut file, 10_000, 4_090..4_102)?);
+    let mut part = [0; 4];
+    file.read(4_100, &mut part)?;
+    assert_eq!(rt; part, [b'#', b'#', pattern(4_102), pattern(4_103)]);
+    assert!(rt; file.read(9_997, &mut part).is_err());
+    drop(file);
+
+    let mut again = JournalFile::new(&rt, "pages.bin");
+    assert_eq!(rt; again.len()?, 10_000);
+    assert!(rt; has_pattern(alloc, &mut again, 10_000, 4_090..4_102)?);
+    again.write(10_000, b"#")?;
+    assert!(rt; again.len()? == 10_001);
+    Ok(())
+}
+
+#[test]
+fn a_file_stays_open_from_its_first_use_on(rt: HostRuntime) -> Result<(), Fail> {
+    let mut file = JournalFile::new(&rt, "open.bin");
+    file.write(0, b"before")?;
+    fs::rename(&rt, "open.bin", "renamed.bin")?;
+    file.write(6, b" and after")?;
+    file.sync()?;
+    assert_eq!(rt; file.len()?, 16);
+    drop(file);
+    let mut renamed = JournalFile::new(&rt, "renamed.bin");
+    let mut bytes = [0; 16];
+    renamed.read(0, &mut bytes)?;
+    assert!(rt; bytes == *b"before and after");
     Ok(())
 }

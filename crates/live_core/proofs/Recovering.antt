@@ -1,22 +1,20 @@
 -- A journal that is read batch by batch.
-use Rattle.std.proofs.Common.{◌≡◌, ◌≢◌, inl, inr, ℕ, ◌-◌, List, [], ◌∷◌, ◌++◌, drop, refl, sym, ap, subst, ◌∙◌, append_assoc, arith}
-use Rattle.std.specs.Prelude.{Option, Some, None, Result, Ok, Err, reverse}
+use Rattle.std.proofs.Common.{◌≡◌, ◌≢◌, inl, inr, ℕ, ◌+◌, ◌-◌, ◌<◌, ◌≤◌, List, [], ◌∷◌, ◌++◌, length, get_or, take, drop, None, refl, sym, ap, subst, ◌∙◌, append_assoc, arith}
+use Rattle.std.specs.Prelude.{Option, Some, Result, Ok, Err, IfErr, reverse}
 use Rattle.std.specs.Result.{IsErrAnd}
-use Rattle.std.specs.List.{flat_map}
-use Rattle.std.proofs.lemmas.Grind.{flat_map-append}
-use Rattle.std.proofs.lemmas.List.{append-nil, reverse-append, drop_all}
+use Rattle.std.proofs.lemmas.List.{reverse-append, drop_all, take_all, take_more, take-append-drop}
 use Rattle.host_core.specs.declared.status.Status.{Status}
-use Rattle.host_core.specs.declared.status.Status.TheVariants as status
-use Rattle.host_core.specs.declared.status.Status.TheVariants.{Done, Usage, Truncated, ReadFault, SendFault, DiskFault, SessionFull, Damaged, NoJournal, NoMemory, BadText}
 use Rattle.host_core.specs.declared.fault.Fault.{Fault}
 use Rattle.host_core.specs.declared.fault.Fault.TheVariants as fault
 use Rattle.host_core.specs.Faults.{HasCause, status_of}
-use Rattle.host_core.specs.Outside.{Outside, Agrees, Elapses, NoFault}
+use Rattle.host_core.specs.Outside.{Outside, Agrees, Elapses, Rose, NoFault}
 use Rattle.host_core.specs.Frames.{OnlyReadsDisk, OnlySends}
-use Rattle.host_core.proofs.Moments.{widened, unchanged, further}
-use Rattle.host_core.proofs.Chains.{still_settled}
+use Rattle.host_core.proofs.Moments.{widened, further}
+use Rattle.host_core.proofs.Chains.{still_settled, reads_faultless}
 use Rattle.host_core.proofs.Causes.{faultless}
+use Rattle.host_core.proofs.Known.{append_known-nil}
 use Rattle.wire_in.specs.declared.record.Record.{Record}
+use Rattle.wire_in.specs.declared.record.Refusal.{Refusal}
 use Rattle.journal_core.specs.declared.error.ScanError.{ScanError}
 use Rattle.journal_core.specs.declared.error.ScanError.TheVariants as scan
 use Rattle.journal_core.specs.Formatted.{scan_status}
@@ -24,239 +22,231 @@ use Rattle.journal_core.specs.Layout.{LeadsTo, records_of, with_batch}
 use Rattle.journal_core.specs.AtGate.{IsDamaged}
 use Rattle.journal_core.specs.Scan.{ScanState, HasRead}
 use Rattle.journal_core.proofs.Images.{from_gate}
+use Rattle.journal_core.proofs.Readable.{records_more}
+use Rattle.rulebook.specs.Admission.{verdict, IsLawful}
 use Rattle.rulebook.specs.Sent.{spelled}
-use Rattle.host_core.proofs.Known.{append_known-nil}
+use Rattle.market_core.specs.AdmissionState as admission
 use Rattle.engine_core.specs.Pending.{Expects, SendsPrefix}
 use Rattle.engine_core.proofs.Pending.{expects_still}
-use Rattle.engine_core.proofs.Sending.{waits}
+use Rattle.engine_core.proofs.Sending.{waits, sends_none}
 use Rattle.engine_core.specs.declared.engine.Engine.{Engine}
 use Rattle.live_core.specs.declared.recovery.Recovery.{Recovery}
-use Rattle.live_core.specs.InternalRecovery.{again, Resumes, IsRefusedIn, IsPart, CoversBatch, Covers, Recovers, HasNext, OnlyRecovers, Hinders, Hindered}
-use Rattle.live_core.specs.Damage.{StopsAtDamage}
-use Rattle.live_core.proofs.Again.{part_waits, part_on, resumes_same}
+use Rattle.live_core.specs.InternalRecovery.{again, opening, Resumes, IsPart, StandsFirst, Covers, Rests, Recovers, Resuming, OnlyRecovers, HasDamage, Hinders}
+use Rattle.live_core.proofs.Again.{sends_part}
 
--- the records of some batches, and of one more
-pub records_more : (batches : List (List Record)) (batch : List Record) → records_of (batches ++ batch ∷ []) ≡ with_batch (records_of batches) batch
-records_more batches batch =
-    ap reverse (flat_map-append (λ (b : List Record). b) batches (batch ∷ []) ∙ ap (λ (r : List Record). flat_map (λ (b : List Record). b) batches ++ r) (append-nil batch))
-    ∙ reverse-append (flat_map (λ (b : List Record). b) batches) batch
+sends_rests : {disk : List ℕ} {now new : Outside} → OnlySends now new → Rests disk now → Rests disk new
+sends_rests sends rests = record { known = sends.disk ∙ rests.known; settled = record { only = λ image left. sends.disk ∙ rests.settled.only image (sends.left image left) } }
 
--- What is evaluated once it was read.
-module _ {from : Option ℕ} {begin : Option (List ℕ)} {disk : List ℕ} {recovery : Recovery} {now : Outside} (next : HasNext from begin disk recovery now) (records : List Record) (is : records ≡ recovery.batch) where
-  pub covers_batch : (all : List Record) → Covers disk all → CoversBatch recovery.scan.capacity (records_of next.batches) records all
-  covers_batch all covers good later parts lawful = covers recovery.scan.capacity (with_batch (records_of next.batches) good) (record {
+-- A batch, record by record.
+module _ {from : Option ℕ} {begin : Option (List ℕ)} {disk : List ℕ} {batch : List Record} {count : ℕ} {recovery : Recovery} {now : Outside} (s : Resuming from begin disk batch count recovery now) where
+  abbrev held : List Record
+  held = with_batch (records_of s.batches) (take count batch)
+
+  stands : (n : ℕ) → StandsFirst recovery.scan.capacity (with_batch (records_of s.batches) (take n batch)) disk
+  stands n = record {
     gate = recovery.scan.gate;
-    batches = next.batches ++ recovery.batch ∷ [];
-    rest = recovery.scan.ahead ++ next.read.rest;
-    leads = next.read.leads;
+    batches = s.batches ++ batch ∷ [];
+    rest = recovery.scan.ahead ++ s.read.rest;
+    leads = s.read.leads;
     part = record {
-      more = reverse later;
-      whole = sym (append_assoc (reverse later) (reverse good) (records_of next.batches))
-          ∙ ap (λ (r : List Record). r ++ records_of next.batches) (sym (reverse-append good later) ∙ ap reverse (sym parts ∙ is))
-          ∙ sym (records_more next.batches recovery.batch);
+      more = reverse (drop n batch);
+      whole = sym (append_assoc (reverse (drop n batch)) (reverse (take n batch)) (records_of s.batches))
+          ∙ ap (λ (r : List Record). r ++ records_of s.batches) (sym (reverse-append (take n batch) (drop n batch)) ∙ ap reverse (take-append-drop n batch))
+          ∙ sym (records_more s.batches batch);
     };
-  }) lawful
-
-  pub resumed : (engine : Engine) (outbox : List ℕ) (new : Outside) → OnlySends now new
-      → Resumes from recovery.scan.capacity (with_batch (records_of next.batches) records) begin engine outbox new
-      → Recovers from begin disk (record recovery { engine = engine; outbox = outbox }) new
-  resumed engine outbox new sends resumes = record {
-    disk_known = sends.disk ∙ next.disk_known;
-    settled = record { only = λ image left. sends.disk ∙ next.settled.only image (sends.left image left) };
-    batches = next.batches ++ recovery.batch ∷ [];
-    read = next.read;
-    resumes = resumes_same resumes (ap (λ (r : List Record). with_batch (records_of next.batches) r) is ∙ sym (records_more next.batches recovery.batch));
   }
 
-  -- a record of the batch there may not follow
-  pub stops_at_record : (engine : Engine) (outbox : List ℕ) (new : Outside) (at : ℕ) → at ≡ recovery.scan.at
-      → IsRefusedIn from recovery.scan.capacity (records_of next.batches) records begin engine outbox new → StopsAtDamage from begin at disk new
-  stops_at_record engine outbox new at there refused = record {
-    capacity = recovery.scan.capacity;
-    before = with_batch (records_of next.batches) refused.good;
-    damaged = record {
-      batches = next.batches;
-      rest = next.rest;
-      leads = subst (λ (g : ℕ). LeadsTo recovery.scan.capacity g next.batches disk next.rest) (sym there) next.leads;
-      lawful = refused.resumes.lawful;
-      why = inr (record {
-        good = refused.good;
-        bad = refused.bad;
-        later = refused.later;
-        next = recovery.scan.gate;
-        rest = recovery.scan.ahead ++ next.read.rest;
-        leads = subst (λ (b : List Record). LeadsTo recovery.scan.capacity recovery.scan.gate (next.batches ++ b ∷ []) disk (recovery.scan.ahead ++ next.read.rest))
-            (sym is ∙ refused.parts) next.read.leads;
-        same = refl;
-        refused = refused.refused;
-      });
-    };
-    part = record { since = refused.resumes.pending_is.sent; unsent = outbox; sent = refused.resumes.pending_is.known; prefix = refused.resumes.pending_is.whole };
+  pub waits_there : ((image bytes : List ℕ) → now.leaves now.moment image bytes → Agrees now.sent bytes) → (all : List Record) → Covers disk all
+      → Elapses now now (SendsPrefix begin (again from all) now)
+  waits_there sent_now all covers =
+      sends_part from (covers recovery.scan.capacity held (stands count) s.resumes.lawful) (sends_none now sent_now recovery.outbox (again from held) s.resumes.pending_is)
+
+  pub all_resumed : length batch ≤ count → Recovers (again from) begin disk recovery now
+  all_resumed le = record {
+    rests = s.rests;
+    batches = s.batches ++ batch ∷ [];
+    read = s.read;
+    resumes = subst (λ (r : List Record). Resumes (again from) recovery.scan.capacity r begin recovery.engine recovery.outbox now)
+        (ap (λ (r : List Record). with_batch (records_of s.batches) r) (take_all count batch le) ∙ sym (records_more s.batches batch)) s.resumes;
   }
 
--- What was read so far.
-module _ {from : Option ℕ} {begin : Option (List ℕ)} {disk : List ℕ} {recovery : Recovery} {old : Outside} (recovers : Recovers from begin disk recovery old) (all : List Record) (covers : Covers disk all) where
-  pub part_read : IsPart (records_of recovers.batches) all
-  part_read = covers recovery.scan.capacity (records_of recovers.batches) (record {
-    gate = recovery.scan.gate;
-    batches = recovers.batches;
-    rest = recovery.scan.ahead ++ recovers.read.rest;
-    leads = recovers.read.leads;
-    part = record { more = []; whole = refl };
-  }) recovers.resumes.lawful
+  -- the record there, and its verdict
+  module _ (x : Record) (lt : count < length batch) (is : x ≡ get_or batch count x) (found : Option Refusal)
+      (exact : (admitted : List Record) → admission.Represents recovery.engine.admission admitted → found ≡ verdict recovery.engine.admission.capacity admitted x) where
+    next_of : take (count + 1) batch ≡ take count batch ++ x ∷ []
+    next_of = take_more batch count x lt ∙ ap (λ (y : Record). take count batch ++ y ∷ []) (sym is)
 
-  pub read_waits : ((image bytes : List ℕ) → old.leaves old.moment image bytes → Agrees old.sent bytes) → Elapses old old (SendsPrefix begin (again from all) old)
-  read_waits sent_now = part_waits from part_read old sent_now recovery.outbox recovers.resumes.pending_is
+    with_next : x ∷ held ≡ with_batch (records_of s.batches) (take (count + 1) batch)
+    with_next = sym (ap (λ (r : List Record). reverse r ++ records_of s.batches) next_of ∙ ap (λ (r : List Record). r ++ records_of s.batches) (reverse-append (take count batch) (x ∷ [])))
 
-  -- the stops of a read, after those of a run that sent
-  pub reads_behind : {start new : Outside} → OnlyReadsDisk old new → Elapses start old (SendsPrefix begin (again from all) start) → Elapses start new (SendsPrefix begin (again from all) start)
-  reads_behind reads first =
-      part_on from part_read first (widened reads.moments _ (waits begin old recovery.outbox (again from (records_of recovers.batches)) recovers.resumes.pending_is))
+    verdict_is : found ≡ verdict recovery.scan.capacity held x
+    verdict_is = exact held s.resumes.engine_is.admission ∙ ap (λ (l : ℕ). verdict l held x) s.resumes.engine_is.within
 
--- What is read.
-module _ {from : Option ℕ} {begin : Option (List ℕ)} {disk : List ℕ} {recovery : Recovery} {old : Outside} (recovers : Recovers from begin disk recovery old) {new : Outside} (reads : OnlyReadsDisk old new) where
-  expects_read : Expects begin new.sent recovery.outbox (again from (records_of recovers.batches))
-  expects_read = expects_still new.sent reads.sent recovers.resumes.pending_is
+    passes : found ≡ None → verdict recovery.scan.capacity held x ≡ None
+    passes none = sym verdict_is ∙ none
 
-  resumes_read : Resumes from recovery.scan.capacity (records_of recovers.batches) begin recovery.engine recovery.outbox new
-  resumes_read = record { engine_is = recovers.resumes.engine_is; lawful = recovers.resumes.lawful; pending_is = expects_read }
+    pub sends_next : found ≡ None → {new : Outside} → (verdict recovery.scan.capacity held x ≡ None → Elapses now new (SendsPrefix begin (again from (x ∷ held)) now))
+        → (all : List Record) → Covers disk all → Elapses now new (SendsPrefix begin (again from all) now)
+    sends_next none run all covers =
+        let lawful = subst (λ (r : List Record). IsLawful recovery.scan.capacity r) with_next (passes none, s.resumes.lawful) in
+        sends_part from (subst (λ (r : List Record). IsPart r all) (sym with_next) (covers recovery.scan.capacity _ (stands (count + 1)) lawful)) (run (passes none))
 
-  resumes_under : (capacity : ℕ) → capacity ≡ recovery.scan.capacity → Resumes from capacity (records_of recovers.batches) begin recovery.engine recovery.outbox new
-  resumes_under capacity same = subst (λ (l : ℕ). Resumes from l (records_of recovers.batches) begin recovery.engine recovery.outbox new) (sym same) resumes_read
+    pub resumed_next : found ≡ None → (engine : Engine) (outbox : List ℕ) {new : Outside} → OnlySends now new
+        → (verdict recovery.scan.capacity held x ≡ None → Resumes (again from) recovery.scan.capacity (x ∷ held) begin engine outbox new)
+        → Resuming from begin disk batch (count + 1) (record recovery { engine = engine; outbox = outbox }) new
+    resumed_next none engine outbox {new} sends resumes = record {
+      rests = sends_rests sends s.rests;
+      batches = s.batches;
+      rest = s.rest;
+      leads = s.leads;
+      read = s.read;
+      resumes = subst (λ (r : List Record). Resumes (again from) recovery.scan.capacity r begin engine outbox new) with_next (resumes (passes none));
+    }
 
-  pub has_next : (scan : ScanState) (batch : List Record) → scan.at ≡ recovery.scan.gate → scan.capacity ≡ recovery.scan.capacity → HasRead scan (recovers.batches ++ batch ∷ []) disk
-      → HasNext from begin disk (record recovery { scan = scan; batch = batch }) new
-  has_next scan batch at capacity read = record {
-    disk_known = reads.disk ∙ recovers.disk_known;
-    settled = still_settled reads.moments reads.disk recovers.settled;
-    batches = recovers.batches;
-    rest = recovery.scan.ahead ++ recovers.read.rest;
-    leads = leads_at;
-    read = read;
-    resumes = resumes_under scan.capacity capacity;
+    -- it may not follow
+    pub bad_there : found ≢ None → HasDamage recovery.scan.at disk
+    bad_there some =
+        let parts = sym (take-append-drop (count + 1) batch) ∙ ap (λ (r : List Record). r ++ drop (count + 1) batch) next_of ∙ append_assoc (take count batch) (x ∷ []) (drop (count + 1) batch) in (
+          recovery.scan.capacity,
+          held,
+          record {
+            batches = s.batches;
+            rest = s.rest;
+            leads = s.leads;
+            lawful = s.resumes.lawful;
+            why = inr (record {
+              good = take count batch;
+              bad = x;
+              later = drop (count + 1) batch;
+              next = recovery.scan.gate;
+              rest = recovery.scan.ahead ++ s.read.rest;
+              leads = subst (λ (b : List Record). LeadsTo recovery.scan.capacity recovery.scan.gate (s.batches ++ b ∷ []) disk (recovery.scan.ahead ++ s.read.rest)) parts s.read.leads;
+              same = refl;
+              refused = λ none. some (verdict_is ∙ none);
+            });
+          },
+        )
+
+-- What was read so far, and what is read or sent then.
+module _ (from : Option ℕ) {begin : Option (List ℕ)} {disk : List ℕ} {recovery : Recovery} {old : Outside} (r : Recovers (again from) begin disk recovery old) {new : Outside} where
+  pub sends_read : Elapses old new (SendsPrefix begin (again from (records_of r.batches)) old) → (all : List Record) → Covers disk all → Elapses old new (SendsPrefix begin (again from all) old)
+  sends_read run all covers = sends_part from (covers recovery.scan.capacity (records_of r.batches) stands_read r.resumes.lawful) run where
+    stands_read : StandsFirst recovery.scan.capacity (records_of r.batches) disk
+    stands_read = record {
+      gate = recovery.scan.gate;
+      batches = r.batches;
+      rest = recovery.scan.ahead ++ r.read.rest;
+      leads = r.read.leads;
+      part = record { more = []; whole = refl };
+    }
+
+  pub greeted : OnlySends old new → (outbox : List ℕ) → Expects begin new.sent outbox (opening from (records_of r.batches))
+      → Recovers (opening from) begin disk (record recovery { outbox = outbox }) new
+  greeted sends outbox expects = record {
+    rests = sends_rests sends r.rests;
+    batches = r.batches;
+    read = r.read;
+    resumes = record { engine_is = r.resumes.engine_is; lawful = r.resumes.lawful; pending_is = expects };
   }
-    where
-      leads_at : LeadsTo scan.capacity scan.at recovers.batches disk (recovery.scan.ahead ++ recovers.read.rest)
-      leads_at = subst (λ (l : ℕ). LeadsTo l scan.at recovers.batches disk (recovery.scan.ahead ++ recovers.read.rest)) (sym capacity)
-          (subst (λ (g : ℕ). LeadsTo recovery.scan.capacity g recovers.batches disk (recovery.scan.ahead ++ recovers.read.rest)) (sym at) recovers.read.leads)
 
-  -- neither a closed gate nor a batch stands there
-  pub stops_at_form : (at : ℕ) → at ≡ recovery.scan.gate → IsDamaged (drop at disk) → StopsAtDamage from begin at disk new
-  stops_at_form at there damaged = record {
-    capacity = recovery.scan.capacity;
-    before = records_of recovers.batches;
-    damaged = record {
-      batches = recovers.batches;
-      rest = recovery.scan.ahead ++ recovers.read.rest;
-      leads = subst (λ (g : ℕ). LeadsTo recovery.scan.capacity g recovers.batches disk (recovery.scan.ahead ++ recovers.read.rest)) (sym there) recovers.read.leads;
-      lawful = recovers.resumes.lawful;
-      why = inl (record { same = refl; damaged = subst IsDamaged (ap (λ (g : ℕ). drop g disk) there ∙ from_gate recovers.read.leads) damaged });
-    };
-    part = record { since = recovers.resumes.pending_is.sent; unsent = recovery.outbox; sent = reads.sent ∙ recovers.resumes.pending_is.known; prefix = recovers.resumes.pending_is.whole };
-  }
+  module _ (reads : OnlyReadsDisk old new) where
+    pub reads_again : (all : List Record) → Covers disk all → Elapses old new (SendsPrefix begin (again from all) old)
+    reads_again = sends_read (widened reads.moments _ (waits begin old recovery.outbox (again from (records_of r.batches)) r.resumes.pending_is))
+
+    rests_read : Rests disk new
+    rests_read = record { known = reads.disk ∙ r.rests.known; settled = still_settled reads.moments reads.disk r.rests.settled }
+
+    resumes_read : (capacity : ℕ) → capacity ≡ recovery.scan.capacity → Resumes (again from) capacity (records_of r.batches) begin recovery.engine recovery.outbox new
+    resumes_read capacity same =
+        subst (λ (l : ℕ). Resumes (again from) l (records_of r.batches) begin recovery.engine recovery.outbox new) (sym same)
+        (record { engine_is = r.resumes.engine_is; lawful = r.resumes.lawful; pending_is = expects_still new.sent reads.sent r.resumes.pending_is })
+
+    leads_at : (capacity at : ℕ) → capacity ≡ recovery.scan.capacity → at ≡ recovery.scan.gate → LeadsTo capacity at r.batches disk (recovery.scan.ahead ++ r.read.rest)
+    leads_at capacity at same there = rw (same, there) r.read.leads
+
+    -- a batch
+    pub has_next : (scan : ScanState) {batch : List Record} (records : List Record) → records ≡ batch → scan.at ≡ recovery.scan.gate → scan.capacity ≡ recovery.scan.capacity
+        → ((batches : List (List Record)) (disk : List ℕ) → old.disk ≡ Some disk → HasRead recovery.scan batches disk → HasRead scan (batches ++ batch ∷ []) disk)
+        → Resuming from begin disk records 0 (record recovery { scan = scan }) new
+    has_next scan records is at same read = record {
+      rests = rests_read;
+      batches = r.batches;
+      rest = recovery.scan.ahead ++ r.read.rest;
+      leads = leads_at scan.capacity scan.at same at;
+      read = subst (λ (b : List Record). HasRead scan (r.batches ++ b ∷ []) disk) (sym is) (read r.batches disk r.rests.known r.read);
+      resumes = resumes_read scan.capacity same;
+    }
+
+    -- the end
+    pub has_end : (scan : ScanState) → scan.capacity ≡ recovery.scan.capacity
+        → ((batches : List (List Record)) (disk : List ℕ) → old.disk ≡ Some disk → HasRead recovery.scan batches disk → HasRead scan batches disk)
+        → Recovers (again from) begin disk (record recovery { scan = scan }) new
+    has_end scan same read = record { rests = rests_read; batches = r.batches; read = read r.batches disk r.rests.known r.read; resumes = resumes_read scan.capacity same }
+
+    -- neither a closed gate nor a batch
+    pub bad_form_there : (at : ℕ) → at ≡ recovery.scan.gate
+        → ((batches : List (List Record)) (disk : List ℕ) → old.disk ≡ Some disk → HasRead recovery.scan batches disk → IsDamaged (drop at disk)) → HasDamage at disk
+    bad_form_there at there damaged = (
+      recovery.scan.capacity,
+      records_of r.batches,
+      record {
+        batches = r.batches;
+        rest = recovery.scan.ahead ++ r.read.rest;
+        leads = leads_at recovery.scan.capacity at refl there;
+        lawful = r.resumes.lawful;
+        why = inl (record {
+          same = refl;
+          damaged = subst IsDamaged (ap (λ (g : ℕ). drop g disk) there ∙ from_gate r.read.leads) (damaged r.batches disk r.rests.known r.read);
+        });
+      },
+    )
 
 -- What is left alone.
 
-pub recovers_nothing : (now : Outside) → OnlyRecovers now now
-recovers_nothing now = record { input = refl; asks = refl; disk = refl; continues = unchanged now }
+pub only_read : {old new : Outside} → OnlyReadsDisk old new → OnlyRecovers old new
+only_read reads = record { input = reads.input; asks = reads.asks; disk = reads.disk; continues = reads.continues }
 
-module _ {old mid new : Outside} (first : OnlyRecovers old mid) where
-  pub with_read : OnlyReadsDisk mid new → OnlyRecovers old new
-  with_read reads = record {
-    input = reads.input ∙ first.input;
-    asks = reads.asks ∙ first.asks;
-    disk = reads.disk ∙ first.disk;
-    continues = further first.continues reads.continues;
-  }
+pub only_sent : {old new : Outside} → OnlySends old new → OnlyRecovers old new
+only_sent sends = record { input = sends.input; asks = sends.asks; disk = sends.disk; continues = sends.continues }
 
-  pub with_sends : OnlySends mid new → OnlyRecovers old new
-  with_sends sends = record {
-    input = sends.input ∙ first.input;
-    asks = sends.asks ∙ first.asks;
-    disk = sends.disk ∙ first.disk;
-    continues = further first.continues sends.continues;
-  }
+pub recovers_on : {old mid new : Outside} → OnlyRecovers old mid → OnlyRecovers mid new → OnlyRecovers old new
+recovers_on first second = record {
+  input = second.input ∙ first.input;
+  asks = second.asks ∙ first.asks;
+  disk = second.disk ∙ first.disk;
+  continues = further first.continues second.continues;
+}
 
 -- Why it was not read to its end.
 
-hinders_fault : (old new : Outside) (f : Fault) → f ≢ fault.Read → HasCause f old new → Hinders (status_of f) old new
-hinders_fault old new fault.Read other cause = absurd (other refl)
-hinders_fault old new fault.Send other cause = cause
-hinders_fault old new fault.Disk other cause = cause
-hinders_fault old new fault.Memory other none = none
+pub answered_on : {T : Type 0} (P : Status → Type 0) (result : Result T Status) {was : Status} → IsErrAnd result (λ e. e ≡ was) → P was → IfErr result P
+answered_on P (Ok x) is p = absurd is
+answered_on P (Err e) is p = subst P (sym is) p
 
-pub hinders_after : {old mid : Outside} (new : Outside) (s : Status) → NoFault old mid → Hinders s mid new → Hinders s old new
-hinders_after new SendFault first why = omega (arith, first.sending, why)
-hinders_after new DiskFault first why = omega (arith, first.storing, why)
-hinders_after new NoMemory first why = faultless first why
-hinders_after new NoJournal first why = faultless first why
-hinders_after new (Damaged at) first why = faultless first why
-hinders_after new Done first why = why
-hinders_after new Usage first why = why
-hinders_after new Truncated first why = why
-hinders_after new ReadFault first why = why
-hinders_after new SessionFull first why = why
-hinders_after new (BadText line) first why = why
+pub fault_hinders : {T : Type 0} (damaged : ℕ → Type 0) (missing : Type 0) {old mid : Outside} (new : Outside) {first : Result T Fault} {f : Fault} → first ≡ Err f → first ≢ Err fault.Read
+    → NoFault old mid → HasCause f mid new → Hinders damaged missing (status_of f) old new
+fault_hinders damaged missing {old} {mid} new {first} {f} is unread none cause =
+    let other : f ≢ fault.Read = λ read. unread (is ∙ ap (λ e. Err e) read) in
+    grind (arith, faultless)
 
--- the answer of a call that a fault, or another status, ended
-pub hindered_by : {T : Type 0} (old new : Outside) (result : Result T Status) (why : Status) → IsErrAnd result (λ e. e ≡ why) → Hinders why old new → Hindered result old new
-hindered_by old new (Ok x) why is hinders = absurd is
-hindered_by old new (Err e) why is hinders = subst (λ (s : Status). Hinders s old new) (sym is) hinders
+pub hinders_on : (damaged worse : ℕ → Type 0) (missing absent : Type 0) (old mid new : Outside) (s : Status) → NoFault old mid → ((at : ℕ) → damaged at → worse at) → (missing → absent)
+    → Hinders damaged missing s mid new → Hinders worse absent s old new
+hinders_on damaged worse missing absent old mid new s none more other why = grind (arith, faultless)
 
-pub hindered_fault : {T U : Type 0} {old mid : Outside} (new : Outside) {first : Result T Fault} (result : Result U Status) {was : Fault} → first ≡ Err was → first ≢ Err fault.Read
-    → IsErrAnd result (λ e. e ≡ status_of was) → NoFault old mid → HasCause was mid new → Hindered result old new
-hindered_fault {old = old} {mid = mid} new result {was} is other gives none cause =
-    hindered_by old new result (status_of was) gives (hinders_after new (status_of was) none (hinders_fault mid new was (λ read. other (is ∙ ap (λ e. Err e) read)) cause))
+pub why_at : (damaged : ℕ → Type 0) (missing : Type 0) (old new : Outside) {s : Status} (same : Status) → s ≡ same → Hinders damaged missing s old new → Hinders damaged missing same old new
+why_at damaged missing old new same is = subst (λ (s : Status). Hinders damaged missing s old new) is
 
-pub hinders_of : {T : Type 0} (old new : Outside) {result : Result T Status} {why : Status} → result ≡ Err why → Hindered result old new → Hinders why old new
-hinders_of {T} old new is hindered = subst (λ (r : Result T Status). Hindered r old new) is hindered
-
--- no fault is told as damage, or as the want of a journal
-pub fault_is : (was : Fault) → (status_of was ≢ status.NoJournal) × ((at : ℕ) → status_of was ≢ status.Damaged at)
-fault_is fault.Read = (λ is. absurd cc, λ at is. absurd cc)
-fault_is fault.Send = (λ is. absurd cc, λ at is. absurd cc)
-fault_is fault.Disk = (λ is. absurd cc, λ at is. absurd cc)
-fault_is fault.Memory = (λ is. absurd cc, λ at is. absurd cc)
-
--- what an answer tells
-pub told_as : {U : Type 0} {result : Result U Status} {was s : Status} → IsErrAnd result (λ e. e ≡ was) → result ≡ Err s → was ≡ s
-told_as {U = U} {was = was} gives err = sym (subst (λ (r : Result U Status). IsErrAnd r (λ e. e ≡ was)) err gives)
-
-pub scan_damaged : (e : ScanError) (at : ℕ) → scan_status e ≡ status.Damaged at → e ≡ scan.Damaged at
-scan_damaged scan.NoMemory at is = absurd cc
-scan_damaged scan.DiskFault at is = absurd cc
-scan_damaged scan.NoJournal at is = absurd cc
-scan_damaged (scan.Damaged place) at is = cc
-
-pub same_place : {T : Type 0} {a b : ℕ} → ◌≡◌ {A = Result T Status} (Err (status.Damaged a)) (Err (status.Damaged b)) → b ≡ a
-same_place is = cc
-
--- the answer of a call, where a test told which
-pub told : {T E : Type 0} {result : Result T E} {a b : T} → result ≡ Ok a → a ≡ b → result ≡ Ok b
-told was test = cc
+-- by what a scan answered
+pub scan_hinders : {T : Type 0} (damaged : ℕ → Type 0) (missing : Type 0) {old new : Outside} (first : Result T ScanError) (e : ScanError) → first ≡ Err e → OnlyReadsDisk old new
+    → (first ≢ Err scan.DiskFault → new.disk_faults ≡ old.disk_faults) → (first ≡ Err scan.DiskFault → Rose old.disk_faults new.disk_faults)
+    → (first ≡ Err scan.NoJournal → missing) → ((at : ℕ) → first ≡ Err (scan.Damaged at) → damaged at) → Hinders damaged missing (scan_status e) old new
+scan_hinders damaged missing first scan.NoMemory was reads none rose no_journal there = reads_faultless reads (none (λ is. cc))
+scan_hinders damaged missing first scan.DiskFault was reads none rose no_journal there = rose was
+scan_hinders damaged missing first scan.NoJournal was reads none rose no_journal there = (reads_faultless reads (none (λ is. cc)), no_journal was)
+scan_hinders damaged missing first (scan.Damaged at) was reads none rose no_journal there = (reads_faultless reads (none (λ is. cc)), there at was)
 
 pub no_error : {T E : Type 0} {result : Result T E} {a : T} {e : E} → result ≡ Ok a → result ≢ Err e
 no_error was err = cc
-
--- the error that a call was answered with, and the one that is answered on
-pub passed_on : {T U : Type 0} {first : Result T Status} {result : Result U Status} {was s : Status} → first ≡ Err was → IsErrAnd result (λ e. e ≡ was) → result ≡ Err s → first ≡ Err s
-passed_on {U = U} {was = was} is gives err = is ∙ ap (λ e. Err e) (sym (subst (λ (r : Result U Status). IsErrAnd r (λ e. e ≡ was)) err gives))
-
-pub scan_told : {T U : Type 0} {first : Result T ScanError} {result : Result U Status} {was : ScanError} {at : ℕ} → first ≡ Err was → IsErrAnd result (λ e. e ≡ scan_status was)
-    → result ≡ Err (status.Damaged at) → first ≡ Err (scan.Damaged at)
-scan_told {U = U} {was = was} {at = at} is gives err =
-    is ∙ ap (λ e. Err e) (scan_damaged was at (sym (subst (λ (r : Result U Status). IsErrAnd r (λ e. e ≡ scan_status was)) err gives)))
-
-pub scan_none : {T U : Type 0} {first : Result T ScanError} {result : Result U Status} {was : ScanError} → first ≡ Err was → IsErrAnd result (λ e. e ≡ scan_status was)
-    → result ≡ Err status.NoJournal → first ≡ Err scan.NoJournal
-scan_none {U = U} {was = was} is gives err =
-    is ∙ ap (λ e. Err e) (by was (sym (subst (λ (r : Result U Status). IsErrAnd r (λ e. e ≡ scan_status was)) err gives)))
-  where
-    by : (e : ScanError) → scan_status e ≡ status.NoJournal → e ≡ scan.NoJournal
-    by scan.NoMemory is = absurd cc
-    by scan.DiskFault is = absurd cc
-    by scan.NoJournal is = refl
-    by (scan.Damaged place) is = absurd cc
 
 -- no message is asked for again where there are no records
 again_none : (from : Option ℕ) → again from [] ≡ []

@@ -1,92 +1,37 @@
 -- A session over a journal that was read to its end, or was not.
-use Rattle.std.proofs.Common.{◌≡◌, ◌≢◌, inl, inr, ℕ, List, [], ◌++◌, refl, sym, ap, subst, ◌∙◌, append_assoc}
-use Rattle.std.specs.Prelude.{Option, Some, Result, Ok, Err, IsOk, OnOk, IfOk, IfErr, IsTrue}
-use Rattle.std.specs.Result.{IsErrAnd}
+use Rattle.std.proofs.Common.{◌≡◌, inl, inr, ℕ, List, [], ◌++◌, refl, sym, ap, subst, ◌∙◌, append_assoc}
+use Rattle.std.specs.Prelude.{Option, Some, IsTrue}
 use Rattle.host_core.specs.declared.status.Status.{Status}
-use Rattle.host_core.specs.declared.status.Status.TheVariants.{Damaged, NoJournal}
+use Rattle.host_core.specs.declared.status.Status.TheVariants.{NoJournal}
 use Rattle.host_core.specs.Outside.{Outside, Elapses, Stays, IsSettled, NoFault}
-use Rattle.host_core.specs.Frames.{OnlyReadsDisk, OnlySends}
-use Rattle.host_core.proofs.Moments.{goes_on, widened, further}
-use Rattle.host_core.proofs.Causes.{faultless}
-use Rattle.wire_in.specs.declared.record.Record.{Record}
+use Rattle.host_core.specs.Frames.{OnlyReadsDisk}
+use Rattle.host_core.proofs.Moments.{goes_on, widened}
+use Rattle.host_core.proofs.Causes.{faultless, no_fault}
 use Rattle.wire_out.specs.Spelling.{spelling}
-use Rattle.journal_core.specs.Layout.{LeadsTo, Holds, records_of}
+use Rattle.journal_core.specs.Layout.{Holds, records_of}
 use Rattle.journal_core.specs.Journal.{IsAtRest}
-use Rattle.journal_core.specs.Journal as journal
 use Rattle.journal_core.specs.Scan.{HasRead, HasNoHeader}
-use Rattle.journal_core.proofs.Readable.{readable}
-use Rattle.rulebook.specs.Admission.{IsLawful}
+use Rattle.journal_core.proofs.Readable.{readable, read_holds}
 use Rattle.rulebook.specs.Sent.{hello}
-use Rattle.engine_core.specs.declared.engine.Engine.{Engine}
-use Rattle.engine_core.specs.EngineState.{Represents}
-use Rattle.engine_core.specs.Pending.{Expects, SendsPrefix}
+use Rattle.engine_core.specs.declared.session.Session.{Session}
+use Rattle.engine_core.specs.Pending.{SendsPrefix}
 use Rattle.engine_core.specs.Sessions.{expected}
 use Rattle.engine_core.specs.Serving.{Reads}
-use Rattle.engine_core.proofs.Pending.{expects_same, sends_none}
+use Rattle.engine_core.proofs.Pending.{sends_none}
 use Rattle.engine_core.proofs.Expecting.{expected-none, safe_of}
 use Rattle.engine_core.proofs.Beginning as engine
 use Rattle.live_core.specs.declared.recovery.Recovery.{Recovery}
 use Rattle.live_core.specs.declared.recovery.Serving.{Serving}
 use Rattle.live_core.specs.Safe.{Begin, Begins, start_of, IsSafeOrPending}
-use Rattle.live_core.specs.Damage.{StopsAtDamage}
 use Rattle.live_core.specs.Ends.{TellsNoJournal}
-use Rattle.live_core.specs.InternalRecovery.{again, Covers, IsReading, Recovers, HasGreeted, OnlyRecovers, Hinders, Hindered}
-use Rattle.live_core.specs.InternalServing.{IsFinished, IsRestored, IsUnread}
-use Rattle.live_core.proofs.Again.{part_on}
+use Rattle.live_core.specs.InternalRecovery.{again, opening, SendsAgain, IsReading, Recovers, OnlyRecovers, HasDamage, Hinders}
+use Rattle.live_core.specs.InternalServing.{IsFinished, IsSound, IsRestored, IsUnread}
+use Rattle.live_core.proofs.Again.{sends_then}
 use Rattle.live_core.proofs.OneDamage.{covers_held, covers_damaged}
-use Rattle.live_core.proofs.Recovering.{recovers_nothing, with_read, hinders_after}
+use Rattle.live_core.proofs.Recovering.{only_read, recovers_on, hinders_on, why_at}
 
--- What was answered.
-
-pub of_ok : {T E P : Type 0} (r : Result T E) → IsOk r → OnOk r P → P
-of_ok (Ok x) ok p = p
-of_ok (Err e) ok p = absurd cc
-
-pub none_of : {T : Type 0} (old new : Outside) (r : Result T Status) → IsOk r → Hindered r old new → NoFault old new
-none_of old new (Ok x) ok none = none
-none_of old new (Err e) ok why = absurd cc
-
-pub if_ok : {T E : Type 0} {P Q R : T → Type 0} (r : Result T E) → IfOk r P → IfOk r Q → ((x : T) → P x → Q x → R x) → IfOk r R
-if_ok (Ok x) p q f = f x p q
-if_ok (Err e) p q f = tt
-
-pub if_err : {T E : Type 0} {P Q : E → Type 0} (r : Result T E) → IfErr r P → ((e : E) → P e → Q e) → IfErr r Q
-if_err (Ok x) p f = tt
-if_err (Err e) p f = f e p
-
-pub answered_on : {T : Type 0} (P : Status → Type 0) (r : Result T Status) {was : Status} → IsErrAnd r (λ e. e ≡ was) → P was → IfErr r P
-answered_on P (Ok x) is p = absurd is
-answered_on P (Err e) is p = subst P (sym is) p
-
-one_disk : {known : Option (List ℕ)} {a b : List ℕ} → known ≡ Some a → known ≡ Some b → a ≡ b
+pub one_disk : {known : Option (List ℕ)} {a b : List ℕ} → known ≡ Some a → known ≡ Some b → a ≡ b
 one_disk first second = cc
-
-no_damage : (status : Status) (at : ℕ) → TellsNoJournal status → status ≢ Damaged at
-no_damage status at (inl tells) is = absurd cc
-no_damage status at (inr (inl tells)) is = absurd cc
-no_damage status at (inr (inr tells)) is = absurd cc
-
--- The greeting is appended.
-pub greeted : {from : Option ℕ} {begin : Option (List ℕ)} {disk : List ℕ} {recovery : Recovery} {now : Outside} (recovers : Recovers from begin disk recovery now) (outbox : List ℕ) (new : Outside) → OnlySends now new
-    → Expects begin new.sent outbox (again from (records_of recovers.batches) ++ spelling (hello (records_of recovers.batches)))
-    → HasGreeted from begin disk (record recovery { outbox = outbox }) new
-greeted recovers outbox new sends expects = record {
-  disk_known = sends.disk ∙ recovers.disk_known;
-  settled = record { only = λ image left. sends.disk ∙ recovers.settled.only image (sends.left image left) };
-  batches = recovers.batches;
-  read = recovers.read;
-  engine_is = recovers.resumes.engine_is;
-  lawful = recovers.resumes.lawful;
-  pending_is = expects;
-}
-
-pub reading_still : (recovery : Recovery) (outbox : List ℕ) (known same : Option (List ℕ)) → same ≡ known → IsReading recovery 0 known → IsReading (record recovery { outbox = outbox }) 0 same
-reading_still recovery outbox known same is reading = record {
-  of_disk = λ disk there. reading.of_disk disk (sym is ∙ there);
-  capacity = reading.capacity;
-  count = reading.count;
-  small = reading.small;
-}
 
 -- The stops of a start.
 module _ (begin : Begin) {input : List ℕ} {old : Outside} (begins : Begins begin input old) where
@@ -107,126 +52,97 @@ module _ (begin : Begin) {input : List ℕ} {old : Outside} (begins : Begins beg
           ∙ ap (λ (b : List ℕ). b ++ spelling (hello begin.held)) (stop.prefix ∙ ap (λ (f : Option ℕ). again f begin.held) (sym same))
           ∙ sym (expected-none (start_of begin))
 
+-- while the disk is only read, nothing of a text is sent
+none_sent : {old mid : Outside} → OnlyReadsDisk old mid → (text : List ℕ) → Elapses old mid (SendsPrefix old.sent text old)
+none_sent {old} reads text = widened reads.moments (SendsPrefix old.sent text old) (sends_none text old)
+
 -- no journal was begun
 pub unbegun : (from : Option ℕ) (status : Status) {old mid : Outside} → OnlyReadsDisk old mid → TellsNoJournal status
-    → (status ≡ NoJournal → (disk : List ℕ) → mid.disk ≡ Some disk → HasNoHeader disk) → Hinders status old mid → IsUnread from status old mid
-unbegun from status {old} {mid} reads tells header why = record {
+    → Hinders (λ at. ⊥) ((disk : List ℕ) → mid.disk ≡ Some disk → HasNoHeader disk) status old mid → IsUnread from status old mid
+unbegun from status {old} {mid} reads tells why = record {
   moments = λ begin input same begins. pending_still begin begins reads.moments;
-  damage_moments = λ capacity at before disk known damaged. widened reads.moments (SendsPrefix old.sent (again from before) old) (sends_none (again from before) old);
-  damaged = λ at is. absurd (no_damage status at tells is);
-  no_journal = λ is disk known. header is disk (reads.disk ∙ known);
-  header = inl (tells, reads.sent);
-  keeps = with_read (recovers_nothing old) reads;
-  hinders = why;
+  damage_moments = λ capacity at before disk known damaged. none_sent reads (again from before);
+  no_header = λ disk known none. (tells, reads.sent);
+  unsent = λ is. reads.sent;
+  keeps = only_read reads;
+  hinders = hinders_on _ _ _ _ old old mid status (no_fault old) (λ at none. absurd none) (λ missing disk known. missing disk (reads.disk ∙ known)) why;
 }
 
 -- A journal was begun, and then read.
 module _ (from : Option ℕ) {old mid new : Outside} {recovery : Recovery} (reads : OnlyReadsDisk old mid) (none : NoFault old mid)
-    (begun : (from : Option ℕ) (disk : List ℕ) → mid.disk ≡ Some disk → Recovers from mid.sent disk recovery mid) (keeps : OnlyRecovers mid new)
-    (moments : (begin : Option (List ℕ)) (disk : List ℕ) (all : List Record) → Recovers from begin disk recovery mid → Covers disk all → Elapses mid new (SendsPrefix begin (again from all) mid)) where
-  begun_at : (disk : List ℕ) → old.disk ≡ Some disk → Recovers from old.sent disk recovery mid
-  begun_at disk known = subst (λ (b : Option (List ℕ)). Recovers from b disk recovery mid) reads.sent (begun from disk (reads.disk ∙ known))
+    (begun : (from : Option ℕ) (disk : List ℕ) → mid.disk ≡ Some disk → Recovers (again from) mid.sent disk recovery mid) (keeps : OnlyRecovers mid new)
+    (moments : (begin : Option (List ℕ)) (disk : List ℕ) → Recovers (again from) begin disk recovery mid → SendsAgain from begin disk mid new) where
+  begun_at : (disk : List ℕ) → old.disk ≡ Some disk → Recovers (again from) old.sent disk recovery mid
+  begun_at disk known = subst (λ (b : Option (List ℕ)). Recovers (again from) b disk recovery mid) reads.sent (begun from disk (reads.disk ∙ known))
 
-  started : (begin : Begin) {input : List ℕ} → (begins : Begins begin input old) → Recovers from (Some begin.sent) begins.disk recovery mid
-  started begin begins = subst (λ (b : Option (List ℕ)). Recovers from b begins.disk recovery mid) begins.sent_known (begun_at begins.disk begins.disk_known)
+  started : {begin : Begin} {input : List ℕ} → (begins : Begins begin input old) → Recovers (again from) (Some begin.sent) begins.disk recovery mid
+  started begins = subst (λ (b : Option (List ℕ)). Recovers (again from) b begins.disk recovery mid) begins.sent_known (begun_at begins.disk begins.disk_known)
 
   start_moments : (begin : Begin) (input : List ℕ) → begin.from ≡ from → Begins begin input old → Elapses old new (IsSafeOrPending old begin [])
   start_moments begin input same begins =
-      let one = started begin begins in
       goes_on (pending_still begin begins reads.moments)
-      (moments (Some begin.sent) begins.disk begin.held one (covers_held begins.disk begin.capacity begin.held begins.holds))
-      (safe_opening begin begins from same reads.disk one.settled)
-
-  all_keeps : OnlyRecovers old new
-  all_keeps = record {
-    input = keeps.input ∙ reads.input;
-    asks = keeps.asks ∙ reads.asks;
-    disk = keeps.disk ∙ reads.disk;
-    continues = further reads.continues keeps.continues;
-  }
+      (moments (Some begin.sent) begins.disk (started begins) begin.held (covers_held begins.disk begin.capacity begin.held begins.holds))
+      (safe_opening begin begins from same reads.disk (started begins).rests.settled)
 
   -- but not to its end
-  pub unread : (status : Status) → status ≢ NoJournal → ((disk : List ℕ) → mid.disk ≡ Some disk → ¬ HasNoHeader disk)
-      → ((at : ℕ) → status ≡ Damaged at → (begin : Option (List ℕ)) (disk : List ℕ) → Recovers from begin disk recovery mid → StopsAtDamage from begin at disk new)
-      → Hinders status mid new → IsUnread from status old new
-  unread status other header damaged why = record {
+  pub unread : (status : Status) → ((disk : List ℕ) → mid.disk ≡ Some disk → ¬ HasNoHeader disk)
+      → Hinders (λ at. (begin : Option (List ℕ)) (disk : List ℕ) → Recovers (again from) begin disk recovery mid → HasDamage at disk) ⊥ status mid new → IsUnread from status old new
+  unread status header why = record {
     moments = start_moments;
-    damage_moments = λ capacity at before disk known is_damaged.
-        part_on from (record { more = []; whole = refl }) (widened reads.moments (SendsPrefix old.sent (again from before) old) (sends_none (again from before) old))
-        (moments old.sent disk before (begun_at disk known) (covers_damaged capacity at before disk is_damaged));
-    damaged = λ at is disk known. damaged at is old.sent disk (begun_at disk known);
-    no_journal = λ is. absurd (other is);
-    header = inr (other, λ disk known. header disk (reads.disk ∙ known));
-    keeps = all_keeps;
-    hinders = hinders_after new status none why;
+    damage_moments = λ capacity at before disk known damaged.
+        sends_then (none_sent reads (again from before)) (moments old.sent disk (begun_at disk known) before (covers_damaged capacity at before disk damaged));
+    no_header = λ disk known missing. absurd (header disk (reads.disk ∙ known) missing);
+    unsent = λ is. absurd (why_at _ _ mid new NoJournal is why).1;
+    keeps = recovers_on (only_read reads) keeps;
+    hinders = hinders_on _ _ _ _ old mid new status none (λ at there disk known. there old.sent disk (begun_at disk known)) (λ missing. absurd missing) why;
   }
 
   -- to its end
-  module _ {after : Recovery} (all_read : (begin : Option (List ℕ)) (disk : List ℕ) → Recovers from begin disk recovery mid → HasGreeted from begin disk after new)
+  module _ {after : Recovery} (all_read : (begin : Option (List ℕ)) (disk : List ℕ) → Recovers (again from) begin disk recovery mid → Recovers (opening from) begin disk after new)
       (is_closed : IsTrue after.scan.is_closed) (serving : Serving) (finished : IsFinished after serving) where
     module _ (begin : Begin) (input : List ℕ) (same : begin.from ≡ from) (begins : Begins begin input old) where
-      done : HasGreeted from (Some begin.sent) begins.disk after new
-      done = all_read (Some begin.sent) begins.disk (started begin begins)
+      abbrev done : Recovers (opening from) (Some begin.sent) begins.disk after new
+      done = all_read (Some begin.sent) begins.disk (started begins)
 
-      all : (after.scan.capacity ≡ begin.capacity) × (records_of done.batches ≡ begin.held)
-      all = readable.all begins.disk begin.capacity begin.held after.scan done.batches begins.holds done.read is_closed
+      abbrev read : Begin
+      read = record { capacity = after.scan.capacity; from = from; held = records_of done.batches; sent = begin.sent }
 
-      engine_is : Represents serving.session.engine begin.capacity begin.held begin.held
-      engine_is =
-          subst (λ (e : Engine). Represents e begin.capacity begin.held begin.held) (sym finished.engine)
-          (subst (λ (r : List Record). Represents after.engine begin.capacity r r) all.1
-          (subst (λ (l : ℕ). Represents after.engine l (records_of done.batches) (records_of done.batches)) all.0 done.engine_is))
+      -- what was read is what the disk held
+      read_is : read ≡ begin
+      read_is =
+          let all = readable.all begins.disk begin.capacity begin.held after.scan done.batches begins.holds done.read is_closed in
+          λ i. record { capacity = all.0 i; from = sym same i; held = all.1 i; sent = begin.sent }
 
-      at_rest : IsAtRest serving.keeper.journal begin.held new
+      at_rest : IsAtRest serving.keeper.journal read.held new
       at_rest = record {
-        settled = done.settled;
-        keeps = λ disk known.
-            subst (λ (r : List Record). journal.Represents serving.keeper.journal r disk) all.1
-            (finished.keeps done.batches disk (subst (λ (d : List ℕ). HasRead after.scan done.batches d) (one_disk done.disk_known known) done.read));
+        settled = done.rests.settled;
+        keeps = λ disk known. finished.keeps done.batches disk (subst (λ (d : List ℕ). HasRead after.scan done.batches d) (one_disk done.rests.known known) done.read);
       }
-
-      pending_is : Expects (Some begin.sent) new.sent serving.session.outbox (again begin.from begin.held ++ spelling (hello begin.held))
-      pending_is =
-          subst (λ (waiting : List ℕ). Expects (Some begin.sent) new.sent waiting (again begin.from begin.held ++ spelling (hello begin.held))) (sym finished.outbox)
-          (expects_same (again from (records_of done.batches) ++ spelling (hello (records_of done.batches))) (again begin.from begin.held ++ spelling (hello begin.held))
-          (ap (λ (r : List Record). again from r ++ spelling (hello r)) all.1 ∙ ap (λ (f : Option ℕ). again f begin.held ++ spelling (hello begin.held)) (sym same))
-          done.pending_is)
 
       session_reads : Reads (λ records now. IsAtRest serving.keeper.journal records now) (start_of begin) input 0 serving.session new
       session_reads =
-          engine.begins (λ records now. IsAtRest serving.keeper.journal records now) (start_of begin) input serving.session new
-          finished.cutter finished.round finished.answered engine_is at_rest pending_is (all_keeps.input ∙ begins.input_known)
+          subst (λ (b : Begin). Reads (λ records now. IsAtRest serving.keeper.journal records now) (start_of b) input 0 serving.session new) read_is
+          (subst (λ (s : Session). Reads (λ records now. IsAtRest serving.keeper.journal records now) (start_of read) input 0 s new) (sym finished.session)
+          (engine.begins (λ records now. IsAtRest serving.keeper.journal records now) (start_of read) input _ new refl refl refl
+          done.resumes.engine_is at_rest done.resumes.pending_is (keeps.input ∙ reads.input ∙ begins.input_known)))
 
       capacity_is : serving.keeper.journal.capacity ≡ begin.capacity
-      capacity_is = finished.capacity ∙ all.0
+      capacity_is = finished.capacity ∙ ap (λ (b : Begin). b.capacity) read_is
 
-    holds_lawful : (disk : List ℕ) → old.disk ≡ Some disk → (capacity : ℕ) × (held : List Record) × Holds disk capacity held × IsLawful capacity held
-    holds_lawful disk known =
+    sound : (disk : List ℕ) → old.disk ≡ Some disk → IsSound disk
+    sound disk known =
         let done = all_read old.sent disk (begun_at disk known) in
-        let zero = done.read.closed is_closed in (
-          after.scan.capacity,
-          records_of done.batches,
-          record {
-            gate = after.scan.gate;
-            held = record {
-              batches = done.batches;
-              same = refl;
-              rest = zero.0;
-              leads = subst (λ (l : List ℕ). LeadsTo after.scan.capacity after.scan.gate done.batches disk l) zero.1 done.read.leads;
-            };
-          },
-          done.lawful,
-        )
+        record { capacity = after.scan.capacity; held = records_of done.batches; holds = read_holds disk after.scan done.batches done.read is_closed; lawful = done.resumes.lawful }
 
-    pub restored : IsReading after 0 new.disk → NoFault mid new → IsRestored from serving old new
+    pub restored : IsReading after.scan after.engine 0 new.disk → NoFault mid new → IsRestored from serving old new
     restored reading more = record {
       moments = start_moments;
       reads = session_reads;
       capacity = capacity_is;
-      lawful = holds_lawful;
+      sound = sound;
       ready = finished.ready new.disk reading;
-      empty = finished.round;
-      answered = finished.answered;
-      keeps = all_keeps;
+      empty = ap (λ (s : Session). s.round) finished.session;
+      answered = ap (λ (s : Session). s.answered) finished.session;
+      keeps = recovers_on (only_read reads) keeps;
       none = faultless none more;
     }

@@ -1,34 +1,41 @@
 -- A session whose journal was read to its end, and one whose journal was not.
-use Rattle.std.specs.Prelude.{◌≡◌, ◌≢◌, ◌⊎◌, ℕ, List, [], Option, Some}
+use Rattle.std.specs.Prelude.{◌≡◌, ℕ, ◌<◌, List, [], length, min, take, true, Option, Some}
 use Rattle.host_core.specs.declared.status.Status.{Status}
-use Rattle.host_core.specs.declared.status.Status.TheVariants.{Damaged, NoJournal}
-use Rattle.host_core.specs.Outside.{Outside, Elapses, NoFault}
+use Rattle.host_core.specs.declared.status.Status.TheVariants.{ReadFault, NoJournal}
+use Rattle.host_core.specs.Outside.{Outside, Elapses, NoFault, Continues}
+use Rattle.wire_in.specs.Cutting.{bodies_of}
 use Rattle.wire_in.specs.declared.record.Record.{Record}
-use Rattle.journal_core.specs.Journal.{IsAtRest}
+use Rattle.journal_core.specs.Journal.{JournalState, IsAtRest}
 use Rattle.journal_core.specs.Journal as journal
 use Rattle.journal_core.specs.Layout.{Holds, records_of}
 use Rattle.journal_core.specs.Scan.{HasRead, HasNoHeader}
 use Rattle.rulebook.specs.Admission.{IsLawful}
+use Rattle.engine_core.specs.declared.session.Session.{Session}
+use Rattle.engine_core.specs.Ends.{IsEnd, ReadsAtMost, Told, end_of}
 use Rattle.engine_core.specs.Pending.{SendsPrefix}
 use Rattle.engine_core.specs.Serving.{Reads, IsReady}
+use Rattle.engine_core.specs.Sessions.{Start, Answered, IsSafe, Prompt}
 use Rattle.live_core.specs.declared.recovery.Recovery.{Recovery}
 use Rattle.live_core.specs.declared.recovery.Serving.{Serving}
 use Rattle.live_core.specs.Safe.{Begin, Begins, start_of, IsSafeOrPending}
-use Rattle.live_core.specs.Damage.{IsDamagedAt, StopsAtDamage}
-use Rattle.live_core.specs.Ends.{TellsNoJournal}
+use Rattle.live_core.specs.Damage.{IsDamagedAt}
+use Rattle.live_core.specs.Ends.{IsUnserved, TellsNoJournal}
 use Rattle.live_core.specs.InternalKeeping.{HasRoom}
-use Rattle.live_core.specs.InternalRecovery.{again, IsReading, OnlyRecovers, Hinders}
+use Rattle.live_core.specs.InternalRecovery.{again, HasDamage, IsReading, OnlyRecovers, Hinders}
 
 -- a session over what a journal was read into
 pub record IsFinished (recovery : Recovery) (serving : Serving) : Type 0 where
   pub keeps : (batches : List (List Record)) (disk : List ℕ) → HasRead recovery.scan batches disk → journal.Represents serving.keeper.journal (records_of batches) disk
   pub capacity : serving.keeper.journal.capacity ≡ recovery.scan.capacity
-  pub ready : (known : Option (List ℕ)) → IsReading recovery 0 known → IsReady (HasRoom serving.keeper.journal known) serving.session
-  pub cutter : serving.session.cutter ≡ []
-  pub engine : serving.session.engine ≡ recovery.engine
-  pub round : serving.session.round ≡ []
-  pub outbox : serving.session.outbox ≡ recovery.outbox
-  pub answered : serving.session.answered ≡ 0
+  pub ready : (known : Option (List ℕ)) → IsReading recovery.scan recovery.engine 0 known → IsReady (HasRoom serving.keeper.journal known) serving.session
+  pub session : serving.session ≡ record { cutter = []; engine = recovery.engine; round = []; outbox = recovery.outbox; answered = 0 }
+
+-- the disk holds a lawful list
+pub record IsSound (disk : List ℕ) : Type 0 where
+  pub capacity : ℕ
+  pub held : List Record
+  pub holds : Holds disk capacity held
+  pub lawful : IsLawful capacity held
 
 -- a session may begin
 pub record IsRestored (from : Option ℕ) (serving : Serving) (old new : Outside) : Type 0 where
@@ -36,7 +43,7 @@ pub record IsRestored (from : Option ℕ) (serving : Serving) (old new : Outside
   pub reads : (begin : Begin) (input : List ℕ) → begin.from ≡ from → Begins begin input old
       → Reads (λ records now. IsAtRest serving.keeper.journal records now) (start_of begin) input 0 serving.session new
   pub capacity : (begin : Begin) (input : List ℕ) → begin.from ≡ from → Begins begin input old → serving.keeper.journal.capacity ≡ begin.capacity
-  pub lawful : (disk : List ℕ) → old.disk ≡ Some disk → (capacity : ℕ) × (held : List Record) × Holds disk capacity held × IsLawful capacity held
+  pub sound : (disk : List ℕ) → old.disk ≡ Some disk → IsSound disk
   pub ready : IsReady (HasRoom serving.keeper.journal new.disk) serving.session
   pub empty : serving.session.round ≡ []
   pub answered : serving.session.answered ≡ 0
@@ -48,8 +55,22 @@ pub record IsUnread (from : Option ℕ) (status : Status) (old new : Outside) : 
   pub moments : (begin : Begin) (input : List ℕ) → begin.from ≡ from → Begins begin input old → Elapses old new (IsSafeOrPending old begin [])
   pub damage_moments : (capacity at : ℕ) (before : List Record) (disk : List ℕ) → old.disk ≡ Some disk → IsDamagedAt capacity at before disk
       → Elapses old new (SendsPrefix old.sent (again from before) old)
-  pub damaged : (at : ℕ) → status ≡ Damaged at → (disk : List ℕ) → old.disk ≡ Some disk → StopsAtDamage from old.sent at disk new
-  pub no_journal : status ≡ NoJournal → (disk : List ℕ) → old.disk ≡ Some disk → HasNoHeader disk
-  pub header : (TellsNoJournal status × (new.sent ≡ old.sent)) ⊎ ((status ≢ NoJournal) × ((disk : List ℕ) → old.disk ≡ Some disk → ¬ HasNoHeader disk))
+  pub no_header : (disk : List ℕ) → old.disk ≡ Some disk → HasNoHeader disk → TellsNoJournal status × (new.sent ≡ old.sent)
+  pub unsent : status ≡ NoJournal → new.sent ≡ old.sent
   pub keeps : OnlyRecovers old new
-  pub hinders : Hinders status old new
+  pub hinders : Hinders (λ at. (disk : List ℕ) → old.disk ≡ Some disk → HasDamage at disk) ((disk : List ℕ) → old.disk ≡ Some disk → HasNoHeader disk) status old new
+
+-- the input was answered, up to so many bytes
+pub record IsAnswered (most : ℕ) (before after : JournalState) (session : Session) (status : Status) (old new : Outside) : Type 0 where
+  pub exact : (start : Start) (input : List ℕ) → start.acknowledges ≡ true → Reads (λ records now. IsAtRest before records now) start input 0 session old
+      → IsEnd status → (status ≡ end_of most input) × Answered (λ records now. IsAtRest after records now) start input (min most (length input)) new
+  pub unread : (start : Start) (input : List ℕ) → start.acknowledges ≡ true → Reads (λ records now. IsAtRest before records now) start input 0 session old
+      → status ≡ ReadFault → (count : ℕ) × (count < most) × Answered (λ records now. IsAtRest after records now) start input count new
+  pub moments : (start : Start) (input : List ℕ) → start.acknowledges ≡ true → Reads (λ records now. IsAtRest before records now) start input 0 session old
+      → Elapses old new (IsSafe (λ records image. Holds image before.capacity records) start (bodies_of (take most input)))
+  pub prompt : (start : Start) (input : List ℕ) → start.acknowledges ≡ true → Reads (λ records now. IsAtRest before records now) start input 0 session old
+      → Prompt start input old.asks new.asks
+  pub bytes : ReadsAtMost most old.input new.input
+  pub continues : Continues old new
+  pub served : ¬ IsUnserved status
+  pub told : Told status old new

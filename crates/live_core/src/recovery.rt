@@ -1,6 +1,6 @@
 //! The records of a journal, evaluated again from the first to the last.
 
-ghost use Rattle.std.specs.Prelude.{◌≡◌, ◌≢◌, ◌+◌, ◌<◌, ◌≤◌, ◌^◌, ◌++◌, ◌∷◌, [], ℕ, List, Option, Some, None, true, false, Ok, Err, IsOk, OnOk, IfOk, IfErr, IsTrue, length, drop};
+ghost use Rattle.std.specs.Prelude.{◌≡◌, ◌≢◌, ◌+◌, ◌<◌, ◌≤◌, ◌^◌, ◌++◌, ◌∷◌, [], ℕ, List, Option, Some, None, Err, OnOk, IfOk, IfErr, IsTrue, length, drop};
 ghost use Rattle.host_core.specs.Outside.{Outside, NoFault, Elapses};
 ghost use Rattle.host_core.specs.Frames.{OnlySends};
 ghost use Rattle.host_core.specs.Faults.{Causes};
@@ -9,11 +9,10 @@ ghost use Rattle.rulebook.specs.Admission.{verdict};
 ghost use Rattle.rulebook.specs.Sent.{spelled, numbered, hello, passed_over};
 ghost use Rattle.wire_out.specs.Spelling.{spelling};
 ghost use Rattle.market_core.specs.AdmissionState.{refusal_of};
-ghost use Rattle.journal_core.specs.Layout.{with_batch};
 ghost use Rattle.engine_core.specs.EngineState as engines;
 ghost use Rattle.engine_core.specs.Pending.{Expects, SendsPrefix};
 ghost use Rattle.live_core.specs.InternalServing.{IsRestored, IsUnread};
-ghost use Rattle.live_core.specs.InternalRecovery.{again, IsSmall, Resumes, IsRefusedIn, CoversBatch};
+ghost use Rattle.live_core.specs.InternalRecovery.{again, IsSmall, Resumes};
 
 use crate::keeper::JournalKeeper;
 use engine_core::{Engine, Outbox, Round, Session, append_messages};
@@ -70,9 +69,9 @@ fn resume_record<H: Host>(
 ) -> Result<(), Fault>
     requires small { IsSmall engine.old }
     requires admissible { refusal_of engine.old.admission x.now ≡ None }
-    ensures resumes { (capacity : ℕ) (held : List Record) (begin : Option (List ℕ)) → Resumes from capacity held begin engine.old outbox.old (H.outside host.old)
-        → verdict capacity held x.now ≡ None → OnOk result (Resumes from capacity (x.now ∷ held) begin engine.new outbox.new (H.outside host.new)) }
-    ensures moments { (capacity : ℕ) (held : List Record) (begin : Option (List ℕ)) → Resumes from capacity held begin engine.old outbox.old (H.outside host.old)
+    ensures resumes { (capacity : ℕ) (held : List Record) (begin : Option (List ℕ)) → Resumes (again from) capacity held begin engine.old outbox.old (H.outside host.old)
+        → verdict capacity held x.now ≡ None → OnOk result (Resumes (again from) capacity (x.now ∷ held) begin engine.new outbox.new (H.outside host.new)) }
+    ensures moments { (capacity : ℕ) (held : List Record) (begin : Option (List ℕ)) → Resumes (again from) capacity held begin engine.old outbox.old (H.outside host.old)
         → verdict capacity held x.now ≡ None → Elapses (H.outside host.old) (H.outside host.new) (SendsPrefix begin (again from (x.now ∷ held)) (H.outside host.old)) }
     ensures small { OnOk result (IsSmall engine.new) }
     ensures count { OnOk result (engine.new.admission.count ≡ engine.old.admission.count + 1) }
@@ -87,153 +86,101 @@ fn resume_record<H: Host>(
     append_again(outbox, host, from, before, &engine.messages)
 }
 
-/// Evaluates the records of a batch, one after the other, up to the first that may not follow; false where there is one.
-fn resume_batch<H: Host>(
-    engine: &mut Engine,
-    outbox: &mut Outbox,
-    host: &mut H,
-    from: Option<u64>,
-    records: &[Record],
-) -> Result<bool, Fault>
-    requires small { IsSmall engine.old }
-    ensures resumes { result ≡ Ok true → (capacity : ℕ) (held : List Record) (begin : Option (List ℕ)) → Resumes from capacity held begin engine.old outbox.old (H.outside host.old)
-        → Resumes from capacity (with_batch held records.now) begin engine.new outbox.new (H.outside host.new) }
-    ensures refused { result ≡ Ok false → (capacity : ℕ) (held : List Record) (begin : Option (List ℕ)) → Resumes from capacity held begin engine.old outbox.old (H.outside host.old)
-        → IsRefusedIn from capacity held records.now begin engine.new outbox.new (H.outside host.new) }
-    ensures moments { (capacity : ℕ) (held all : List Record) (begin : Option (List ℕ)) → Resumes from capacity held begin engine.old outbox.old (H.outside host.old)
-        → CoversBatch capacity held records.now all
-        → Elapses (H.outside host.old) (H.outside host.new) (SendsPrefix begin (again from all) (H.outside host.old)) }
-    ensures small { result ≡ Ok true → IsSmall engine.new }
-    ensures count { result ≡ Ok true → engine.new.admission.count ≡ engine.old.admission.count + length records.now }
-    ensures capacity { engine.new.admission.capacity ≡ engine.old.admission.capacity }
-    ensures keeps { OnlySends (H.outside host.old) (H.outside host.new) }
-    ensures causes { Causes result (H.outside host.old) (H.outside host.new) }
-    ensures unread { result ≢ Err Fault.Read }
-{
-    for x in records {
-        if engine.admission.verdict(x).is_some() {
-            return Ok(false);
-        }
-        resume_record(engine, outbox, host, from, x)?;
-    }
-    Ok(true)
-}
-
-/// What is kept while a journal is read: how far it was read, the engine of the records so far, what waits to be sent, and
-/// the batch that was read last.
+/// What is kept while a journal is read: how far it was read, the engine of the records so far, and what waits to be sent.
 #[derive(Drop)]
 pub struct Recovery {
     pub scan: Scan,
     pub engine: Engine,
     pub outbox: Outbox,
-    pub batch: Batch,
 }
 
 /// An engine of no records, under the capacity of a journal.
 fn begin_engine(alloc: Global, capacity: u64) -> Result<Engine, Fault>
+    requires { capacity ≤ 2000000000 }
     ensures represents { IfOk result (λ engine. engines.Represents engine capacity [] []) }
-    ensures none { IfOk result (λ engine. (engine.admission.count ≡ 0) × (engine.evaluated ≡ 0) × (engine.published ≡ 0)) }
+    ensures none { IfOk result (λ engine. engine.admission.count ≡ 0) }
+    ensures small { IfOk result IsSmall }
     ensures memory { IfErr result (λ fault. fault ≡ Fault.Memory) }
 {
     Ok(Engine::new(alloc, capacity)?)
 }
 
 impl Recovery {
-    ghost use Rattle.live_core.specs.Damage.{StopsAtDamage};
     ghost use Rattle.host_core.specs.Frames.{OnlyReadsDisk};
     ghost use Rattle.journal_core.specs.Scan.{HasNoHeader};
     ghost use Rattle.live_core.specs.Ends.{TellsNoJournal};
-    ghost use Rattle.live_core.specs.InternalRecovery.{Covers, IsReading, Recovers, HasNext, HasGreeted, OnlyRecovers, Hindered};
+    ghost use Rattle.live_core.specs.InternalRecovery.{opening, SendsAgain, HasDamage, IsReading, Recovers, Resuming, OnlyRecovers, Hinders};
     ghost use Rattle.live_core.specs.InternalServing.{IsFinished};
 
-    /// Evaluates the batch that was read last.
-    fn resume<H: Host>(&mut self, host: &mut H, from: Option<u64>) -> Result<(), Status>
-        requires { IsReading self.old (length self.old.batch) (H.outside host.old).disk }
-        ensures recovers { (begin : Option (List ℕ)) (disk : List ℕ) → HasNext from begin disk self.old (H.outside host.old)
-            → OnOk result (Recovers from begin disk self.new (H.outside host.new)) }
-        ensures damaged { (at : ℕ) → result ≡ Err (Status.Damaged at) → (begin : Option (List ℕ)) (disk : List ℕ) → HasNext from begin disk self.old (H.outside host.old)
-            → StopsAtDamage from begin at disk (H.outside host.new) }
-        ensures moments { (begin : Option (List ℕ)) (disk : List ℕ) (all : List Record) → HasNext from begin disk self.old (H.outside host.old) → Covers disk all
-            → Elapses (H.outside host.old) (H.outside host.new) (SendsPrefix begin (again from all) (H.outside host.old)) }
-        ensures reading { OnOk result (IsReading self.new 0 (H.outside host.new).disk) }
+    /// Evaluates the records of the batch that was read last, one after the other, up to the first that may not follow.
+    fn resume<H: Host>(
+        &mut self,
+        host: &mut H,
+        from: Option<u64>,
+        records: &[Record],
+    ) -> Result<(), Status>
+        requires { IsReading self.old.scan self.old.engine (length records.now) (H.outside host.old).disk }
+        ensures recovers { (begin : Option (List ℕ)) (disk : List ℕ) → Resuming from begin disk records.now 0 self.old (H.outside host.old)
+            → OnOk result (Recovers (again from) begin disk self.new (H.outside host.new)) }
+        ensures moments { (begin : Option (List ℕ)) (disk : List ℕ) → Resuming from begin disk records.now 0 self.old (H.outside host.old)
+            → SendsAgain from begin disk (H.outside host.old) (H.outside host.new) }
+        ensures reading { OnOk result (IsReading self.new.scan self.new.engine 0 (H.outside host.new).disk) }
         ensures scan { self.new.scan ≡ self.old.scan }
-        ensures begun { result ≢ Err Status.NoJournal }
         ensures keeps { OnlySends (H.outside host.old) (H.outside host.new) }
-        ensures hindered { Hindered result (H.outside host.old) (H.outside host.new) }
+        ensures none { OnOk result (NoFault (H.outside host.old) (H.outside host.new)) }
+        ensures hindered { IfErr result (λ status. Hinders (λ at. (begin : Option (List ℕ)) (disk : List ℕ) → Resuming from begin disk records.now 0 self.old (H.outside host.old) → HasDamage at disk)
+            ⊥ status (H.outside host.old) (H.outside host.new)) }
     {
-        let whole = resume_batch(
-            &mut self.engine,
-            &mut self.outbox,
-            host,
-            from,
-            self.batch.list(),
-        )?;
-        if !whole {
-            return Err(Status::Damaged { at: self.scan.at() });
+        for x in records {
+            if self.engine.admission.verdict(x).is_some() {
+                return Err(Status::Damaged { at: self.scan.at() });
+            }
+            resume_record(&mut self.engine, &mut self.outbox, host, from, x)?;
         }
         Ok(())
-    }
-
-    /// Reads a journal to its end, and evaluates its batches.
-    fn read_all<H: Host>(&mut self, host: &mut H, from: Option<u64>) -> Result<(), Status>
-        requires { IsReading self.old 0 (H.outside host.old).disk }
-        ensures recovers { (begin : Option (List ℕ)) (disk : List ℕ) → Recovers from begin disk self.old (H.outside host.old)
-            → OnOk result (Recovers from begin disk self.new (H.outside host.new)) }
-        ensures damaged { (at : ℕ) → result ≡ Err (Status.Damaged at) → (begin : Option (List ℕ)) (disk : List ℕ) → Recovers from begin disk self.old (H.outside host.old)
-            → StopsAtDamage from begin at disk (H.outside host.new) }
-        ensures moments { (begin : Option (List ℕ)) (disk : List ℕ) (all : List Record) → Recovers from begin disk self.old (H.outside host.old) → Covers disk all
-            → Elapses (H.outside host.old) (H.outside host.new) (SendsPrefix begin (again from all) (H.outside host.old)) }
-        ensures reading { OnOk result (IsReading self.new 0 (H.outside host.new).disk) }
-        ensures closed { OnOk result (IsTrue self.new.scan.is_closed) }
-        ensures begun { result ≢ Err Status.NoJournal }
-        ensures keeps { OnlyRecovers (H.outside host.old) (H.outside host.new) }
-        ensures hindered { Hindered result (H.outside host.old) (H.outside host.new) }
-    {
-        'batches: loop {
-            let more = self.scan.next(host, &mut self.batch)?;
-            if !more {
-                return Ok(());
-            }
-            self.resume(host, from)?;
-        }
     }
 
     /// Reads a journal to its end, evaluates its batches, and appends what a session sends before its first frame is answered.
-    fn recover<H: Host>(&mut self, host: &mut H, from: Option<u64>) -> Result<(), Status>
-        requires { IsReading self.old 0 (H.outside host.old).disk }
-        ensures greeted { (begin : Option (List ℕ)) (disk : List ℕ) → Recovers from begin disk self.old (H.outside host.old)
-            → OnOk result (HasGreeted from begin disk self.new (H.outside host.new)) }
-        ensures damaged { (at : ℕ) → result ≡ Err (Status.Damaged at) → (begin : Option (List ℕ)) (disk : List ℕ) → Recovers from begin disk self.old (H.outside host.old)
-            → StopsAtDamage from begin at disk (H.outside host.new) }
-        ensures moments { (begin : Option (List ℕ)) (disk : List ℕ) (all : List Record) → Recovers from begin disk self.old (H.outside host.old) → Covers disk all
-            → Elapses (H.outside host.old) (H.outside host.new) (SendsPrefix begin (again from all) (H.outside host.old)) }
-        ensures reading { OnOk result (IsReading self.new 0 (H.outside host.new).disk) }
+    fn recover<H: Host>(
+        &mut self,
+        host: &mut H,
+        from: Option<u64>,
+        batch: &mut Batch,
+    ) -> Result<(), Status>
+        requires { IsReading self.old.scan self.old.engine 0 (H.outside host.old).disk }
+        ensures recovers { (begin : Option (List ℕ)) (disk : List ℕ) → Recovers (again from) begin disk self.old (H.outside host.old)
+            → OnOk result (Recovers (opening from) begin disk self.new (H.outside host.new)) }
+        ensures moments { (begin : Option (List ℕ)) (disk : List ℕ) → Recovers (again from) begin disk self.old (H.outside host.old)
+            → SendsAgain from begin disk (H.outside host.old) (H.outside host.new) }
+        ensures reading { OnOk result (IsReading self.new.scan self.new.engine 0 (H.outside host.new).disk) }
         ensures closed { OnOk result (IsTrue self.new.scan.is_closed) }
-        ensures begun { result ≢ Err Status.NoJournal }
         ensures keeps { OnlyRecovers (H.outside host.old) (H.outside host.new) }
-        ensures hindered { Hindered result (H.outside host.old) (H.outside host.new) }
+        ensures none { OnOk result (NoFault (H.outside host.old) (H.outside host.new)) }
+        ensures hindered { IfErr result (λ status. Hinders (λ at. (begin : Option (List ℕ)) (disk : List ℕ) → Recovers (again from) begin disk self.old (H.outside host.old) → HasDamage at disk)
+            ⊥ status (H.outside host.old) (H.outside host.new)) }
     {
-        self.read_all(host, from)?;
-        greet(&self.engine, &mut self.outbox, host)?;
-        Ok(())
+        'batches: loop {
+            let more = self.scan.next(host, batch)?;
+            if !more {
+                greet(&self.engine, &mut self.outbox, host)?;
+                return Ok(());
+            }
+            self.resume(host, from, batch.list())?;
+        }
     }
 
     /// Begins at the header of a journal.
-    fn begin<H: Host>(
-        alloc: Global,
-        host: &mut H,
-        outbox: Outbox,
-        batch: Batch,
-    ) -> Result<Recovery, Status>
+    fn begin<H: Host>(alloc: Global, host: &mut H, outbox: Outbox) -> Result<Recovery, Status>
         requires { outbox ≡ [] }
         ensures recovers { IfOk result (λ recovery. (from : Option ℕ) (disk : List ℕ) → (H.outside host.new).disk ≡ Some disk
-            → Recovers from (H.outside host.new).sent disk recovery (H.outside host.new)) }
-        ensures reading { IfOk result (λ recovery. IsReading recovery 0 (H.outside host.new).disk) }
+            → Recovers (again from) (H.outside host.new).sent disk recovery (H.outside host.new)) }
+        ensures reading { IfOk result (λ recovery. IsReading recovery.scan recovery.engine 0 (H.outside host.new).disk) }
         ensures header { OnOk result ((disk : List ℕ) → (H.outside host.new).disk ≡ Some disk → ¬ HasNoHeader disk) }
-        ensures no_journal { result ≡ Err Status.NoJournal → (disk : List ℕ) → (H.outside host.new).disk ≡ Some disk → HasNoHeader disk }
         ensures kind { IfErr result TellsNoJournal }
         ensures keeps { OnlyReadsDisk (H.outside host.old) (H.outside host.new) }
-        ensures hindered { Hindered result (H.outside host.old) (H.outside host.new) }
+        ensures none { OnOk result (NoFault (H.outside host.old) (H.outside host.new)) }
+        ensures hindered { IfErr result (λ status. Hinders (λ _. ⊥) ((disk : List ℕ) → (H.outside host.new).disk ≡ Some disk → HasNoHeader disk)
+            status (H.outside host.old) (H.outside host.new)) }
     {
         let scan = Scan::begin(alloc, host)?;
         let engine = begin_engine(alloc, scan.limit())?;
@@ -241,25 +188,21 @@ impl Recovery {
             scan,
             engine,
             outbox,
-            batch,
         })
     }
 
-    /// A session, where the journal was read to its end.
-    fn finish(self, read: Result<(), Status>, round: Round) -> Result<Serving, Status>
-        requires closed { OnOk read (IsTrue self.scan.is_closed) }
+    /// A session over a journal that was read to its end.
+    fn finish(self, round: Round) -> Serving
+        requires closed { IsTrue self.scan.is_closed }
         requires empty { round ≡ [] }
-        ensures finished { IfOk result (λ serving. IsFinished self serving) }
-        ensures ended { IfOk result (λ serving. IsOk read) }
-        ensures unread { IfErr result (λ status. read ≡ Err status) }
+        ensures { IsFinished self result }
     {
-        read?;
-        Ok(Serving {
+        Serving {
             session: Session::new(self.engine, round, self.outbox),
             keeper: JournalKeeper {
                 journal: self.scan.finish(),
             },
-        })
+        }
     }
 }
 
@@ -293,7 +236,7 @@ pub fn restore<H: Host>(
     alloc: Global,
     host: &mut H,
     outbox: Outbox,
-    batch: Batch,
+    batch: &mut Batch,
     round: Round,
     from: Option<u64>,
 ) -> Result<Serving, Status>
@@ -302,7 +245,7 @@ pub fn restore<H: Host>(
     ensures restored { IfOk result (λ serving. IsRestored from serving (H.outside host.old) (H.outside host.new)) }
     ensures unread { IfErr result (λ status. IsUnread from status (H.outside host.old) (H.outside host.new)) }
 {
-    let mut recovery = Recovery::begin(alloc, host, outbox, batch)?;
-    let read = recovery.recover(host, from);
-    recovery.finish(read, round)
+    let mut recovery = Recovery::begin(alloc, host, outbox)?;
+    recovery.recover(host, from, batch)?;
+    Ok(recovery.finish(round))
 }

@@ -1,10 +1,13 @@
 //! A session over a journal and a live input.
 
 ghost use Rattle.std.specs.Prelude.{◌≡◌, ◌<◌, ◌≤◌, [], IfOk, length, vec_len};
+ghost use Rattle.engine_core.specs.Serving.{IsReady};
 ghost use Rattle.live_core.specs.Served.{Served};
+ghost use Rattle.live_core.specs.InternalKeeping.{HasRoom};
+ghost use Rattle.live_core.specs.InternalServing.{IsAnswered};
 
-use crate::recovery::restore;
-use engine_core::{Outbox, PIECE, Round, serve_input};
+use crate::recovery::{Serving, restore};
+use engine_core::{Outbox, PIECE, Round, answer_of, serve_input};
 use host_core::{Host, Status};
 use journal_core::Batch;
 use price_core::NoMemory;
@@ -50,13 +53,32 @@ impl Room {
     }
 }
 
+/// Answers the input, up to its end or up to so many bytes.
+fn answer<H: Host>(serving: &mut Serving, host: &mut H, buffer: &mut [u8], bytes: u64) -> Status
+    requires buffer { 0 < length buffer.old }
+    requires bytes { bytes ≤ BYTES_MAX }
+    requires ready { IsReady (HasRoom serving.old.keeper.journal (H.outside host.old).disk) serving.old.session }
+    requires empty { serving.old.session.round ≡ [] }
+    requires fresh { serving.old.session.answered ≡ 0 }
+    ensures { IsAnswered bytes serving.old.keeper.journal serving.new.keeper.journal serving.old.session result (H.outside host.old) (H.outside host.new) }
+{
+    answer_of(serve_input(
+        &mut serving.session,
+        &mut serving.keeper,
+        host,
+        FRAMES,
+        buffer,
+        bytes,
+    ))
+}
+
 /// Serves with the room that it was given.
 fn serve_in<H: Host>(
     alloc: Global,
     host: &mut H,
     options: &ServeOptions,
     outbox: Outbox,
-    batch: Batch,
+    batch: &mut Batch,
     round: Round,
     buffer: &mut [u8],
 ) -> Status
@@ -67,17 +89,7 @@ fn serve_in<H: Host>(
     ensures served { Served options.now.from options.now.bytes result (H.outside host.old) (H.outside host.new) }
 {
     match restore(alloc, host, outbox, batch, round, options.from) {
-        Ok(mut serving) => match serve_input(
-            &mut serving.session,
-            &mut serving.keeper,
-            host,
-            FRAMES,
-            buffer,
-            options.bytes,
-        ) {
-            Ok(status) => status,
-            Err(fault) => fault.into(),
-        },
+        Ok(mut serving) => answer(&mut serving, host, buffer, options.bytes),
         Err(status) => status,
     }
 }
@@ -99,11 +111,11 @@ pub fn serve<Rt: Threads + Sync, H: Host>(
         Ok(
             Room {
                 outbox,
-                batch,
+                mut batch,
                 round,
                 mut buffer,
             },
-        ) => serve_in(alloc, host, options, outbox, batch, round, &mut buffer),
+        ) => serve_in(alloc, host, options, outbox, &mut batch, round, &mut buffer),
         Err(_) => Status::NoMemory,
     }
 }

@@ -1,10 +1,9 @@
 -- Symbols that are evaluated one after the other.
-use Rattle.std.proofs.Common.{◌≡◌, ℕ, Bool, true, false, zero, suc, ◌+◌, ◌<◌, ◌≤◌, ◌≢◌, List, [], ◌∷◌, length, get_or, ◌++◌, length-append, Option, Some, None, Result, Ok, Err, is_ok, cond, refl, sym, ap, subst, ◌∙◌, add-one, true≢false, arith}
+use Rattle.std.proofs.Common.{◌≡◌, ℕ, Bool, true, false, zero, suc, ◌+◌, ◌<◌, ◌≤◌, ◌≢◌, List, [], ◌∷◌, length, get_or, ◌++◌, length-append, Option, Some, None, Result, Ok, Err, refl, sym, ap, subst, ◌∙◌, add-one, true≢false, arith}
 use Rattle.std.specs.Prelude.{OnOk, slice_get, slice_set, position, unwrap_or, ◌==◌}
 use Rattle.std.specs.Str.{bytes_eq}
 use Rattle.std.proofs.lemmas.List.Quantifiers.{position-Some}
-use Rattle.std.proofs.lemmas.Option.{slice_get-get_or, slice_get_read}
-use Rattle.std.proofs.lemmas.List.{length-set}
+use Rattle.std.proofs.lemmas.Option.{slice_get-get_or}
 use Rattle.price_core.specs.declared.error.NoMemory.{NoMemory}
 use Rattle.wire_in.specs.declared.record.Record.{Record}
 use Rattle.wire_in.specs.declared.record.Record.TheVariants as in_
@@ -17,7 +16,7 @@ use Rattle.rulebook.proofs.Ids.{same_id}
 use Rattle.symbol_core.specs.Rests.{Held, Rests}
 use Rattle.symbol_core.specs.Silent.{SaysNothing}
 use Rattle.market_core.specs.declared.market.Today.{Today}
-use Rattle.market_core.specs.Applied.{Appends, AppendsBelow, OneEvaluated, Evaluated, Ticks, ByTarget, Applies, Finds, Lists, OnToday}
+use Rattle.market_core.specs.Applied.{Appends, AppendsBelow, AppendsOne, OneEvaluated, Evaluated, Ticks, ByTarget, Applies, Finds, Lists, OnToday}
 use Rattle.market_core.specs.AdmissionState.{added}
 use Rattle.market_core.specs.MarketState.{MarketState}
 use Rattle.market_core.specs.Ruled.{view_of}
@@ -66,28 +65,18 @@ pub later_more : (i : ℕ) (old new : List Held) (is : Held) → ((k : ℕ) → 
 later_more i old new is later k le = get-set_other new i is k (omega arith) ∙ later k (omega arith)
 
 -- one symbol of a market is evaluated, and the others are left as they were
-pub one_evaluated : (r : Result (Unit {0}) NoMemory) (s : ℕ) (x : Record) (old : MarketState) (directory : List (List ℕ)) (on : Option Today) (today : Today) (symbols : List Held) (market : MarketView)
-    (was is : Held) (begun before after : List Stamped) → record { directory = directory; today = on; symbols = symbols } ≡ old → on ≡ Some today → market ≡ view_of today → s < length symbols
-    → was ≡ get_or symbols s was → begun ≡ before → OnOk r (Appends market x was is begun after)
-    → OnOk r (Evaluated s x old (record { directory = directory; today = on; symbols = slice_set symbols s is }) before after)
-one_evaluated (Ok u) s x old directory on today symbols market was is begun before after seen day view lt item unsaid appends =
-    subst (λ (k : MarketState). Evaluated s x k (record { directory = directory; today = on; symbols = slice_set symbols s is }) before after) seen
+pub one_evaluated : (r : Result (Unit {0}) NoMemory) (s : ℕ) (x : Record) (old : MarketState) (directory : List (List ℕ)) (on : Option Today) (today : Today) (symbols with : List Held) (market : MarketView)
+    (begun before after : List Stamped) → record { directory = directory; today = on; symbols = symbols } ≡ old → on ≡ Some today → market ≡ view_of today
+    → begun ≡ before → OnOk r (AppendsOne s market x symbols with begun after)
+    → OnOk r (Evaluated s x old (record { directory = directory; today = on; symbols = with }) before after)
+one_evaluated (Ok u) s x old directory on today symbols with market begun before after seen day view unsaid one =
+    subst (λ (k : MarketState). Evaluated s x k (record { directory = directory; today = on; symbols = with }) before after) seen
     (λ now e within.
     let same : today ≡ now = cc in
-    record {
-      directory = refl;
-      today_is = refl;
-      count = length-set symbols s is;
-      appends = record {
-        was = was;
-        is = is;
-        found = slice_get_read symbols (length symbols) s was refl lt item;
-        left = get-set_same symbols s is lt;
-        appends = subst (λ (m : MarketView). Appends m x was is before after) (view ∙ ap view_of same) (subst (λ (b : List Stamped). Appends market x was is b after) unsaid appends);
-      };
-      others = λ k ne. get-set_other symbols s is k ne;
-    })
-one_evaluated (Err u) s x old directory on today symbols market was is begun before after seen day view lt item unsaid appends = tt
+    let own : AppendsOne s (view_of now) x symbols with before after =
+    subst (λ (m : MarketView). AppendsOne s m x symbols with before after) (view ∙ ap view_of same) (subst (λ (b : List Stamped). AppendsOne s market x symbols with b after) unsaid one) in
+    record { directory = refl; today_is = refl; count = own.count; appends = own.at; others = own.others })
+one_evaluated (Err u) s x old directory on today symbols with market begun before after seen day view unsaid one = tt
 
 -- a record that begins no day and lists no name is applied to the symbol that it names, or to all
 applies_other : (x : Record) (old new : MarketState) (before after : List Stamped) → IsOther x → ByTarget (symbol_of x) x old new before after
@@ -135,30 +124,27 @@ lists (Err u) y name s x old middle new begun before after unsaid e f one = absu
 
 -- The symbol of a new name.
 
-get-before : {X : Type 0} (xs : List X) (y : X) (k : ℕ) → k < length xs → slice_get (xs ++ y ∷ []) k ≡ slice_get xs k
+pub get-before : {X : Type 0} (xs : List X) (y : X) (k : ℕ) → k < length xs → slice_get (xs ++ y ∷ []) k ≡ slice_get xs k
 get-before [] y k lt = absurd (omega arith)
 get-before (x ∷ xs) y zero lt = refl
 get-before (x ∷ xs) y (suc k) lt = get-before xs y k (omega arith)
 
 -- what stands behind the others is the last
-get-last : {X : Type 0} (xs : List X) (y z : X) (k : ℕ) → length xs ≤ k → slice_get (xs ++ y ∷ []) k ≡ Some z → (k ≡ length xs) × (z ≡ y)
+pub get-last : {X : Type 0} (xs : List X) (y z : X) (k : ℕ) → length xs ≤ k → slice_get (xs ++ y ∷ []) k ≡ Some z → (k ≡ length xs) × (z ≡ y)
 get-last [] y z zero le e = (refl, cc)
 get-last [] y z (suc k) le e = absurd cc
 get-last (x ∷ xs) y z zero le e = absurd (omega arith)
 get-last (x ∷ xs) y z (suc k) le e = let rest = get-last xs y z k (omega arith) e in (ap suc rest.0, rest.1)
 
-pub makes : {E : Type 0} (r : Result (Unit {0}) E) (u : Unit {0}) (name : List ℕ) (id index : ℕ) (old : MarketState) (directory with_name : List (List ℕ)) (on : Option Today) (symbols room with_symbol : List Held) (held : Held)
+pub makes : (name : List ℕ) (id index : ℕ) (old : MarketState) (directory with_name : List (List ℕ)) (on : Option Today) (symbols with_symbol : List Held) (held : Held)
     → record { directory = directory; today = on; symbols = symbols } ≡ old → position (bytes_eq name) old.directory ≡ None → length symbols ≡ length directory → id ≡ length directory → index ≡ length directory
-    → held.kept.id ≡ index → ((own : List ℕ → Bool) (h : List Event) → SaysNothing own index h → Rests own held h) → with_name ≡ directory ++ name ∷ [] → room ≡ symbols
-    → r ≡ Ok u → with_symbol ≡ cond (is_ok r) (room ++ held ∷ []) room
+    → held.kept.id ≡ index → ((own : List ℕ → Bool) (h : List Event) → SaysNothing own index h → Rests own held h) → with_name ≡ directory ++ name ∷ []
+    → with_symbol ≡ symbols ++ held ∷ []
     → Finds name id old (record { directory = with_name; today = on; symbols = with_symbol })
-makes r u name id index old directory with_name on symbols room with_symbol held seen fresh as_many id_is index_is held_is rests named same done pushed =
+makes name id index old directory with_name on symbols with_symbol held seen fresh as_many id_is index_is held_is rests named last =
     subst (λ (xs : List Held). Finds name id old (record { directory = with_name; today = on; symbols = xs })) (sym last)
     (subst (λ (k : MarketState). Finds name id k (record { directory = with_name; today = on; symbols = symbols ++ held ∷ [] })) seen found)
   where
-    last : with_symbol ≡ symbols ++ held ∷ []
-    last = pushed ∙ (λ i. cond (is_ok (done i)) (same i ++ held ∷ []) (same i))
-
     new : position (bytes_eq name) directory ≡ None
     new = ap (λ (k : MarketState). position (bytes_eq name) k.directory) seen ∙ fresh
 

@@ -2,6 +2,7 @@ pub mod Verdicts
 pub mod MarkedNames
 pub mod Admitting
 pub mod Appending
+pub mod Sections
 pub mod RecordsOfOthers
 pub mod OwnSteps
 pub mod MarketSteps

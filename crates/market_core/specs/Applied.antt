@@ -37,6 +37,12 @@ AppendsBelow zero market x old new before after = after ≡ before
 AppendsBelow (suc n) market x old new before after =
     (middle : List Stamped) × AppendsBelow n market x old new before middle × AppendsAt n market x old new middle after
 
+-- the symbol of an id is evaluated, and the others are left as they were
+pub record AppendsOne (s : ℕ) (market : MarketView) (x : Record) (old new : List Held) (before after : List Stamped) : Type 0 where
+  pub count : length new ≡ length old
+  pub at : AppendsAt s market x old new before after
+  pub others : (k : ℕ) → k ≢ s → slice_get new k ≡ slice_get old k
+
 -- all symbols are evaluated
 pub record EachEvaluated (today : Today) (x : Record) (old new : MarketState) (before after : List Stamped) : Type 0 where
   pub directory : new.directory ≡ old.directory

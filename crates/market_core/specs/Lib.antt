@@ -4,4 +4,5 @@ pub mod AdmissionState
 pub mod MarketState
 pub mod Ruled
 pub mod Applied
+pub mod Sections
 pub mod Isolation

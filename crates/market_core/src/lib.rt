@@ -5,6 +5,8 @@ mod admission;
 mod directory;
 mod law;
 mod market;
+mod section;
+mod since;
 mod symbols;
 #[cfg(test)]
 mod tests;

@@ -13,7 +13,8 @@ ghost use Rattle.market_core.specs.Isolation.{newest_isolated};
 ghost use Rattle.market_core.specs.AdmissionState.{is_full_for, lacks_room, added};
 
 use crate::directory::Directory;
-use crate::symbols::{append, evaluate, evaluate_each};
+use crate::section::Section;
+use crate::symbols::append;
 use breaker_core::Breaker;
 use price_core::{Index, NoMemory};
 use rulebook::MOST_NAMES;
@@ -40,20 +41,18 @@ pub struct Market {
     alloc: Global,
     directory: Directory,
     today: Option<Today>,
-    symbols: Vec<Symbol>,
-    said: Vec<Message>,
+    section: Section,
 }
 
 impl Model for Market {
-    ghost use Rattle.std.specs.Prelude.{◌≡◌, ◌≤◌, length, vec_len, vec_capacity};
-    ghost use Rattle.symbol_core.specs.Evaluates.{most_of_symbol};
+    ghost use Rattle.std.specs.Prelude.{◌≡◌, length};
     ghost use Rattle.market_core.specs.MarketState.{MarketState};
 
     ghost Value = { MarketState };
 
-    ghost view = { λ market. record { directory = market.directory; today = market.today; symbols = market.symbols.items } };
+    ghost view = { λ market. record { directory = market.directory; today = market.today; symbols = market.section.symbols } };
 
-    ghost invariant = { λ market. (vec_len market.symbols ≡ length market.directory) × (most_of_symbol ≤ vec_capacity market.said) };
+    ghost invariant = { λ market. length market.section.symbols ≡ length market.directory };
 }
 
 impl Today {
@@ -131,13 +130,11 @@ impl Market {
     pub fn new(alloc: Global) -> Result<Market, NoMemory>
         ensures { IfOk result (λ market. Represents market []) }
     {
-        let said = Vec::with_capacity(alloc, MOST_OF_SYMBOL)?;
         Ok(Market {
             alloc,
             directory: Directory::new(alloc),
             today: None,
-            symbols: Vec::new(alloc),
-            said,
+            section: Section::new(alloc)?,
         })
     }
 
@@ -157,10 +154,10 @@ impl Market {
     {
         // For the proof: it says of the record what the condition says.
         let _day = x.is_day();
-        out.reserve(MOST_OF_SYMBOL * self.symbols.len())?;
+        out.reserve(MOST_OF_SYMBOL * self.directory.len())?;
         let market = today.view();
         self.today = Some(today);
-        evaluate_each(&mut self.symbols, x, &market, &mut self.said, out);
+        self.section.begin_day(x, &market, out);
         Ok(())
     }
 
@@ -173,11 +170,11 @@ impl Market {
         ensures room { vec_len out.old + most_of_names (length self.old.directory) ≤ vec_capacity out.old → IsOk result }
         ensures keeps_room { vec_capacity out.old ≤ vec_capacity out.new }
     {
-        out.reserve(2 + MOST_OF_SYMBOL * self.symbols.len())?;
+        out.reserve(2 + MOST_OF_SYMBOL * self.directory.len())?;
         if let Some(today) = &mut self.today {
             today.rule(x, out);
             let ruled = today.view();
-            evaluate_each(&mut self.symbols, x, &ruled, &mut self.said, out);
+            self.section.tick(x, &ruled, out);
         }
         Ok(())
     }
@@ -196,12 +193,11 @@ impl Market {
         };
         let market = today.view();
         let index = id as usize;
-        if self.symbols.len() <= index {
+        if self.section.len() <= index {
             return Ok(());
         }
         out.reserve(MOST_OF_SYMBOL)?;
-        let symbol = &mut self.symbols[index];
-        evaluate(symbol, x, &market, &mut self.said, out)
+        self.section.evaluate(index, x, &market, out)
     }
 
     /// Makes the symbol of a new name.
@@ -211,10 +207,10 @@ impl Market {
         ensures ok { IfOk result (λ id. Finds name id self.old self.new) }
         ensures err { OnErr result (self.new ≡ self.old) }
     {
-        self.symbols.reserve(1)?;
+        self.section.reserve()?;
         let symbol = Symbol::new(self.alloc, self.directory.len() as u16)?;
         let id = self.directory.push(name)?;
-        self.symbols.push(symbol).unwrap();
+        self.section.push(symbol);
         Ok(id)
     }
 
@@ -225,7 +221,7 @@ impl Market {
         ensures err { OnErr result (self.new ≡ self.old) }
     {
         // For the proof: it has the invariant, that there are as many symbols as names.
-        let _symbols = self.symbols.len();
+        let _symbols = self.section.len();
         match self.directory.id(name) {
             Some(id) => Ok(Some(id)),
             None if self.directory.len() >= MOST_NAMES => Ok(None),

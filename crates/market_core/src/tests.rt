@@ -1,5 +1,5 @@
 use super::*;
-use price_core::{Index, Leverage, Price, Tier};
+use price_core::{Cause, Index, Leverage, Price, Tier};
 use session_core::{Close, Date, Day, Level, Moment, Phase, Profile};
 use std::alloc::Global;
 use std::process::Abort;
@@ -399,5 +399,189 @@ fn quiet_clocks_take_no_room(rt: HostRuntime) -> Result<(), Fail> {
     }
     assert_eq!(rt; out.len(), messages);
     assert_eq!(rt; out.capacity(), room);
+    Ok(())
+}
+
+/// An opening trade at 20.00 dollars.
+fn opening(moment: Moment, symbol: u16) -> Result<Record, Fail> {
+    Ok(Record::Trade {
+        moment,
+        symbol,
+        number: 1,
+        price: Price::new(200_000)?,
+        size: 100,
+        flags: 1,
+    })
+}
+
+/// A quotation with that offer, a cent above its bid.
+fn offered(moment: Moment, symbol: u16, offer: u64) -> Result<Record, Fail> {
+    Ok(Record::Quote {
+        moment,
+        symbol,
+        bid: Some(Price::new(offer.saturating_sub(100))?),
+        offer: Some(Price::new(offer)?),
+        bid_size: 1,
+        offer_size: 1,
+    })
+}
+
+/// The bands around 20.00 dollars.
+fn band(cause: Cause, moment: Moment, symbol: u16) -> Result<Stamped, Fail> {
+    let message = Message::Band {
+        symbol,
+        cause,
+        reference: Price::new(200_000)?,
+        lower: Price::new(190_000)?,
+        upper: Price::new(210_000)?,
+    };
+    Ok(said(moment, message))
+}
+
+/// The first collars after a pause at the lower of these bands.
+fn collar(moment: Moment, symbol: u16) -> Result<Stamped, Fail> {
+    let message = Message::Collar {
+        symbol,
+        round: 0,
+        lower: Price::new(180_500)?,
+        upper: Price::new(210_000)?,
+    };
+    Ok(said(moment, message))
+}
+
+#[test]
+fn a_stock_is_due_a_nanosecond_before_its_neighbour(rt: HostRuntime) -> Result<(), Fail> {
+    let early = at(9, 0, 0, 0)?;
+    let start = at(10, 0, 0, 0)?;
+    let (first, second) = (at(10, 0, 1, 0)?, at(10, 0, 1, 1)?);
+    let (first_pause, second_pause) = (at(10, 0, 16, 0)?, at(10, 0, 16, 1)?);
+    expect_messages(
+        &rt,
+        &[
+            day(3)?,
+            listing(early, name(0))?,
+            listing(early, name(1))?,
+            clock(start),
+            opening(start, 0)?,
+            opening(start, 1)?,
+            offered(first, 1, 190_000)?,
+            offered(second, 0, 190_000)?,
+            clock(at(10, 0, 15, 999_999_999)?),
+            clock(first_pause),
+            clock(second_pause),
+        ],
+        &[
+            listed(early, 0, 0),
+            listed(early, 1, 1),
+            state(start, 0, Phase::Trading),
+            state(start, 1, Phase::Trading),
+            band(Cause::First, start, 0)?,
+            band(Cause::First, start, 1)?,
+            state(first, 1, Phase::LimitLow),
+            state(second, 0, Phase::LimitLow),
+            state(first_pause, 1, Phase::Paused),
+            collar(first_pause, 1)?,
+            state(second_pause, 0, Phase::Paused),
+            collar(second_pause, 0)?,
+        ],
+    )
+}
+
+#[test]
+fn a_tick_after_an_hour_brings_all_that_was_due(rt: HostRuntime) -> Result<(), Fail> {
+    let early = at(9, 0, 0, 0)?;
+    let start = at(10, 0, 0, 0)?;
+    let late = at(11, 0, 0, 0)?;
+    expect_messages(
+        &rt,
+        &[
+            day(3)?,
+            listing(early, name(0))?,
+            listing(early, name(1))?,
+            clock(start),
+            opening(start, 0)?,
+            opening(start, 1)?,
+            offered(start, 1, 190_000)?,
+            offered(start, 0, 190_000)?,
+            clock(late),
+        ],
+        &[
+            listed(early, 0, 0),
+            listed(early, 1, 1),
+            state(start, 0, Phase::Trading),
+            state(start, 1, Phase::Trading),
+            band(Cause::First, start, 0)?,
+            band(Cause::First, start, 1)?,
+            state(start, 1, Phase::LimitLow),
+            state(start, 0, Phase::LimitLow),
+            state(late, 0, Phase::Paused),
+            collar(late, 0)?,
+            state(late, 1, Phase::Paused),
+            collar(late, 1)?,
+        ],
+    )
+}
+
+#[test]
+fn a_record_of_its_own_moves_when_a_stock_is_due(rt: HostRuntime) -> Result<(), Fail> {
+    let start = at(10, 0, 0, 0)?;
+    let left = at(10, 0, 14, 0)?;
+    let again = at(10, 0, 14, 1)?;
+    let end = at(10, 0, 29, 1)?;
+    expect_messages(
+        &rt,
+        &[
+            day(3)?,
+            listing(start, name(0))?,
+            clock(start),
+            opening(start, 0)?,
+            offered(start, 0, 190_000)?,
+            clock(at(10, 0, 13, 0)?),
+            offered(left, 0, 190_100)?,
+            offered(again, 0, 190_000)?,
+            clock(at(10, 0, 15, 0)?),
+            clock(at(10, 0, 29, 0)?),
+            clock(end),
+        ],
+        &[
+            listed(start, 0, 0),
+            state(start, 0, Phase::Trading),
+            band(Cause::First, start, 0)?,
+            state(start, 0, Phase::LimitLow),
+            state(left, 0, Phase::Trading),
+            band(Cause::Forced, left, 0)?,
+            state(again, 0, Phase::LimitLow),
+            state(end, 0, Phase::Paused),
+            collar(end, 0)?,
+        ],
+    )
+}
+
+/// Stocks are listed; before the session opens a clock brings them nothing, and once it has, each begins to trade.
+fn expect_opening<R: Abort + AllocGlobal>(rt: &R, count: u16) -> Result<(), Fail> {
+    let alloc = rt.alloc();
+    let early = at(9, 0, 0, 0)?;
+    let open = at(9, 30, 0, 0)?;
+    let mut xs = Vec::new(alloc);
+    let mut want = Vec::new(alloc);
+    xs.push(day(3)?)?;
+    for number in 0..count {
+        xs.push(listing(early, name(number))?)?;
+        want.push(listed(early, number, number))?;
+    }
+    for moment in [early, at(9, 29, 59, 999_999_999)?, open, open] {
+        xs.push(clock(moment))?;
+    }
+    for number in 0..count {
+        want.push(state(open, number, Phase::Trading))?;
+    }
+    expect_messages(rt, xs.as_slice(), want.as_slice())
+}
+
+#[test]
+fn each_of_many_stocks_begins_to_trade_at_the_open(rt: HostRuntime) -> Result<(), Fail> {
+    for count in [1, 63, 64, 65, 130] {
+        expect_opening(&rt, count)?;
+    }
     Ok(())
 }

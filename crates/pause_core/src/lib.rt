@@ -8,5 +8,7 @@ mod tests;
 mod turning;
 
 pub use pausing::pause;
-pub use phases::{is_done, is_limit, is_trading};
+pub use phases::{
+    can_market_halt, can_start, is_done, is_in_regulatory_halt, is_limit, is_trading,
+};
 pub use turning::{Brakes, Turned, market_halt, regulatory_halt, session_close, start, turn};

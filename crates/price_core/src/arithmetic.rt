@@ -11,8 +11,24 @@ pub fn mean(sum: u128, n: u64) -> Price
     requires most { sum ≤ 99999999999 * n }
     ensures { result ≡ mean sum n }
 {
+    if sum < QUICK_SUMS {
+        return quick_mean(sum as u64, n);
+    }
     let n = u128::from(n);
     Price::of(((2 * sum + n) / (2 * n)) as u64)
+}
+
+/// Below it three times a sum fits 64 bits, whose division is much quicker than that of 128.
+const QUICK_SUMS: u128 = 1 << 62;
+
+fn quick_mean(sum: u64, n: u64) -> Price
+    requires some { 0 < n }
+    requires least { n ≤ sum }
+    requires most { sum ≤ 99999999999 * n }
+    requires quick { sum < 2 ^ 62 }
+    ensures { result ≡ mean sum n }
+{
+    Price::of((2 * sum + n) / (2 * n))
 }
 
 /// Whether a price is at least one per cent away from a reference price (LULD Plan, Section V).

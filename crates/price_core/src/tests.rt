@@ -33,6 +33,21 @@ fn a_mean_is_rounded_half_up(rt: HostRuntime) {
 }
 
 #[test]
+fn a_mean_of_a_sum_of_more_than_62_bits_is_rounded_half_up(rt: HostRuntime) {
+    let n = 50_000_000;
+    assert_eq!(rt; mean((1 << 62) - 1, n).units(), 92_233_720_369);
+    assert_eq!(rt; mean(1 << 62, n).units(), 92_233_720_369);
+    assert_eq!(rt;
+        mean(92_233_720_369 * 50_000_000 + 25_000_000, n).units(),
+        92_233_720_370
+    );
+    assert_eq!(rt;
+        mean(92_233_720_369 * 50_000_000 + 24_999_999, n).units(),
+        92_233_720_369
+    );
+}
+
+#[test]
 fn a_reference_price_moves_by_one_per_cent(rt: HostRuntime) -> Result<(), Fail> {
     let reference = Price::new(500_000)?;
     for (units, want) in [

@@ -1,18 +1,18 @@
 -- A replay, from its start to its end.
-use Rattle.std.proofs.Common.{◌≡◌, ℕ, ◌<◌, List, [], length, take, refl, sym, ap, subst, ◌∙◌}
+use Rattle.std.proofs.Common.{◌≡◌, ◌≢◌, ℕ, ◌<◌, List, [], length, take, refl, sym, ap, subst, ◌∙◌, arith}
 use Rattle.std.specs.Prelude.{min, Option, Some, Result, Ok, Err, IfOk}
 use Rattle.std.specs.Io.KnownBytes.{append_known}
 use Rattle.host_core.specs.declared.fault.Fault.{Fault}
 use Rattle.host_core.specs.declared.fault.Fault.TheVariants as fault
 use Rattle.host_core.specs.declared.status.Status.{Status}
-use Rattle.host_core.specs.declared.status.Status.TheVariants.{Done, Usage, Truncated, ReadFault, SendFault, DiskFault, SessionFull, Damaged, NoJournal, NoMemory, BadText}
-use Rattle.host_core.specs.Outside.{Outside, Agrees, MayLeave, Elapses, Continues}
-use Rattle.host_core.specs.Faults.{HasCause, status_of}
+use Rattle.host_core.specs.declared.status.Status.TheVariants.{ReadFault, SendFault, NoMemory}
+use Rattle.host_core.specs.Outside.{Outside, Agrees, MayLeave, Elapses, Rose, Continues}
+use Rattle.host_core.specs.Faults.{Causes}
 use Rattle.host_core.proofs.Known.{append_known-nil}
 use Rattle.host_core.proofs.Moments.{widened, ended}
 use Rattle.wire_in.specs.Cutting.{bodies_of}
 use Rattle.engine_core.specs.declared.session.Session.{Session}
-use Rattle.engine_core.specs.Ends.{IsEnd, ReadsAtMost, end_of}
+use Rattle.engine_core.specs.Ends.{IsEnd, ReadsAtMost, Told, answer_of, end_of}
 use Rattle.engine_core.specs.Pending.{SendsPrefix, SentPrefix}
 use Rattle.engine_core.specs.Sessions as engine
 use Rattle.engine_core.specs.Sessions.{expected, Prompt}
@@ -20,6 +20,7 @@ use Rattle.engine_core.specs.Serving.{Reads}
 use Rattle.engine_core.proofs.Pending.{expects_nothing, prefix_sent}
 use Rattle.engine_core.proofs.Expecting.{safe_prefix}
 use Rattle.engine_core.proofs.Beginning.{begins}
+use Rattle.engine_core.proofs.Statuses.{at_an_end, at_a_read, told_of}
 use Rattle.replay_core.specs.InternalSession.{IsFresh}
 use Rattle.replay_core.specs.Replayed.{replay_start, replay_text, Answered, LeavesDisk, IsAnswer, Replayed}
 
@@ -57,25 +58,28 @@ stops_as read old new run =
     subst (λ (text : List ℕ). SendsPrefix old.sent text old image bytes) (text_is old.sent read)
     (safe_prefix (replay_start old.sent) (bodies_of read) old image bytes (λ _ image. MayLeave old image) (λ _ image left. left) safe))
 
-end_answers : (status : Status) → IsEnd status → IsAnswer status
-end_answers Done end = tt
-end_answers Usage end = absurd end
-end_answers Truncated end = tt
-end_answers ReadFault end = absurd end
-end_answers SendFault end = absurd end
-end_answers DiskFault end = absurd end
-end_answers SessionFull end = tt
-end_answers (Damaged at) end = absurd end
-end_answers NoJournal end = absurd end
-end_answers NoMemory end = absurd end
-end_answers (BadText line) end = absurd end
+-- no answer of a replay is one of the disk, or of a journal
+answers : (result : Result Status Fault) → IfOk result IsEnd → result ≢ Err fault.Disk → IsAnswer (answer_of result)
+answers (Ok s) end unkept = grind arith
+answers (Err f) end unkept = grind arith
 
-module _ (most : ℕ) (old new : Outside)
+-- with enough memory and no fault it is an end
+completes : (s : Status) (old new : Outside) → IsAnswer s → Told s old new → s ≢ NoMemory → ¬ (Rose old.read_faults new.read_faults) → ¬ (Rose old.send_faults new.send_faults) → IsEnd s
+completes s old new answer told memory no_reads no_sends = grind arith
+
+module _ (most : ℕ) (old new : Outside) (result : Result Status Fault)
     (moments : (input : List ℕ) → old.input ≡ Some input → Elapses old new (SendsPrefix old.sent (replay_text (take most input)) old))
     (prompt : (input : List ℕ) → old.input ≡ Some input → Prompt (replay_start old.sent) input old.asks new.asks)
     (bytes : ReadsAtMost most old.input new.input) (leaves : LeavesDisk old new) (continues : Continues old new)
     (sent_now : (image bytes : List ℕ) → new.leaves new.moment image bytes → Agrees new.sent bytes)
-    (stops_now : (sent : List ℕ) → new.sent ≡ Some sent → (image : List ℕ) × MayLeave new image) where
+    (stops_now : (sent : List ℕ) → new.sent ≡ Some sent → (image : List ℕ) × MayLeave new image)
+    (end : IfOk result IsEnd) (unkept : result ≢ Err fault.Disk) (causes : Causes result old new) where
+  told : Told (answer_of result) old new
+  told = told_of result old new end causes
+
+  told_at : (s : Status) → answer_of result ≡ s → Told s old new
+  told_at s is = subst (λ (s : Status). Told s old new) is told
+
   -- a run that returned is one that was stopped at its end
   sent_part : (input : List ℕ) → old.input ≡ Some input → SentPrefix old.sent new.sent (replay_text (take most input))
   sent_part input is = prefix_sent old old.sent new.sent (replay_text (take most input)) continues.sent (λ sent known.
@@ -84,75 +88,22 @@ module _ (most : ℕ) (old new : Outside)
         subst (λ (b : List ℕ). SendsPrefix old.sent (replay_text (take most input)) old stop.0 b) (sent_now stop.0 stop.1.bytes stop.1.left sent known) (ended (moments input is) stop.1),
       ))
 
-  -- the input was read to its end or to the most bytes
-  pub replayed_end : (status : Status) → IsEnd status
-      → ((input : List ℕ) → old.input ≡ Some input → (status ≡ end_of most input) × Answered old.sent input (min most (length input)) new) → Replayed most status old new
-  replayed_end status end exact = record {
+  pub replayed : ((input : List ℕ) → old.input ≡ Some input → IfOk result (λ status. (status ≡ end_of most input) × Answered old.sent input (min most (length input)) new))
+      → ((input : List ℕ) → old.input ≡ Some input → result ≡ Err fault.Read → (count : ℕ) × (count < most) × Answered old.sent input count new)
+      → Replayed most (answer_of result) old new
+  replayed exact unread = record {
     moments = moments;
-    exact = λ input is _. exact input is;
-    unread = λ input is failed. absurd (subst IsEnd failed end);
+    exact = λ input is. at_an_end result _ (exact input is);
+    unread = λ input is failed. unread input is (at_a_read result end failed);
     part = sent_part;
     prompt = prompt;
     bytes = bytes;
-    complete = λ _ _ _. end;
-    read_cause = λ failed. absurd (subst IsEnd failed end);
-    send_cause = λ failed. absurd (subst IsEnd failed end);
-    memory = λ failed. absurd (subst IsEnd failed end);
+    complete = completes (answer_of result) old new (answers result end unkept) told;
+    read_cause = told_at ReadFault;
+    send_cause = told_at SendFault;
+    memory = told_at NoMemory;
     disk = leaves.disk;
     disk_faults = leaves.disk_faults;
-    kind = end_answers status end;
-    continues = continues;
-  }
-
-  -- a fault ended it
-  pub replayed_fault : (failed : Fault) → (failed ≡ fault.Disk → ⊥) → HasCause failed old new
-      → ((input : List ℕ) → old.input ≡ Some input → failed ≡ fault.Read → (count : ℕ) × (count < most) × Answered old.sent input count new) → Replayed most (status_of failed) old new
-  replayed_fault fault.Read unkept cause unread = record {
-    moments = moments;
-    exact = λ input is end. absurd end;
-    unread = λ input is _. unread input is refl;
-    part = sent_part;
-    prompt = prompt;
-    bytes = bytes;
-    complete = λ _ none _. absurd (none cause);
-    read_cause = λ _. cause;
-    send_cause = λ is. cc is;
-    memory = λ is. cc is;
-    disk = leaves.disk;
-    disk_faults = leaves.disk_faults;
-    kind = tt;
-    continues = continues;
-  }
-  replayed_fault fault.Send unkept cause unread = record {
-    moments = moments;
-    exact = λ input is end. absurd end;
-    unread = λ input is failed. cc failed;
-    part = sent_part;
-    prompt = prompt;
-    bytes = bytes;
-    complete = λ _ _ none. absurd (none cause);
-    read_cause = λ is. cc is;
-    send_cause = λ _. cause;
-    memory = λ is. cc is;
-    disk = leaves.disk;
-    disk_faults = leaves.disk_faults;
-    kind = tt;
-    continues = continues;
-  }
-  replayed_fault fault.Disk unkept cause unread = absurd (unkept refl)
-  replayed_fault fault.Memory unkept cause unread = record {
-    moments = moments;
-    exact = λ input is end. absurd end;
-    unread = λ input is failed. cc failed;
-    part = sent_part;
-    prompt = prompt;
-    bytes = bytes;
-    complete = λ enough _ _. absurd (enough refl);
-    read_cause = λ is. cc is;
-    send_cause = λ is. cc is;
-    memory = λ _. cause;
-    disk = leaves.disk;
-    disk_faults = leaves.disk_faults;
-    kind = tt;
+    kind = answers result end unkept;
     continues = continues;
   }

@@ -10,7 +10,7 @@ ghost use Rattle.replay_core.specs.InternalSession.{IsFresh};
 ghost use Rattle.replay_core.specs.Replayed.{replay_text, replay_start, Answered, LeavesDisk, Replayed};
 
 use crate::keeper::NoKeeper;
-use engine_core::{Engine, Outbox, PIECE, Round, Session, serve_input};
+use engine_core::{Engine, Outbox, PIECE, Round, Session, answer_of, serve_input};
 use host_core::{Fault, Host, Status};
 use price_core::NoMemory;
 use std::alloc::Global;
@@ -81,8 +81,5 @@ pub fn replay<Rt: Threads + Sync, H: Host>(
     ensures replayed { Replayed options.now.bytes result (H.outside host.old) (H.outside host.new) }
 {
     let _ = rt;
-    match answer_input(alloc, host, options.bytes) {
-        Ok(status) => status,
-        Err(fault) => fault.into(),
-    }
+    answer_of(answer_input(alloc, host, options.bytes))
 }

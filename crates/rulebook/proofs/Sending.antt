@@ -10,7 +10,7 @@ use Rattle.wire_out.specs.declared.message.Frame.{Frame}
 use Rattle.wire_out.specs.declared.message.Frame.TheVariants.{Numbered, Ack}
 use Rattle.wire_out.specs.declared.message.Stamped.{Stamped}
 use Rattle.wire_out.specs.Spelling.{spelling}
-use Rattle.rulebook.specs.Sent.{judged, with_record, accepted_of, numbered, reply, replies, hello, sent_again, passed_over, session_frames, is_ack, unacknowledged, replayed_frames, spelled}
+use Rattle.rulebook.specs.Sent.{judged, with_record, accepted_of, numbered, reply, replies, sent_again, passed_over, is_ack, unacknowledged, spelled}
 use Rattle.rulebook.specs.Book.{history, messages_of, newest_messages}
 use Rattle.rulebook.proofs.Histories.{messages-step}
 
@@ -35,18 +35,6 @@ replies-append capacity number held (body ∷ a) b =
     (replies-append capacity (number + 1) next a b ∙ ap (λ (k : ℕ). replies capacity (number + 1) next a ++ replies capacity k (accepted_of capacity next a) b) (omega arith))
     ∙ sym (append_assoc (reply number held (judged capacity held body)) (replies capacity (number + 1) next a) (replies capacity (number + length (body ∷ a)) (accepted_of capacity next a) b))
 
--- all that a session sends, and what further frames add
-pub session_frames-append : (capacity : ℕ) (from : Option ℕ) (held : List Record) (a b : List (List ℕ))
-    → session_frames capacity from held (a ++ b) ≡ session_frames capacity from held a ++ replies capacity (length a + 1) (accepted_of capacity held a) b
-session_frames-append capacity from held a b =
-    ap (λ later. sent_again from held ++ hello held ∷ later) (replies-append capacity 1 held a b ∙ ap (λ (k : ℕ). replies capacity 1 held a ++ replies capacity k (accepted_of capacity held a) b) (omega arith))
-    ∙ sym (append_assoc (sent_again from held) (hello held ∷ replies capacity 1 held a) (replies capacity (length a + 1) (accepted_of capacity held a) b))
-
-pub session_spelled-append : (capacity : ℕ) (from : Option ℕ) (held : List Record) (a b : List (List ℕ))
-    → spelled (session_frames capacity from held (a ++ b)) ≡ spelled (session_frames capacity from held a) ++ spelled (replies capacity (length a + 1) (accepted_of capacity held a) b)
-session_spelled-append capacity from held a b =
-    ap spelled (session_frames-append capacity from held a b) ∙ spelled-append (session_frames capacity from held a) (replies capacity (length a + 1) (accepted_of capacity held a) b)
-
 -- Frames without acknowledgements.
 
 pub unacknowledged-append : (a b : List Frame) → unacknowledged (a ++ b) ≡ unacknowledged a ++ unacknowledged b
@@ -59,14 +47,6 @@ unacknowledged-numbered n (m ∷ ms) = ap (λ later. Numbered (n + 1) m ∷ late
 -- the messages alone are left
 pub unacknowledged-step : (n number : ℕ) (ms : List Stamped) → unacknowledged (numbered n ms ++ Ack number ∷ []) ≡ numbered n ms
 unacknowledged-step n number ms = unacknowledged-append (numbered n ms) (Ack number ∷ []) ∙ append-nil (unacknowledged (numbered n ms)) ∙ unacknowledged-numbered n ms
-
--- what a replay sends, and what further frames add
-pub replayed_spelled-append : (capacity : ℕ) (a b : List (List ℕ))
-    → spelled (replayed_frames capacity (a ++ b)) ≡ spelled (replayed_frames capacity a) ++ spelled (unacknowledged (replies capacity (length a + 1) (accepted_of capacity [] a) b))
-replayed_spelled-append capacity a b =
-    ap (λ frames. spelled (unacknowledged frames)) (replies-append capacity 1 [] a b ∙ ap (λ (k : ℕ). replies capacity 1 [] a ++ replies capacity k (accepted_of capacity [] a) b) (omega arith))
-    ∙ ap spelled (unacknowledged-append (replies capacity 1 [] a) (replies capacity (length a + 1) (accepted_of capacity [] a) b))
-    ∙ spelled-append (unacknowledged (replies capacity 1 [] a)) (unacknowledged (replies capacity (length a + 1) (accepted_of capacity [] a) b))
 
 -- Messages that are sent again.
 
@@ -118,3 +98,23 @@ sent_again-more (Some from) x held before ms at gave =
 
     gave_is : newest_messages (x ∷ held) ≡ ms
     gave_is = sym gave
+
+-- and its spelling
+pub again_one : (from : Option ℕ) (x : Record) (held : List Record) (before : ℕ) (ms : List Stamped) → before ≡ length (messages_of held) → ms ≡ newest_messages (x ∷ held)
+    → let skipped = passed_over from before (length ms) in
+    spelled (sent_again from held) ++ spelled (numbered (before + skipped) (drop skipped ms)) ≡ spelled (sent_again from (x ∷ held))
+again_one from x held before ms at gave =
+    sym (spelled-append (sent_again from held) (numbered (before + passed_over from before (length ms)) (drop (passed_over from before (length ms)) ms)))
+    ∙ ap spelled (sym (sent_again-more from x held before ms at gave))
+
+-- what is sent again of some records is a prefix of what is sent again of more
+pub again_first : (from : Option ℕ) (later held : List Record) → (more : List ℕ) × (spelled (sent_again from held) ++ more ≡ spelled (sent_again from (later ++ held)))
+again_first from [] held = ([], append-nil (spelled (sent_again from held)))
+again_first from (x ∷ later) held =
+    let before = again_first from later held in
+    let ms = newest_messages (x ∷ (later ++ held)) in
+    let n = length (messages_of (later ++ held)) in
+    let new = spelled (numbered (n + passed_over from n (length ms)) (drop (passed_over from n (length ms)) ms)) in (
+      before.0 ++ new,
+      sym (append_assoc (spelled (sent_again from held)) before.0 new) ∙ ap (λ (b : List ℕ). b ++ new) before.1 ∙ again_one from x (later ++ held) n ms refl refl,
+    )

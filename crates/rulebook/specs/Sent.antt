@@ -76,11 +76,6 @@ abbrev pub passed_over : Option ℕ → ℕ → ℕ → ℕ
 passed_over None before count = count
 passed_over (Some from) before count = min (from - 1 - before) count
 
--- all that a session sends for these frames, after the records that it holds at its start: the messages asked for again,
--- its first frame, and the replies
-abbrev pub session_frames : ℕ → Option ℕ → List Record → List (List ℕ) → List Frame
-session_frames capacity from held bodies = sent_again from held ++ hello held ∷ replies capacity 1 held bodies
-
 -- an acknowledgement
 abbrev pub is_ack : Frame → Bool
 is_ack (Ack number) = true
@@ -89,10 +84,6 @@ is_ack frame = false
 -- the frames without acknowledgements
 abbrev pub unacknowledged : List Frame → List Frame
 unacknowledged frames = filter (λ frame. not (is_ack frame)) frames
-
--- all that a replay of these frames sends: the replies over no records, without their acknowledgements
-abbrev pub replayed_frames : ℕ → List (List ℕ) → List Frame
-replayed_frames capacity bodies = unacknowledged (replies capacity 1 [] bodies)
 
 -- frames, spelled one after the other
 abbrev pub spelled : List Frame → List ℕ

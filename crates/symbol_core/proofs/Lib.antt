@@ -14,4 +14,5 @@ pub mod Others
 pub mod Resting
 pub mod Evaluated
 pub mod Twins
+pub mod Waiting
 pub mod Unmoved

@@ -28,13 +28,14 @@ use Rattle.rulebook.specs.Rules.{or_else}
 use Rattle.rulebook.specs.Symbol as of
 use Rattle.rulebook.specs.Symbol.{begins_run, counted_in, deals_in, deals_of, is_under_regulatory_halt_in, is_times, phase_in, quote_in}
 use Rattle.rulebook.proofs.OtherRecords.{day_record-same}
+use Rattle.symbol_core.specs.declared.kept.Kept.{Kept}
 use Rattle.symbol_core.specs.Rests.{Held, Rests, deals_today}
 use Rattle.symbol_core.specs.Silent.{AllSilent, IsOfOthers, IsSilent, SaysNothing}
 use Rattle.symbol_core.specs.Taken.{renewed}
 use Rattle.symbol_core.specs.Window.{SameLive}
 use Rattle.symbol_core.proofs.Deals.{deals_from}
 use Rattle.symbol_core.proofs.Histories.{begun-run, last-other, of_begun, on_run}
-use Rattle.symbol_core.proofs.Live.{same_later}
+use Rattle.symbol_core.proofs.Live.{same_later, same_then}
 use Rattle.symbol_core.proofs.Others.{deals-others, halted-others, indicated-others, quoted-others, terms-others, triggered-others}
 use Rattle.symbol_core.proofs.Taken.{halted-taken, quote-taken, run_taken}
 
@@ -85,6 +86,27 @@ rests-message mine held m h q r =
 pub rests-silent : (mine : List ℕ → Bool) (held : Held) (ms : List Message) (h : List Event) → AllSilent held.kept.id ms → Rests mine held h → Rests mine held (publish ms h)
 rests-silent mine held [] h q r = r
 rests-silent mine held (m ∷ ms) h q r = rests-silent mine held ms (Published m ∷ h) q.1 (rests-message mine held m h q.0 r)
+
+-- other kept deals of which the same are live serve as well
+pub rests-same : (mine : List ℕ → Bool) (k : Kept) (deals other : List Deal) (h : List Event) → SameLive (now h) other deals → Rests mine (record { kept = k; deals = deals }) h → Rests mine (record { kept = k; deals = other }) h
+rests-same mine k deals other h same r =
+    record {
+      terms = r.terms;
+      phase = r.phase;
+      since = r.since;
+      begun = r.begun;
+      quote = r.quote;
+      band = r.band;
+      adopted = r.adopted;
+      straddling = r.straddling;
+      halted = r.halted;
+      round = r.round;
+      origin = r.origin;
+      indication = r.indication;
+      triggered = r.triggered;
+      carried = r.carried;
+      deals = same_then (now h) other deals (deals_today k.id h) same r.deals;
+    }
 
 -- one more record of others
 rests-record : (mine : List ℕ → Bool) (held : Held) (x : Record) (h : List Event) → is_day x ≡ false → IsOfOthers mine held.kept.id x → SameLive (moment_of x) held.deals (deals_today held.kept.id h) → Rests mine held h

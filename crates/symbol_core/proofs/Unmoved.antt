@@ -1,56 +1,59 @@
 -- A clock or an index tick at which no rule says anything of the symbol.
 use Rattle.std.proofs.Common.{arith, ◌≡◌, ℕ, ◌<◌, ◌≤◌, Bool, true, false, cond, List, [], ◌∷◌, ◌++◌, refl, sym, ap, ◌∙◌, subst}
-use Rattle.std.specs.Prelude.{Option, Some, None, if◌then◌else◌, ◌&&◌, ◌||◌, not, filter, is_some, option_and_then, option_to_list, unwrap_or}
+use Rattle.std.specs.Prelude.{Option, Some, None, if◌then◌else◌, ◌+◌, ◌&&◌, ◌||◌, nat_lt, not, filter, is_some, option_to_list, IfSome}
 use Rattle.std.specs.Option.{option_map_or}
 use Rattle.std.proofs.lemmas.List.{append-nil}
-use Rattle.price_core.specs.Moves.{moved_one_percent}
-use Rattle.price_core.specs.declared.quote.Cause.TheVariants.{First, Moved, Times}
-use Rattle.refprice_core.specs.Prices.{because, forced, is_in_opening_period}
+use Rattle.price_core.specs.declared.quote.Cause.TheVariants.{Times}
 use Rattle.session_core.specs.declared.day.Day.{Day}
 use Rattle.session_core.specs.declared.state.Phase.{Phase}
-use Rattle.session_core.specs.Times.{in_last_10_minutes, in_session, is_closed}
+use Rattle.session_core.specs.Durations.{five_minutes}
+use Rattle.session_core.specs.Times.{in_last_10_minutes, is_closed}
 use Rattle.wire_in.specs.declared.record.Record.{Record}
 use Rattle.wire_in.specs.Records.{is_tick, moment_of}
 use Rattle.wire_out.specs.declared.message.Message.{Message}
 use Rattle.wire_out.specs.declared.message.Message.TheVariants as out
 use Rattle.wire_out.specs.declared.message.ShortKind.TheVariants.{Triggered}
-use Rattle.limit_core.specs.Timers.{has_lasted}
-use Rattle.pause_core.specs.Phases.{can_start, can_market_halt, is_done, is_in_regulatory_halt, is_limit, is_trading}
+use Rattle.pause_core.specs.Phases.{can_market_halt, is_done, is_in_regulatory_halt, is_trading}
 use Rattle.pause_core.specs.Turns.{phase_after_regulatory_halt}
 use Rattle.pause_core.specs.Turns as turns
-use Rattle.percent_core.specs.Percentages as percentages
-use Rattle.percent_core.specs.PriceBands.{bands}
 use Rattle.refprice_core.specs.declared.reference.Priced.{Priced}
 use Rattle.window_core.specs.declared.window.Deal.{Deal}
 use Rattle.window_core.specs.Deals.{live, mean_of}
+use Rattle.window_core.proofs.Deals.{live-live}
+use Rattle.reopen_core.specs.declared.auction.Round.{Round}
+use Rattle.reopen_core.specs.declared.auction.Trial.TheVariants as trial
+use Rattle.reopen_core.specs.Collars.{auction_reference}
+use Rattle.reopen_core.specs.Trials as trials
 use Rattle.wire_in.proofs.RecordKinds.{by_tick, tick as only_ticks}
 use Rattle.rulebook.specs.declared.event.Event.{Event}
+use Rattle.rulebook.specs.declared.event.Event.TheVariants.{Accepted}
 use Rattle.rulebook.specs.declared.symbol.Banded.{Banded}
 use Rattle.rulebook.specs.declared.symbol.Terms.{Terms}
 use Rattle.rulebook.specs.Auction.{is_paused}
+use Rattle.rulebook.proofs.Histories.{now-publish}
 use Rattle.rulebook.specs.Book.{Named, all_obeyed, announced, context, obeyed, symbol_rules}
 use Rattle.rulebook.specs.History.{publish}
 use Rattle.rulebook.specs.Rules as rules
-use Rattle.rulebook.specs.Rules.{Context, asks_to_pause, at_band, or_else, triggers}
+use Rattle.rulebook.specs.Rules.{Context, asks_to_pause, at_band, triggers}
 use Rattle.rulebook.specs.Symbol.{phase, terms}
-use Rattle.rulebook.specs.Symbol as of
+use Rattle.symbol_core.specs.declared.due.Due.{Due}
 use Rattle.symbol_core.specs.declared.kept.Kept.{Kept}
 use Rattle.symbol_core.specs.declared.kept.Step.{Step}
-use Rattle.symbol_core.specs.declared.quiet.Quiet.{Quiet}
 use Rattle.symbol_core.specs.declared.symbol.MarketView.{MarketView}
 use Rattle.symbol_core.specs.Evaluates.{Evaluates, Opens, open_history, part_of}
-use Rattle.symbol_core.specs.Kept.{becoming, brakes, pausing_as, reopening_after}
-use Rattle.symbol_core.specs.Pricing.{band, band_by_time, later_price, offered, reference, time_changes}
-use Rattle.symbol_core.specs.Quiet.{IsRested, IsSettled, Lasts, Quiets, awaits_after, awaits_mean, SameAwaited, waits}
+use Rattle.symbol_core.specs.Kept.{becoming, brakes, pausing_as, reopened, reopening, reopening_after, reopening_with}
+use Rattle.symbol_core.specs.Pricing.{band, band_by_time, reference, time_changes}
+use Rattle.symbol_core.specs.Idle.{IsDue, IsIdle, IsRested, IsSettled, Lasts, changes_bands, reopens_at, starts_at}
 use Rattle.symbol_core.specs.Rests.{Held}
 use Rattle.symbol_core.specs.Silent.{IsOfOthers}
 use Rattle.symbol_core.specs.Stands.{named, Stands}
-use Rattle.symbol_core.specs.Taken.{cancelled_by, leaves, taken}
-use Rattle.symbol_core.specs.Window.{window}
+use Rattle.symbol_core.specs.Taken.{cancelled_by, finished, leaves, taken}
+use Rattle.symbol_core.specs.Window.{SameLive, window}
 use Rattle.symbol_core.proofs.Cancels.{leaves-all}
-use Rattle.symbol_core.proofs.Evaluated.{starts, step_for}
+use Rattle.symbol_core.proofs.Evaluated.{evaluated-away, starts, step_for}
 use Rattle.symbol_core.proofs.Gives.{banding-gives, by_kept, mean-gives, pause-gives, reopen-gives, restrict-gives, straddle-gives, turned-gives}
-use Rattle.symbol_core.proofs.Resting.{rests-apart}
+use Rattle.symbol_core.proofs.Live.{same-live}
+use Rattle.symbol_core.proofs.Resting.{rests-apart, rests-same}
 use Rattle.symbol_core.proofs.Steps.{stands-opened}
 use Rattle.symbol_core.proofs.Twins.{entering, leaving}
 
@@ -144,110 +147,79 @@ evaluated-closed market x held before tick done = evaluated-none market x held b
   all (rule ∷ later) mine others h e =
       (ap (λ (b : Bool). cond b [] (rule (context market.day (named mine held.kept.id) x (open_history x others h)))) e, all later mine others h e)
 
--- A quiet symbol.
-
-record Waits (p : Phase) : Type 0 where
-  pub limit : is_limit p ≡ false
-  pub paused : is_paused p ≡ false
-  pub in_halt : is_in_regulatory_halt p ≡ false
-
-waiting : (p : Phase) → waits p ≡ true → Waits p
-waiting Phase.Shut e = record { limit = refl; paused = refl; in_halt = refl }
-waiting Phase.Trading e = record { limit = refl; paused = refl; in_halt = refl }
-waiting Phase.LimitLow e = absurd cc
-waiting Phase.LimitHigh e = absurd cc
-waiting Phase.Paused e = absurd cc
-waiting Phase.Halted e = absurd cc
-waiting Phase.Stopped e = absurd cc
-waiting Phase.Closing e = absurd cc
-waiting Phase.Closed e = absurd cc
-
-start_none : (a b c : Bool) → (a && b) ≡ false → (a && (b && c)) ≡ false
-start_none true true c e = absurd cc
-start_none true false c e = refl
-start_none false b c e = refl
+-- An idle symbol.
 
 same_straddle : (k : Kept) (b : Bool) → cond (b && not b) (out.Straddle k.id true ∷ []) (cond (b && not b) (out.Straddle k.id false ∷ []) []) ≡ []
 same_straddle k true = refl
 same_straddle k false = refl
 
--- time brings no bands where the part of the session stays
-times_stay : (k : Kept) (a b : Step) → a.day ≡ b.day → percentages.span a.moment a.day ≡ percentages.span b.moment b.day → option_map_or (time_changes k a) k.band false ≡ option_map_or (time_changes k b) k.band false
-times_stay k a b day span = by k.band where
-  one : (last : Banded) (o : Option Terms)
-      → option_map_or (λ listed. rules.differs (of.bands_of listed a.day a.moment last.reference) last.bands) o false ≡ option_map_or (λ listed. rules.differs (of.bands_of listed b.day b.moment last.reference) last.bands) o false
-  one last None = refl
-  one last (Some listed) =
-      let category = percentages.category listed.prior_close in
-      λ i. rules.differs (bands last.reference category (percentages.percent (day i).profile listed.tier category (span i)) listed.leverage) last.bands
+-- a regulatory halt that is in effect where the phase says so
+halted_none : {X : Type 0} (p q : Option X) (halted is_in : Bool) → halted ≡ is_in → (if halted then (if is_in then None else p) else if is_in then q else None) ≡ None
+halted_none p q true true e = refl
+halted_none p q false false e = refl
+halted_none p q true false e = absurd cc
+halted_none p q false true e = absurd cc
 
-  by : (o : Option Banded) → option_map_or (time_changes k a) o false ≡ option_map_or (time_changes k b) o false
-  by None = refl
-  by (Some last) = one last k.terms
+enters_none : (trading low high : Bool) (xs ys : List Message) → (trading && low) ≡ false → (trading && high) ≡ false → (if not trading then [] else if low then xs else if high then ys else []) ≡ []
+enters_none false low high xs ys e f = refl
+enters_none true low high xs ys e f = (λ i. if e i then xs else if f i then ys else [])
 
--- while all kept deals are live, they are the window
-pub window_live : (k : Kept) (deals : List Deal) (t : ℕ) → IsRested k → live t deals ≡ deals → live t (window k deals) ≡ deals
-window_live k deals t r all_live =
-    ap (live t) ((λ i. (if r.is_fresh i then [] else deals) ++ (if is_some k.begun then option_to_list (r.deal i) else [])) ∙ ap (λ (ds : List Deal). deals ++ ds) (quote_stays (is_some k.begun) []) ∙ append-nil deals)
-    ∙ all_live
+not_true : (b : Bool) → not b ≡ false → b ≡ true
+not_true true e = refl
+not_true false e = absurd cc
 
--- the new reference price at a tick, by whether a mean would be taken
-abbrev by_mean : Bool → Option ℕ → Option Banded → Option Priced
-by_mean awaits mean None = because First (if awaits then mean else None)
-by_mean awaits mean (Some b) = because Moved (option_and_then (λ m. if moved_one_percent m b.reference && awaits then Some m else None) mean)
+-- before the five minutes of a round have passed, no trial is due
+reopens_none : (k : Kept) (step : Step) → reopens_at k step.moment ≡ false → reopening k step ≡ []
+reopens_none k step e = by (is_paused k.phase) k.round e where
+  with_band : (round : Round) (o : Option Banded) → nat_lt step.moment (round.moment + five_minutes) ≡ true → option_map_or (reopening_with k step round) o [] ≡ []
+  with_band round None early = refl
+  with_band round (Some b) early =
+      ap (λ (early : Bool). reopened k round.number (if early then trial.NotDue else if in_last_10_minutes step.moment step.day then trial.Closing else trials.outcome k.indication (auction_reference k.origin b.bands b.reference) round.collars)) early
 
-offers_none : (k : Kept) (step : Step) → is_tick step.input ≡ true → offered k step ≡ None
-offers_none k step tick = by step.input tick where
-  by : (x : Record) → is_tick x ≡ true → or_else (of.opening_price step.day k.id x) (if rules.opens_on_quotes k.id x then of.prior_close_of k.terms else None) ≡ None
-  by = by_tick (λ x. or_else (of.opening_price step.day k.id x) (if rules.opens_on_quotes k.id x then of.prior_close_of k.terms else None) ≡ None) (λ t. refl) (λ t v. refl)
+  by : (paused : Bool) (o : Option Round) → (paused && option_map_or (λ round. not (nat_lt step.moment (round.moment + five_minutes))) o false) ≡ false → (if paused then option_map_or (reopening_after k step) o [] else []) ≡ []
+  by false o e = refl
+  by true None e = refl
+  by true (Some round) e = with_band round k.band (not_true (nat_lt step.moment (round.moment + five_minutes)) e)
 
-reference_by_mean : (k : Kept) (step : Step) (mean : Option ℕ) → IsRested k → is_tick step.input ≡ true
-    → reference k step mean ≡ (if not (is_trading k.phase) then None else by_mean (awaits_mean k step.moment) mean k.band)
-reference_by_mean k step mean r tick =
-    (λ i. if not (is_trading k.phase) then None else if r.left_limit i then forced mean else later_price k step mean k.band)
-    ∙ ap (λ (o : Option Priced). if not (is_trading k.phase) then None else o) (by k.band)
-  where
-    opening : (b : Bool) → (if b then offered k step else mean) ≡ (if not b then mean else None)
-    opening true = offers_none k step tick
-    opening false = refl
+-- where time gives the bands that there are, none are published
+bands_none : (k : Kept) (step : Step) → changes_bands k step ≡ false → option_map_or (band_by_time k step) k.band [] ≡ []
+bands_none k step e = by k.band e where
+  by : (o : Option Banded) → (is_trading k.phase && option_map_or (time_changes k step) o false) ≡ false → option_map_or (band_by_time k step) o [] ≡ []
+  by None e = refl
+  by (Some last) e = ap (λ (b : Bool). if b then band k step Times last.reference else []) e
 
-    by : (o : Option Banded) → later_price k step mean o ≡ by_mean (awaits_after k step.moment o) mean o
-    by (Some b) = refl
-    by None = (λ i. because First (or_else (r.released i) (if is_in_opening_period (unwrap_or k.begun 0) step.moment then offered k step else mean))) ∙ ap (λ (o : Option ℕ). because First o) (opening (is_in_opening_period (unwrap_or k.begun 0) step.moment))
+-- a step without a deal of its own leaves the window as it is
+window_rested : (k : Kept) (deals : List Deal) → IsRested k → window k deals ≡ deals
+window_rested k deals r =
+    (λ i. (if r.is_fresh i then [] else deals) ++ (if is_some k.begun then option_to_list (r.deal i) else [])) ∙ ap (λ (ds : List Deal). deals ++ ds) (quote_stays (is_some k.begun) []) ∙ append-nil deals
 
--- so a tick at which a mean is awaited as before finds the price as before
-pub reference_stays : (k : Kept) (a b : Step) (mean : Option ℕ) → IsRested k → is_tick a.input ≡ true → is_tick b.input ≡ true → awaits_mean k b.moment ≡ awaits_mean k a.moment → reference k a mean ≡ None → reference k b mean ≡ None
-reference_stays k a b mean r one two same none =
-    reference_by_mean k b mean r two ∙ ap (λ (awaits : Bool). if not (is_trading k.phase) then None else by_mean awaits mean k.band) same ∙ sym (reference_by_mean k a mean r one) ∙ none
-
-quiet_rules : (k : Kept) (deals : List Deal) (q : Quiet) (step : Step) → Quiets k deals q → is_tick step.input ≡ true → q.from ≤ step.moment → step.moment < q.until → step.day ≡ q.market.day → step.stopped ≡ q.market.stopped
-    → live step.moment deals ≡ deals → (mine : List ℕ → Bool) (h : List Event) → Stands mine k deals step h → NoneSaid step.day (named mine k.id) step.input h symbol_rules
-quiet_rules k deals q step quiets tick from until day stopped all_live mine h s = (
-  said rules.session_close (turned-gives turns.session_close k step mine deals h s ∙ ap (λ (b : Bool). option_map_or (becoming k) (if b then Some Phase.Closed else None) []) (ap (λ (d : Day). is_closed t d) day ∙ lasts.closed t until)),
+idle_rules : (k : Kept) (deals : List Deal) (due : Due) (step : Step) → IsIdle k deals due → is_tick step.input ≡ true → due.from ≤ step.moment → step.moment < due.until → step.day ≡ due.market.day → step.stopped ≡ due.market.stopped
+    → (mine : List ℕ → Bool) (h : List Event) → Stands mine k deals step h → NoneSaid step.day (named mine k.id) step.input h symbol_rules
+idle_rules k deals due step idle tick from until day stopped mine h s = (
+  said rules.session_close (turned-gives turns.session_close k step mine deals h s ∙ ap (λ (b : Bool). option_map_or (becoming k) (if b then Some Phase.Closed else None) []) (ap (λ (d : Day). is_closed t d) day ∙ lasts.closes t until)),
   (
-    said rules.market_halt (turned-gives turns.market_halt k step mine deals h s ∙ ap (λ (b : Bool). option_map_or (becoming k) (if b && can_market_halt k.phase then Some Phase.Stopped else None) []) (stopped ∙ running)),
+    said rules.market_halt (turned-gives turns.market_halt k step mine deals h s
+        ∙ ap (λ (b : Bool). option_map_or (becoming k) (if b then Some Phase.Stopped else None) []) (ap (λ (b : Bool). b && can_market_halt k.phase) stopped ∙ settled.runs)),
     (
       said rules.start (turned-gives turns.start k step mine deals h s
-          ∙ ap (λ (b : Bool). option_map_or (becoming k) (if b then Some Phase.Trading else None) [])
-          (start_none (can_start k.phase) (in_session t step.day) (not step.stopped) (ap (λ (d : Day). can_start k.phase && in_session t d) day ∙ lasts.starts t until))),
+          ∙ ap (λ (b : Bool). option_map_or (becoming k) (if b then Some Phase.Trading else None) []) ((λ i. starts_at k (day i) (stopped i) t) ∙ lasts.starts t until)),
       (
         said rules.regulatory_halt (turned-gives turns.regulatory_halt k step mine deals h s
-            ∙ (λ i. option_map_or (becoming k) (if settled.halted i then (if is_in_regulatory_halt k.phase then None else Some Phase.Halted) else if waiting_now.in_halt i then Some (phase_after_regulatory_halt (brakes k step)) else None) [])),
+            ∙ ap (λ (o : Option Phase). option_map_or (becoming k) o []) (halted_none (Some Phase.Halted) (Some (phase_after_regulatory_halt (brakes k step))) k.halted (is_in_regulatory_halt k.phase) settled.halted)),
         (
           said rules.pause (pause-gives k step mine deals h s
-              ∙ (λ i. option_map_or (pausing_as k) (if (waiting_now.limit i && has_lasted k.since t) || (of_none.asks i && is_trading k.phase && k.straddling) then (if in_last_10_minutes t step.day then Some Phase.Closing else Some Phase.Paused) else None) [])),
+              ∙ (λ i. option_map_or (pausing_as k) (if lasts.pauses t until i || (of_none.asks i && is_trading k.phase && k.straddling) then (if in_last_10_minutes t step.day then Some Phase.Closing else Some Phase.Paused) else None) [])),
           (
-            said rules.reopen (reopen-gives k step mine deals h s ∙ ap (λ (b : Bool). if b then option_map_or (reopening_after k step) k.round [] else []) waiting_now.paused),
+            said rules.reopen (reopen-gives k step mine deals h s ∙ reopens_none k step (lasts.reopens t until)),
             (
-              said rules.leave_limit (by_kept leaving mine k step deals h s ∙ ap (λ (b : Bool). if b && not (at_band k.phase k.quote k.band) then becoming k Phase.Trading else []) waiting_now.limit),
+              said rules.leave_limit (by_kept leaving mine k step deals h s ∙ ap (λ (b : Bool). if b then becoming k Phase.Trading else []) settled.stays),
               (
                 said rules.publish_band (banding-gives mean k step mine deals h s (mean-gives k step mine deals h s)
                     ∙ ap (λ (o : Option Priced). elim o [ Some r ↦ band k step r.cause r.price | None ↦ option_map_or (band_by_time k step) k.band [] ]) none
-                    ∙ by_time (is_trading k.phase) refl k.band refl),
+                    ∙ bands_none k step (lasts.bands step day from until)),
                 (
                   said rules.enter_limit (by_kept entering mine k step deals h s
-                      ∙ (λ i. if not (is_trading k.phase) then [] else if settled.low i then becoming k Phase.LimitLow else if settled.high i then becoming k Phase.LimitHigh else [])
-                      ∙ quote_stays (not (is_trading k.phase)) []),
+                      ∙ enters_none (is_trading k.phase) (at_band Phase.LimitLow k.quote k.band) (at_band Phase.LimitHigh k.quote k.band) (becoming k Phase.LimitLow) (becoming k Phase.LimitHigh) settled.low settled.high),
                   (
                     said rules.straddle (straddle-gives k step mine deals h s
                         ∙ (λ i. if settled.straddles i && not k.straddling then out.Straddle k.id true ∷ [] else if k.straddling && not (settled.straddles i) then out.Straddle k.id false ∷ [] else [])
@@ -272,23 +244,14 @@ quiet_rules k deals q step quiets tick from until day stopped all_live mine h s 
   mean : Option ℕ
   mean = mean_of (live t (window k deals))
 
+  lasts : Lasts k deals due.market.day due.market.stopped due.from due.until
+  lasts = idle.lasts
+
+  settled : IsSettled k due.market.stopped
+  settled = idle.settled
+
   none : reference k step mean ≡ None
-  none = ap (λ (ds : List Deal). reference k step (mean_of ds)) (window_live k deals t quiets.rested all_live) ∙ quiets.priced step tick from until
-
-  lasts : Lasts k q.market.day q.from q.until
-  lasts = quiets.lasts
-
-  then_step : Step
-  then_step = record { moment = q.from; day = q.market.day; stopped = q.market.stopped; input = step.input }
-
-  settled : IsSettled k then_step
-  settled = quiets.settled then_step refl refl refl
-
-  running : q.market.stopped ≡ false
-  running = settled.running
-
-  waiting_now : Waits k.phase
-  waiting_now = waiting k.phase lasts.phase
+  none = ap (λ (ds : List Deal). reference k step (mean_of (live t ds))) (window_rested k deals idle.rested) ∙ lasts.prices step tick from until
 
   of_none : OfNone k.id step.input
   of_none = tick_of_none k.id step.input tick
@@ -296,27 +259,14 @@ quiet_rules k deals q step quiets tick from until day stopped all_live mine h s 
   said : (rule : Context → List Message) → rule (context step.day (named mine k.id) step.input h) ≡ [] → obeyed step.day (named mine k.id) step.input rule h ≡ []
   said rule e = ap (λ (ms : List Message). cond (is_done (phase h k.id)) [] ms) e ∙ quote_stays (is_done (phase h k.id)) []
 
-  nothing_and : (b : Bool) (ms : List Message) → (if b && false then ms else []) ≡ []
-  nothing_and true ms = refl
-  nothing_and false ms = refl
-
-  by_time : (trading : Bool) → is_trading k.phase ≡ trading → (o : Option Banded) → k.band ≡ o → option_map_or (band_by_time k step) o [] ≡ []
-  by_time trading e None is = refl
-  by_time false e (Some last) is = ap (λ (b : Bool). if b && time_changes k step last then band k step Times last.reference else []) e
-  by_time true e (Some last) is =
-      let changes : time_changes k step last ≡ false =
-      sym (ap (λ (o : Option Banded). option_map_or (time_changes k step) o false) is)
-      ∙ times_stay k step then_step day (ap (λ (d : Day). percentages.span t d) day ∙ lasts.span t from until e) ∙ settled.times in
-      (λ i. if is_trading k.phase && changes i then band k step Times last.reference else []) ∙ nothing_and (is_trading k.phase) (band k step Times last.reference)
-
-pub evaluated-quiet : (market : MarketView) (x : Record) (held : Held) (q : Quiet) (before : List Message) → Quiets held.kept held.deals q → is_tick x ≡ true → q.from ≤ moment_of x → moment_of x < q.until → market ≡ q.market
-    → live (moment_of x) held.deals ≡ held.deals → Evaluates market x held held before before
-evaluated-quiet market x held q before quiets tick from until same all_live =
+evaluated-idle : (market : MarketView) (x : Record) (held : Held) (due : Due) (before : List Message) → IsIdle held.kept held.deals due → is_tick x ≡ true → due.from ≤ moment_of x → moment_of x < due.until → market ≡ due.market
+    → Evaluates market x held held before before
+evaluated-idle market x held due before idle tick from until same =
     evaluated-none market x held before tick
     (λ mine others h p.
-    quiet_rules k held.deals q step quiets tick from until (ap (λ (m : MarketView). m.day) same) (ap (λ (m : MarketView). m.stopped) same) all_live mine (open_history x others h)
+    idle_rules k held.deals due step idle tick from until (ap (λ (m : MarketView). m.day) same) (ap (λ (m : MarketView). m.stopped) same) mine (open_history x others h)
     (subst (λ (ds : List Deal). Stands mine k ds step (open_history x others h)) (leaves-all k.id x held.deals of_none.cancels)
-    (subst (λ (l : Kept). Stands mine l (filter (leaves k.id x) held.deals) step (open_history x others h)) (of_none.takes k step refl refl quiets.rested)
+    (subst (λ (l : Kept). Stands mine l (filter (leaves k.id x) held.deals) step (open_history x others h)) (of_none.takes k step refl refl idle.rested)
     (stands-opened mine step k held.deals others h (starts mine held market x others h p)))))
   where
     k : Kept
@@ -328,26 +278,66 @@ evaluated-quiet market x held q before quiets tick from until same all_live =
     of_none : OfNone k.id x
     of_none = tick_of_none k.id x tick
 
--- what is quiet after a tick's step
-pub quiets : (k : Kept) (deals : List Deal) (step : Step) (lasts awaited until : ℕ) → is_tick step.input ≡ true → IsRested k → IsSettled k step → reference k step (mean_of deals) ≡ None → Lasts k step.day step.moment lasts
-    → ((u : ℕ) → step.moment ≤ u → u < awaited → SameAwaited k step.moment u) → until ≤ lasts → until ≤ awaited
-    → Quiets k deals (record { from = step.moment; until = until; market = record { day = step.day; stopped = step.stopped } })
-quiets k deals step lasts awaited until tick r s none l same within before =
+-- a tick before a symbol is due
+pub evaluated-due : (market : MarketView) (x : Record) (held : Held) (due : Due) (before : List Message) → IsDue (Some due) held.kept held.deals → is_tick x ≡ true → due.from ≤ moment_of x → moment_of x < due.until → market ≡ due.market
+    → Evaluates market x held held before before
+evaluated-due market x held due before is tick from until same = by (is_done held.kept.phase) (is_some held.kept.terms) refl refl where
+  by : (done listed : Bool) → is_done held.kept.phase ≡ done → is_some held.kept.terms ≡ listed → Evaluates market x held held before before
+  by true listed e f = evaluated-closed market x held before tick e
+  by false false e f = evaluated-away market x held before ((λ i. tick i && not (f i)))
+  by false true e f = evaluated-idle market x held due before (is (λ i. e i || not (f i))) tick from until same
+
+-- Deals that are five minutes old may go at a tick.
+pub evaluated-live : (market : MarketView) (x : Record) (held : Held) (before : List Message) → is_tick x ≡ true → Evaluates market x held held before before
+    → Evaluates market x held (record { kept = held.kept; deals = live (moment_of x) held.deals }) before before
+evaluated-live market x held before tick e =
     record {
-      rested = r;
-      settled = λ now day moment stopped. record {
-        halted = s.halted;
-        running = stopped ∙ s.running;
-        low = s.low;
-        high = s.high;
-        straddles = s.straddles;
-        times = times_stay k now step day (λ i. percentages.span (moment i) (day i)) ∙ s.times;
-      };
-      lasts = record {
-        phase = l.phase;
-        closed = λ u lt. l.closed u (omega arith);
-        starts = λ u lt. l.starts u (omega arith);
-        span = λ u le lt trading. l.span u le (omega arith) trading;
-      };
-      priced = λ now ticks from lt. reference_stays k step now (mean_of deals) r tick ticks (same now.moment from (omega arith)) none;
+      says = e.says;
+      rests = λ mine others h p.
+          let ms = part_of market.day (named mine held.kept.id) x (open_history x others h) in
+          rests-same mine held.kept held.deals (live (moment_of x) held.deals) (publish ms (open_history x others h))
+          (subst (λ (t : ℕ). SameLive t (live (moment_of x) held.deals) held.deals)
+          (sym (now-publish ms (open_history x others h) ∙ now-publish others (Accepted x ∷ h))) (same-live (moment_of x) held.deals))
+          (e.rests mine others h p);
+      says_no_day = λ day. refl;
+      begins = λ day mine h r. let both : true ≡ false = sym day ∙ (only_ticks x tick).other.no_day in cc;
+      id = refl;
     }
+
+pub due-live : (k : Kept) (deals : List Deal) (due : Due) (t : ℕ) → due.from ≤ t → IsDue (Some due) k deals → IsDue (Some (record due { from = t })) k (live t deals)
+due-live k deals due t from is = λ inside. by (is inside) where
+  by : IsIdle k deals due → IsIdle k (live t deals) (record due { from = t })
+  by idle =
+      let lasts = idle.lasts in
+      record {
+        rested = idle.rested;
+        settled = idle.settled;
+        lasts = record {
+          closes = lasts.closes;
+          starts = lasts.starts;
+          pauses = lasts.pauses;
+          reopens = lasts.reopens;
+          bands = λ step day le lt. lasts.bands step day (omega arith) lt;
+          prices = λ step tick le lt. ap (λ (ds : List Deal). reference k step (mean_of ds)) (live-live t step.moment le deals) ∙ lasts.prices step tick (omega arith) lt;
+        };
+      }
+
+-- of a symbol that is due, if ever
+abbrev pub IsPassed : Option Due → Held → Type 0
+IsPassed o held = IfSome o (λ due. (x : Record) → is_tick x ≡ true → due.from ≤ moment_of x → moment_of x < due.until → (before : List Message) → Evaluates due.market x held held before before)
+
+pub passed : (o : Option Due) (held : Held) → IsDue o held.kept held.deals → IsPassed o held
+passed None held is = tt
+passed (Some due) held is = λ x tick from until before. evaluated-due due.market x held due before is tick from until refl
+
+-- a symbol that isn't listed has no next due
+pub due-unlisted : (k : Kept) (deals : List Deal) (due : Due) → is_some k.terms ≡ false → IsDue (Some due) k deals
+due-unlisted k deals due e = λ inside. absurd (by (is_done k.phase) (is_some k.terms) e inside) where
+  by : (done listed : Bool) → listed ≡ false → (done || not listed) ≡ false → ⊥
+  by true listed e f = cc
+  by false true e f = cc
+  by false false e f = cc
+
+pub rested-finished : (old new : Kept) (step : Step) → new ≡ finished old step → IsRested new
+rested-finished old new step e =
+    record { left_limit = ap (λ (k : Kept). k.left_limit) e; released = ap (λ (k : Kept). k.released) e; deal = ap (λ (k : Kept). k.deal) e; is_fresh = ap (λ (k : Kept). k.is_fresh) e }

@@ -7,4 +7,4 @@ pub mod Rests
 pub mod Taken
 pub mod Evaluates
 pub mod Steps
-pub mod Quiet
+pub mod Idle

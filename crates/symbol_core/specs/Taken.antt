@@ -52,9 +52,15 @@ taken k step = record k {
   is_fresh = false;
 }
 
--- the kept state once the rules have been obeyed
+-- the kept state once the rules have been obeyed, without what was of the step alone
 abbrev pub finished : Kept → Step → Kept
-finished k step = record k { triggered = triggering k step || k.triggered }
+finished k step = record k {
+  triggered = triggering k step || k.triggered;
+  left_limit = false;
+  released = None;
+  deal = None;
+  is_fresh = false;
+}
 
 -- the kept state of an id at the begin of a day
 abbrev pub renewed : ℕ → Bool → Kept

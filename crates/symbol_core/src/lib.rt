@@ -3,9 +3,9 @@
 
 mod bands;
 mod chain;
+mod due;
 mod kept;
 mod pausing;
-mod quiet;
 mod records;
 mod reopening;
 mod restriction;
@@ -17,4 +17,5 @@ mod taking;
 mod tests;
 mod turns;
 
+pub use due::Due;
 pub use symbol::{MOST_OF_SYMBOL, MarketView, Symbol};

@@ -1,4 +1,4 @@
-ghost use Rattle.std.specs.Prelude.{◌≡◌, ◌+◌, ◌≤◌, ℕ, Bool, true, false, None, List, [], ◌∷◌, ◌&&◌, not, IsOk, IfOk, OnOk, OnErr, is_some, length, option_to_list, vec_len, vec_capacity};
+ghost use Rattle.std.specs.Prelude.{◌≡◌, ◌+◌, ◌<◌, ◌≤◌, ℕ, Bool, true, false, None, Some, IfSome, List, [], ◌∷◌, ◌&&◌, not, IsOk, IfOk, OnOk, OnErr, is_some, length, option_to_list, vec_len, vec_capacity};
 ghost use Rattle.wire_in.specs.Records.{is_day, is_tick, moment_of};
 ghost use Rattle.window_core.specs.Deals.{live};
 ghost use Rattle.wire_out.specs.declared.message.Message.{Message as Said};
@@ -6,16 +6,16 @@ ghost use Rattle.rulebook.specs.declared.event.Event.{Event};
 ghost use Rattle.rulebook.specs.Symbol as of;
 ghost use Rattle.rulebook.specs.Symbol.{traded_price};
 ghost use Rattle.symbol_core.specs.Evaluates.{most_of_symbol};
+ghost use Rattle.symbol_core.specs.Idle.{IsDue, IsRested};
 ghost use Rattle.symbol_core.specs.Steps.{Steps};
 ghost use Rattle.symbol_core.specs.Taken.{deal_of};
 
+use crate::due::Due;
 use crate::kept::{Kept, Step};
-use crate::quiet::Quiet;
 use crate::records::traded_price;
 use crate::taking::{drop_cancelled, keep_deals};
-use pause_core::is_done;
 use price_core::NoMemory;
-use session_core::{Day, Phase};
+use session_core::{Day, Moment, Phase};
 use std::alloc::Global;
 use std::marker::Model;
 use window_core::SummedDeals;
@@ -37,18 +37,18 @@ pub const MOST_OF_SYMBOL: usize = 16;
 pub struct Symbol {
     kept: Kept,
     deals: SummedDeals,
-    quiet: Option<Quiet>,
+    due: Option<Due>,
 }
 
 impl Model for Symbol {
-    ghost use Rattle.symbol_core.specs.Quiet.{IsQuiet};
+    ghost use Rattle.symbol_core.specs.Idle.{IsDue};
     ghost use Rattle.symbol_core.specs.Rests.{Held};
 
     ghost Value = { Held };
 
     ghost view = { λ s. record { kept = s.kept; deals = s.deals.deals } };
 
-    ghost invariant = { λ s. IsQuiet s.quiet s.kept s.deals.deals };
+    ghost invariant = { λ s. IsDue s.due s.kept s.deals.deals };
 }
 
 /// The step of a record.
@@ -88,7 +88,7 @@ impl Symbol {
         Ok(Symbol {
             kept: Kept::renewed(id, false),
             deals: SummedDeals::new(alloc)?,
-            quiet: None,
+            due: None,
         })
     }
 
@@ -108,7 +108,15 @@ impl Symbol {
         self.kept.terms.is_some()
     }
 
-    fn begin_day(&mut self, x: &Record)
+    /// When the stock is next due: ticks of that market from that moment on and before that one bring it nothing. None where
+    /// that isn't known.
+    pub fn due(&self) -> Option<Due>
+        ensures nothing { IfSome result (λ due. (x : Record) → is_tick x ≡ true → due.from ≤ moment_of x → moment_of x < due.until → (before : List Said) → Evaluates due.market x self.now self.now before before) }
+    {
+        self.due
+    }
+
+    fn begin_day(&mut self, x: &Record, market: &MarketView)
         requires { is_day x.now ≡ true }
         ensures begins { (own : List ℕ → Bool) (h : List Event) → Rests own self.old h → Rests own self.new (Event.Accepted x.now ∷ h) }
         ensures id { self.new.kept.id ≡ self.old.kept.id }
@@ -116,7 +124,7 @@ impl Symbol {
     {
         let _day = x.is_day();
         let renewed = Kept::renewed(self.kept.id, self.kept.triggered);
-        self.quiet = None;
+        self.due = Some(Due::without_end(x.moment(), market));
         self.kept = renewed;
         self.deals.clear();
     }
@@ -128,22 +136,35 @@ impl Symbol {
         x.is_tick() && !self.kept.terms.is_some()
     }
 
-    /// Whether the record is a clock or an index tick that brings nothing: the symbol is closed or quiet, and each of its
-    /// trades is less than five minutes old.
-    fn is_unmoved(&self, x: &Record, market: &MarketView) -> bool
-        ensures nothing { result ≡ true → (before : List Said) → Evaluates market.now x.now self.now self.now before before }
-        ensures recent { result ≡ true → live (moment_of x.now) self.now.deals ≡ self.now.deals }
+    fn stay_away(&mut self, t: Moment, market: &MarketView)
+        requires { is_some self.old.kept.terms ≡ false }
+        ensures { self.new ≡ self.old }
     {
-        if !x.is_tick() || !self.deals.are_live(x.moment()) {
-            return false;
+        self.due = Some(Due::without_end(t, market));
+    }
+
+    /// When the symbol is due after a clock or an index tick that brings nothing.
+    fn passes(&self, x: &Record, market: &MarketView) -> Option<Due>
+        ensures nothing { IfSome result (λ due. (before : List Said) → Evaluates market.now x.now self.now self.now before before) }
+        ensures tick { IfSome result (λ due. is_tick x.now ≡ true) }
+        ensures due { IfSome result (λ due. IsDue (Some due) self.now.kept (live (moment_of x.now) self.now.deals)) }
+    {
+        match &self.due {
+            Some(due) if x.is_tick() && due.holds(x.moment(), market) => Some(due.since(
+                x.moment(),
+            )),
+            _ => None,
         }
-        if is_done(self.kept.phase) {
-            return true;
-        }
-        match &self.quiet {
-            Some(quiet) => quiet.holds(x.moment(), market),
-            None => false,
-        }
+    }
+
+    /// Passes over a tick, but removes the trades that are five minutes old.
+    fn pass(&mut self, t: Moment, due: Due)
+        requires { IsDue (Some due) self.old.kept (live t self.old.deals) }
+        ensures kept { self.new.kept ≡ self.old.kept }
+        ensures deals { self.new.deals ≡ live t self.old.deals }
+    {
+        self.deals.keep_live(t);
+        self.due = Some(due);
     }
 
     /// Evaluates a record: appends what it announces of the symbol and what the rules then give. It appends nothing at a
@@ -164,13 +185,15 @@ impl Symbol {
         ensures recent { is_some self.new.kept.terms ≡ true → OnOk result (live (moment_of x.now) self.new.deals ≡ self.new.deals) }
     {
         if x.is_day() {
-            self.begin_day(x);
+            self.begin_day(x, market);
             return Ok(());
         }
         if self.is_away(x) {
+            self.stay_away(x.moment(), market);
             return Ok(());
         }
-        if self.is_unmoved(x, market) {
+        if let Some(due) = self.passes(x, market) {
+            self.pass(x.moment(), due);
             return Ok(());
         }
         self.obey(x, market, out)
@@ -199,7 +222,7 @@ impl Symbol {
         }
         self.deals.reserve(room_needed(self.kept.id, &step))?;
         take_step(&mut self.kept, &mut self.deals, &step, out);
-        self.quiet = self.kept.quiet(&step, &self.deals);
+        self.due = self.kept.due(&step, &self.deals);
         Ok(())
     }
 }
@@ -212,6 +235,7 @@ fn take_step(k: &mut Kept, deals: &mut SummedDeals, step: &Step, out: &mut Vec<M
     ensures few { vec_len out.new ≤ vec_len out.old + 15 }
     ensures capacity { vec_capacity out.old ≤ vec_capacity out.new }
     ensures recent { step.now.moment ≡ moment_of step.now.input → live step.now.moment deals.new.deals ≡ deals.new.deals }
+    ensures rested { IsRested k.new }
 {
     drop_cancelled(k.id, &step.input, deals);
     deals.keep_live(step.moment);

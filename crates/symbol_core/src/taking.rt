@@ -1,5 +1,5 @@
 // Taking a record in, and what is kept at the end of a step.
-ghost use Rattle.std.specs.Prelude.{◌≡◌, ◌≤◌, ◌++◌, [], is_some, if◌then◌else◌, filter, length, option_to_list};
+ghost use Rattle.std.specs.Prelude.{◌≡◌, ◌≤◌, ◌++◌, [], None, false, is_some, if◌then◌else◌, filter, length, option_to_list};
 ghost use Rattle.window_core.specs.Deals.{live};
 ghost use Rattle.symbol_core.specs.Taken.{finished, leaves, renewed, taken};
 ghost use Rattle.symbol_core.specs.Window.{SameLive};
@@ -50,9 +50,17 @@ impl Kept {
         }
         self.halted = halted_by(self.id, &step.input, self.halted);
         self.indication = indicated_by(self.id, &step.input).or(self.indication);
+        self.forget_step();
+        self.deal = deal_of(self.id, step);
+    }
+
+    /// Leaves nothing of a step alone.
+    fn forget_step(&mut self)
+        ensures { self.new ≡ record self.old { left_limit = false; released = None; deal = None; is_fresh = false } }
+    {
         self.left_limit = false;
         self.released = None;
-        self.deal = deal_of(self.id, step);
+        self.deal = None;
         self.is_fresh = false;
     }
 
@@ -61,6 +69,7 @@ impl Kept {
         ensures { self.new ≡ finished self.old step.now }
     {
         self.triggered = self.triggering(step) || self.triggered;
+        self.forget_step();
     }
 }
 

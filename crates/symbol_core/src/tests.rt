@@ -4,7 +4,7 @@ use session_core::{Close, Date, Day, Moment, Phase, Profile};
 use std::process::Abort;
 use std::test::Fail;
 use std::time::{Duration, Instant};
-use wire_in::Record;
+use wire_in::{NoticeKind, Record};
 use wire_out::{Message, ShortKind};
 
 fn at(seconds: u64) -> Result<Moment, Fail> {
@@ -288,5 +288,152 @@ fn clock_ticks_take_no_time_for_each_of_50_000_trades(rt: HostRuntime) -> Result
         band(Cause::First, 500_000, 475_000, 525_000)?,
     ];
     assert!(rt; out.as_slice() == want.as_slice());
+    Ok(())
+}
+
+/// Until when ticks bring nothing after these records, of a market that stands still or not, in seconds of the day.
+fn due_after<R: AllocGlobal>(rt: &R, stopped: bool, xs: &[Record]) -> Result<Option<u64>, Fail> {
+    let mut symbol = Symbol::new(rt.alloc(), 0)?;
+    let mut out = Vec::new(rt.alloc());
+    let market = MarketView {
+        day: day(3)?,
+        stopped,
+    };
+    for x in xs {
+        symbol.evaluate(x, &market, &mut out)?;
+    }
+    match symbol.due() {
+        Some(due) if due.until == u64::MAX => Ok(Some(due.until)),
+        Some(due) => Ok(Some(due.until.wrapping_div(1_000_000_000))),
+        None => Ok(None),
+    }
+}
+
+fn notice(seconds: u64, kind: NoticeKind) -> Result<Record, Fail> {
+    Ok(Record::Notice {
+        moment: at(seconds)?,
+        symbol: 0,
+        kind,
+    })
+}
+
+#[test]
+fn an_unlisted_or_closed_symbol_is_due_at_no_tick(rt: HostRuntime) -> Result<(), Fail> {
+    let away = [new_day(3)?];
+    assert_eq!(rt; due_after(&rt, false, &away)?, Some(u64::MAX));
+    let closed = [
+        new_day(3)?,
+        listing(500_000)?,
+        clock(34_200)?,
+        trade(57_599, 1, 500_000, 1)?,
+        clock(57_600)?,
+    ];
+    assert_eq!(rt; due_after(&rt, false, &closed)?, Some(u64::MAX));
+    Ok(())
+}
+
+#[test]
+fn a_symbol_is_due_at_the_open_and_before_the_close(rt: HostRuntime) -> Result<(), Fail> {
+    let shut = [new_day(3)?, listing(500_000)?];
+    assert_eq!(rt; due_after(&rt, false, &shut)?, Some(34_200));
+    let without_trades = [new_day(3)?, listing(500_000)?, clock(34_200)?];
+    assert_eq!(rt; due_after(&rt, false, &without_trades)?, Some(35_100));
+    let after_15_minutes = [
+        new_day(3)?,
+        listing(500_000)?,
+        clock(34_200)?,
+        clock(35_100)?,
+    ];
+    assert_eq!(rt; due_after(&rt, false, &after_15_minutes)?, Some(56_100));
+    let last_25 = [
+        new_day(3)?,
+        listing(500_000)?,
+        clock(34_200)?,
+        clock(56_100)?,
+    ];
+    assert_eq!(rt; due_after(&rt, false, &last_25)?, Some(57_600));
+    Ok(())
+}
+
+#[test]
+fn a_symbol_is_due_where_a_mean_may_come(rt: HostRuntime) -> Result<(), Fail> {
+    let without_bands = [
+        new_day(3)?,
+        listing(500_000)?,
+        clock(34_200)?,
+        trade(34_210, 1, 500_000, 0)?,
+    ];
+    assert_eq!(rt; due_after(&rt, false, &without_bands)?, Some(34_500));
+    let with_bands = [
+        new_day(3)?,
+        listing(500_000)?,
+        clock(34_200)?,
+        trade(34_210, 1, 500_000, 1)?,
+    ];
+    assert_eq!(rt; due_after(&rt, false, &with_bands)?, Some(34_240));
+    let after_30_seconds = [
+        new_day(3)?,
+        listing(500_000)?,
+        clock(34_200)?,
+        trade(34_210, 1, 500_000, 1)?,
+        quote(34_240, 499_900, 500_100)?,
+    ];
+    assert_eq!(rt; due_after(&rt, false, &after_30_seconds)?, Some(34_510));
+    Ok(())
+}
+
+#[test]
+fn a_limit_state_is_due_after_15_seconds_and_a_pause_after_five_minutes(
+    rt: HostRuntime,
+) -> Result<(), Fail> {
+    let limit = [
+        new_day(3)?,
+        listing(500_000)?,
+        clock(34_200)?,
+        trade(34_200, 1, 500_000, 1)?,
+        quote(36_000, 474_900, 475_000)?,
+        trade(36_005, 2, 475_000, 0)?,
+    ];
+    assert_eq!(rt; due_after(&rt, false, &limit)?, Some(36_015));
+    let paused = [
+        new_day(3)?,
+        listing(500_000)?,
+        clock(34_200)?,
+        trade(34_200, 1, 500_000, 1)?,
+        quote(36_000, 474_900, 475_000)?,
+        clock(36_015)?,
+        quote(36_020, 474_900, 476_000)?,
+    ];
+    assert_eq!(rt; due_after(&rt, false, &paused)?, Some(36_315));
+    Ok(())
+}
+
+#[test]
+fn a_halted_or_stopped_symbol_is_due_at_the_close(rt: HostRuntime) -> Result<(), Fail> {
+    let halted = [
+        new_day(3)?,
+        listing(500_000)?,
+        clock(34_200)?,
+        trade(34_200, 1, 500_000, 1)?,
+        notice(36_000, NoticeKind::Halt)?,
+    ];
+    assert_eq!(rt; due_after(&rt, false, &halted)?, Some(57_600));
+    let stopped = [new_day(3)?, listing(500_000)?, clock(34_200)?];
+    assert_eq!(rt; due_after(&rt, true, &stopped)?, Some(57_600));
+    Ok(())
+}
+
+#[test]
+fn a_tick_that_is_passed_over_leaves_the_due_as_it_was(rt: HostRuntime) -> Result<(), Fail> {
+    let passed = [
+        new_day(3)?,
+        listing(500_000)?,
+        clock(34_200)?,
+        trade(34_200, 1, 500_000, 1)?,
+        notice(34_201, NoticeKind::Halt)?,
+        clock(34_600)?,
+        clock(40_000)?,
+    ];
+    assert_eq!(rt; due_after(&rt, false, &passed)?, Some(57_600));
     Ok(())
 }

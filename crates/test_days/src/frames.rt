@@ -220,12 +220,10 @@ pub fn messages_of(alloc: Global, lines: &[Line]) -> Result<Vec<Stamped>, BadLin
     for line in lines {
         match *line {
             Line::Record(x) => moment = Some(x.moment()),
-            Line::Gives(message) => {
-                let Some(moment) = moment else {
-                    return Err(BadLine::Early);
-                };
-                messages.push(Stamped { moment, message })?;
-            }
+            Line::Gives(message) => messages.push(Stamped {
+                moment: moment.ok_or(BadLine::Early)?,
+                message,
+            })?,
             Line::Bytes(_) | Line::Refused(_) => {}
         }
     }

@@ -1,12 +1,12 @@
 -- Deals with the sum of their prices, in order.
 use Rattle.std.proofs.Common.{◌≡◌, ℕ, ◌+◌, ◌*◌, ◌≤◌, ◌<◌, Bool, true, false, cond, List, [], ◌∷◌, ◌++◌, filter, length, length-append, sum_by, refl, sym, ap, arith, subst, ◌∙◌}
-use Rattle.std.specs.Prelude.{Some, None, ◌-◌, ◌&&◌, drop, nat_le, slice_get, slice_index_or}
+use Rattle.std.specs.Prelude.{Some, None, ◌-◌, ◌==◌, ◌&&◌, drop, nat_le, not, slice_get, slice_index_or}
 use Rattle.std.proofs.lemmas.Bool.Decides.{nat_tests}
 use Rattle.std.proofs.lemmas.List.Sums.{sum_by-append}
 use Rattle.price_core.specs.Ranges.{IsPrice}
 use Rattle.session_core.specs.Durations.{five_minutes}
 use Rattle.window_core.specs.declared.window.Deal.{Deal}
-use Rattle.window_core.specs.Deals.{is_live, live}
+use Rattle.window_core.specs.Deals.{is_live, is_numbered, live, stays}
 use Rattle.window_core.specs.Summed.{AllFrom, AllPriced, AllUpTo, InOrder, IsSummed}
 use Rattle.window_core.specs.Tallies.{Tallies}
 
@@ -33,6 +33,10 @@ first_live t (e ∷ deals) d order is young =
     let same : e ≡ d = cc in
     let here : is_live t e ≡ true = ap (is_live t) same ∙ young in
     simp here (ap (λ (ds : List Deal). e ∷ ds) (from_live t e.moment deals (is_young t e here) order.0))
+
+-- the same, before the first is five minutes old
+pub young_live : (t : ℕ) (deals : List Deal) (d : Deal) → InOrder deals → slice_get deals 0 ≡ Some d → t < d.moment + five_minutes → live t deals ≡ deals
+young_live t deals d order is young = first_live t deals d order is (one_live t d.moment d young (omega arith))
 
 pub none_live : (t : ℕ) (deals : List Deal) → slice_get deals 0 ≡ None → live t deals ≡ deals
 none_live t [] none = refl
@@ -110,6 +114,41 @@ pub summed_some : (old sum newest : ℕ) (ordered : Bool) (test : Deal → Bool)
     → IsSummed sum newest ordered some
 summed_some old sum newest ordered test deals some is tallies s =
     record { tallies = tallies; priced = rw is (priced_some test deals s.priced); late = rw is (late_some newest test deals s.late); order = λ e. rw is (order_some test deals (s.order e)) }
+
+-- Deals of a number are removed.
+
+-- one deal more, of that number or not
+split_one : (number : ℕ) (d : Deal) (rest left gone : List Deal) (b : Bool) → sum_by (λ d. d.price) left + sum_by (λ d. d.price) gone ≡ sum_by (λ d. d.price) rest
+    → sum_by (λ d. d.price) (cond (not b) (d ∷ left) left) + sum_by (λ d. d.price) (cond b (d ∷ gone) gone) ≡ sum_by (λ d. d.price) (d ∷ rest)
+split_one number d rest left gone true e = let all = sum_first d rest in let own = sum_first d gone in omega arith
+split_one number d rest left gone false e = let all = sum_first d rest in let own = sum_first d left in omega arith
+
+sum_split : (number : ℕ) (deals : List Deal) → sum_by (λ d. d.price) (filter (stays number) deals) + sum_by (λ d. d.price) (filter (is_numbered number) deals) ≡ sum_by (λ d. d.price) deals
+sum_split number [] = refl
+sum_split number (d ∷ deals) = split_one number d deals (filter (stays number) deals) (filter (is_numbered number) deals) (d.number == number) (sum_split number deals)
+
+-- none of them is of that number
+pub none_numbered : (number : ℕ) (deals : List Deal) → length (filter (is_numbered number) deals) ≡ 0 → filter (stays number) deals ≡ deals
+none_numbered number [] e = refl
+none_numbered number (d ∷ deals) e = by (d.number == number) e (none_numbered number deals) where
+  by : (b : Bool) → length (cond b (d ∷ filter (is_numbered number) deals) (filter (is_numbered number) deals)) ≡ 0
+      → (length (filter (is_numbered number) deals) ≡ 0 → filter (stays number) deals ≡ deals) → cond (not b) (d ∷ filter (stays number) deals) (filter (stays number) deals) ≡ d ∷ deals
+  by true e rest = absurd (omega arith)
+  by false e rest = ap (λ (ds : List Deal). d ∷ ds) (rest e)
+
+-- their sum is at most that of all
+pub numbered_most : (number sum count newest total : ℕ) (ordered : Bool) (deals : List Deal) → Tallies sum count (filter (is_numbered number) deals) → IsSummed total newest ordered deals → sum ≤ total
+numbered_most number sum count newest total ordered deals gone s = let split = sum_split number deals in let is = gone.sum_is in let all = s.tallies.sum_is in omega arith
+
+pub summed_removed : (number sum count newest total : ℕ) (ordered : Bool) (deals left : List Deal) → left ≡ filter (stays number) deals → Tallies sum count (filter (is_numbered number) deals) → IsSummed total newest ordered deals
+    → IsSummed (total - sum) newest ordered left
+summed_removed number sum count newest total ordered deals left is gone s =
+    let priced : AllPriced left = rw is (priced_some (stays number) deals s.priced) in
+    let split = sum_split number deals in
+    let own = gone.sum_is in
+    let all = s.tallies.sum_is in
+    let removed : sum_by (λ d. d.price) left ≡ sum_by (λ d. d.price) (filter (stays number) deals) = ap (λ (ds : List Deal). sum_by (λ d. d.price) ds) is in
+    summed_some total (total - sum) newest ordered (stays number) deals left is (tallies_of (total - sum) left (omega arith) priced) s
 
 both_true : (a b : Bool) → (a && b) ≡ true → (a ≡ true) × (b ≡ true)
 both_true true b e = (refl, e)

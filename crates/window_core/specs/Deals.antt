@@ -13,6 +13,10 @@ is_live t d = nat_lt t (d.moment + five_minutes)
 abbrev pub live : ℕ → List Deal → List Deal
 live t deals = filter (is_live t) deals
 
+-- of that number
+abbrev pub is_numbered : ℕ → Deal → Bool
+is_numbered number d = d.number == number
+
 -- not of that number, whose deals a cancel removes
 abbrev pub stays : ℕ → Deal → Bool
 stays number d = not (d.number == number)

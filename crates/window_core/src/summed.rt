@@ -1,12 +1,12 @@
 // Deals with the sum of their prices, so that their mean is known without adding them up.
-ghost use Rattle.std.specs.Prelude.{◌≡◌, true, ◌+◌, ◌*◌, ◌≤◌, ◌<◌, ◌++◌, ◌∷◌, ◌&&◌, [], IsOk, IfOk, OnOk, nat_le, filter, length, option_map, option_to_list, slice_get, sum_by};
+ghost use Rattle.std.specs.Prelude.{◌≡◌, ℕ, true, ◌+◌, ◌*◌, ◌≤◌, ◌<◌, ◌++◌, ◌∷◌, ◌&&◌, [], IsOk, IfOk, OnOk, nat_le, filter, length, option_map, option_to_list, slice_get, sum_by};
 ghost use Rattle.std.specs.VecDeque.{deque_len, deque_capacity};
-ghost use Rattle.window_core.specs.Deals.{live, mean_of, stays};
+ghost use Rattle.window_core.specs.Deals.{is_numbered, live, mean_of, stays};
 ghost use Rattle.window_core.specs.Tallies.{Tallies};
 
 use crate::window::{Deal, Tally};
 use price_core::{NoMemory, Price};
-use session_core::{Moment, midnight};
+use session_core::{FIVE_MINUTES, Moment, midnight};
 use std::alloc::Global;
 use std::collections::VecDeque;
 use std::marker::Model;
@@ -158,6 +158,20 @@ impl SummedDeals {
         }
     }
 
+    /// Until when each deal is known to be less than five minutes old, in nanoseconds of the day: by the first of them, where
+    /// they are in order; there is no end without deals.
+    pub fn live_until(&self) -> u64
+        ensures { (u : ℕ) → u < result → live u self.now.deals ≡ self.now.deals }
+    {
+        if !self.is_ordered {
+            return 0;
+        }
+        match first(&self.items) {
+            Some(deal) => deal.moment.nanos() + FIVE_MINUTES,
+            None => u64::MAX,
+        }
+    }
+
     /// Removes the first deal where it is five minutes old, and says whether it did.
     fn drop_first(&mut self, t: Moment) -> bool
         ensures live { live t self.new.deals ≡ live t self.old.deals }
@@ -188,8 +202,11 @@ impl SummedDeals {
         ensures deals { self.new.deals ≡ live t self.old.deals }
         ensures spare { self.old.spare ≤ self.new.spare }
     {
+        if self.are_live(t) {
+            return;
+        }
         for _ in 0..self.items.len() {
-            if self.are_live(t) || !self.drop_first(t) {
+            if !self.drop_first(t) {
                 break;
             }
         }
@@ -198,14 +215,24 @@ impl SummedDeals {
         }
     }
 
-    /// Removes the deals of a number.
+    fn tally_number(&self, number: u32) -> Tally
+        ensures tallies { Tallies result.sum result.count (filter (is_numbered number) self.now.deals) }
+    {
+        let (front, back) = self.items.as_slices();
+        Tally::of_number(number, front).and(&Tally::of_number(number, back))
+    }
+
+    /// Removes the deals of a number. It moves deals only where there is one of them.
     pub fn remove(&mut self, number: u32)
         ensures deals { self.new.deals ≡ filter (stays number) self.old.deals }
         ensures spare { self.old.spare ≤ self.new.spare }
     {
+        let removed = self.tally_number(number);
+        if removed.count == 0 {
+            return;
+        }
         remove(number, &mut self.items);
-        let left = total_of(&self.items);
-        self.sum = left;
+        self.sum -= removed.sum;
     }
 
     /// Removes all deals.

@@ -4,6 +4,7 @@ use super::*;
 use price_core::Price;
 use session_core::Moment;
 use std::test::Fail;
+use std::time::{Duration, Instant};
 
 /// A moment that many nanoseconds after 09:30:00.
 fn after(nanos: u64) -> Result<Moment, Fail>
@@ -87,5 +88,50 @@ fn a_restart_begins_a_new_day(rt: HostRuntime) -> Result<(), Fail> {
     trade(&mut window, after(0)?, 1, 99_999_999_999)?;
     assert_eq!(rt; window.mean(), price(99_999_999_999)?);
     assert_eq!(rt; window.oldest(), Some(after(0)?));
+    Ok(())
+}
+
+fn deal(nanos: u64, number: u32) -> Result<Deal, Fail>
+    requires { nanos < 1000000000000 }
+{
+    Ok(Deal {
+        moment: after(nanos)?,
+        number,
+        price: Price::new(500_000)?,
+    })
+}
+
+#[test]
+fn after_a_clear_earlier_deals_are_in_order(rt: HostRuntime) -> Result<(), Fail> {
+    let mut deals = SummedDeals::new(rt.alloc())?;
+    deals.reserve(1)?;
+    deals.push(deal(600_000_000_000, 1)?);
+    deals.clear();
+    assert_eq!(rt; deals.live_until(), u64::MAX);
+    deals.reserve(1)?;
+    deals.push(deal(0, 1)?);
+    assert!(rt; deals.are_live(after(299_999_999_999)?));
+    assert!(rt; !deals.are_live(after(300_000_000_000)?));
+    assert_eq!(rt; deals.live_until(), 34_500_000_000_000);
+    Ok(())
+}
+
+#[test]
+fn an_advance_of_the_next_day_takes_no_time_for_each_of_50_000_trades(
+    rt: HostRuntime,
+) -> Result<(), Fail> {
+    let mut window = Window::new(rt.alloc())?;
+    trade(&mut window, after(600_000_000_000)?, 1, 500_000)?;
+    window.restart();
+    for number in 0..50_000_u32 {
+        trade(&mut window, after(u64::from(number))?, number, 500_000)?;
+    }
+    let start = Instant::now(&rt)?;
+    for tick in 0..50_000_u64 {
+        window.advance(after(tick + 60_000_000_000)?);
+    }
+    // A look at each trade at each advance would be 2,500,000,000 looks.
+    assert!(rt; start.elapsed(&rt)? < Duration::from_secs(5));
+    assert_eq!(rt; window.mean(), price(500_000)?);
     Ok(())
 }

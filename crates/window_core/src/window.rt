@@ -37,7 +37,7 @@ pub(crate) struct Tally {
 }
 
 impl Tally {
-    ghost use Rattle.window_core.specs.Deals.{live};
+    ghost use Rattle.window_core.specs.Deals.{is_numbered, live};
     ghost use Rattle.window_core.specs.Tallies.{Tallies};
 
     /// Of the deals that are less than five minutes old.
@@ -68,6 +68,22 @@ impl Tally {
             },
             _ => Tally { sum: 0, count: 0 },
         }
+    }
+
+    /// Of the deals of a number.
+    pub(crate) fn of_number(number: u32, deals: &[Deal]) -> Tally
+        ensures tallies { Tallies result.sum result.count (filter (is_numbered number) deals.now) }
+        ensures few { result.count ≤ length deals.now }
+    {
+        let mut sum: u128 = 0;
+        let mut count: u64 = 0;
+        for deal in deals {
+            if deal.number == number {
+                sum += u128::from(deal.price.units());
+                count += 1;
+            }
+        }
+        Tally { sum, count }
     }
 
     /// The sum and the number of both.

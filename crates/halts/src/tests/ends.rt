@@ -162,3 +162,18 @@ fn answers_that_find_no_room_are_sent_before_the_piece_ends(rt: HostRuntime) -> 
     )?;
     Ok(())
 }
+
+#[test]
+fn a_replay_goes_on_where_each_call_of_the_disk_would_fail(rt: HostRuntime) -> Result<(), Fail> {
+    let alloc = rt.alloc();
+    let day = Session::of(alloc, &limit_state(&rt)?)?;
+    let mut host = MemoryHost::new(alloc, &day.input, b"")?;
+    for call in [Call::Len, Call::DiskRead, Call::Write, Call::Sync] {
+        for nth in 1..100 {
+            host.fail(call, nth)?;
+        }
+    }
+    assert_eq!(rt; run(&rt, alloc, &["replay"], &mut host), Status::Done);
+    assert!(rt; host.sent() == day.replayed.as_slice());
+    Ok(())
+}

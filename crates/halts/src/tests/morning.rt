@@ -66,18 +66,16 @@ fn without_acks(alloc: Global, sent: &[u8]) -> Result<Vec<u8>, Fail> {
         if left == 0 {
             left = *byte;
             keeps = None;
-        } else {
-            if keeps.is_none() {
-                keeps = Some(*byte < 0x81);
-                if *byte < 0x81 {
-                    kept.push(left)?;
-                }
-            }
-            if keeps == Some(true) {
-                kept.push(*byte)?;
-            }
-            left -= 1;
+            continue;
         }
+        if keeps.is_none() && *byte < 0x81 {
+            kept.push(left)?;
+        }
+        keeps = keeps.or(Some(*byte < 0x81));
+        if keeps == Some(true) {
+            kept.push(*byte)?;
+        }
+        left -= 1;
     }
     Ok(kept)
 }

@@ -1,5 +1,5 @@
 // What is told on standard error.
-use crate::tell;
+use crate::told::tell;
 use host_core::Status;
 use std::alloc::Global;
 use std::cell::Cell;
@@ -27,7 +27,7 @@ impl Eprint for Told {
 }
 
 #[test]
-fn each_status_but_done_has_its_line(rt: HostRuntime) -> Result<(), Fail> {
+fn a_status_is_told_in_one_line_and_done_by_none(rt: HostRuntime) -> Result<(), Fail> {
     let alloc = rt.alloc();
     for (status, want) in [
         (Status::Done, ""),
@@ -35,25 +35,11 @@ fn each_status_but_done_has_its_line(rt: HostRuntime) -> Result<(), Fail> {
             Status::Usage,
             "halts: usage: halts <journal> format|serve|replay\n",
         ),
-        (Status::Truncated, "halts: the input ends inside a frame\n"),
         (Status::ReadFault, "halts: the input could not be read\n"),
-        (
-            Status::SendFault,
-            "halts: the output could not be written\n",
-        ),
-        (
-            Status::DiskFault,
-            "halts: the journal could not be read or written\n",
-        ),
-        (
-            Status::SessionFull,
-            "halts: the bytes of the session are used up\n",
-        ),
         (
             Status::Damaged { at: 16 },
             "halts: the journal is damaged at 16\n",
         ),
-        (Status::NoJournal, "halts: there is no journal\n"),
         (Status::NoMemory, "halts: out of memory\n"),
         (
             Status::BadText { line: 2 },

@@ -1,75 +1,47 @@
-use Rattle.std.proofs.Common.{refl, take, ◌∙◌}
-use Rattle.host_core.proofs.Moments.{widened, goes_on}
-use Rattle.host_core.proofs.Chains.{stays_left}
-use Rattle.wire_in.specs.Cutting.{bodies_of}
-use Rattle.engine_core.proofs.Reading.{expects_all, held_all, serves_sent, safe_flush, safe_sent, has_read, takes_within}
-use Rattle.engine_core.proofs.Asking.{one_ask}
+use Rattle.std.proofs.Common.{inr, refl, sym, ◌∙◌, arith}
+use Rattle.engine_core.proofs.Asking.{no_ask, one_ask}
+use Rattle.engine_core.proofs.Reading.{takes_piece, exchanges_on}
+use Rattle.engine_core.proofs.Sending.{sends_stays}
+use Rattle.engine_core.proofs.Taken.{drop-none}
 use Rattle.engine_core.proofs.input.exchange.Goals as goal
 
-pub returns-in_default-clause-moments : goal.returns-in_default-clause-moments
-returns-in_default-clause-moments g c = λ start input count reads.
-    widened (c.flush.ensures.moments start.sent _ (expects_all _ start _ _ c.args.session.now _ reads.serves c.requires.empty)) _
-    (safe_flush _ start (bodies_of (take count input)) _ (λ image left.
-    g.K.Keeper.recovers_now c.args.keeper.now _ _ image (held_all _ start _ _ c.args.session.now _ reads.serves c.requires.empty) left))
+pub returns-in_default-clause-prompt : goal.returns-in_default-clause-prompt
+returns-in_default-clause-prompt g c = λ start input count left there expects. no_ask start input c.flush.ensures.keeps.asks
+
+pub returns-then-most-eq0-clause-prompt : goal.returns-then-most-eq0-clause-prompt
+returns-then-most-eq0-clause-prompt g c = λ start input count left there expects. no_ask start input c.flush.ensures.keeps.asks
+
+pub returns-then-most-eq0-clause-taken : goal.returns-then-most-eq0-clause-taken
+returns-then-most-eq0-clause-taken g c = record {
+  within = omega arith;
+  left = c.flush.ensures.keeps.input ∙ sym (drop-none _);
+  given = λ input known. refl;
+  there = λ input known. omega arith;
+  end = λ input known none. inr c.if-most-eq0.true;
+}
 
 pub returns-in_default-read_piece-clause-moments : goal.returns-in_default-read_piece-clause-moments
-returns-in_default-read_piece-clause-moments g c = λ start input count reads.
-    let expects = expects_all _ start _ _ c.args.session.now _ reads.serves c.requires.empty in
-    let held = held_all _ start _ _ c.args.session.now _ reads.serves c.requires.empty in
-    let mid = g.K.Keeper.still_held c.args.keeper.now _ _ _ held c.flush.ensures.keeps.disk c.flush.ensures.keeps.left in
-    goes_on
-    (widened (c.flush.ensures.moments start.sent _ expects) _
-    (safe_flush _ start (bodies_of (take count input)) _ (λ image left. g.K.Keeper.recovers_now c.args.keeper.now _ _ image held left)))
-    c.read_piece.ensures.reads.keeps.moments
-    (safe_sent _ start (bodies_of (take count input)) _ ((c.in-Ok.ensures).sent start.sent _ expects) (λ image left.
-    g.K.Keeper.recovered_before c.args.keeper.now _ image _ _ c.flush.ensures.keeps.left (g.K.Keeper.recovers_now c.args.keeper.now _ _ image mid left)))
+returns-in_default-read_piece-clause-moments g c = λ begin text expects.
+    sends_stays (c.flush.ensures.moments begin text expects) ((c.in-Ok.ensures).sent begin text expects) c.read_piece.ensures.reads.keeps.moments
+
+pub returns-in_default-read_piece-clause-prompt : goal.returns-in_default-read_piece-clause-prompt
+returns-in_default-read_piece-clause-prompt g c = λ start input count left there expects.
+    no_ask start input ((c.in_default-read_piece.ensures).reads.asks ∙ c.flush.ensures.keeps.asks)
+
+pub returns-in_default-read_piece-clause-keeps : goal.returns-in_default-read_piece-clause-keeps
+returns-in_default-read_piece-clause-keeps g c = exchanges_on c.flush.ensures.keeps c.read_piece.ensures.reads.keeps
 
 pub returns-clause-moments : goal.returns-clause-moments
-returns-clause-moments g c = λ start input count reads.
-    let expects = expects_all _ start _ _ c.args.session.now _ reads.serves c.requires.empty in
-    let held = held_all _ start _ _ c.args.session.now _ reads.serves c.requires.empty in
-    let mid = g.K.Keeper.still_held c.args.keeper.now _ _ _ held c.flush.ensures.keeps.disk c.flush.ensures.keeps.left in
-    goes_on
-    (widened (c.flush.ensures.moments start.sent _ expects) _
-    (safe_flush _ start (bodies_of (take count input)) _ (λ image left. g.K.Keeper.recovers_now c.args.keeper.now _ _ image held left)))
-    c.read_piece.ensures.reads.keeps.moments
-    (safe_sent _ start (bodies_of (take count input)) _ ((c.in-Ok.ensures).sent start.sent _ expects) (λ image left.
-    g.K.Keeper.recovered_before c.args.keeper.now _ image _ _ c.flush.ensures.keeps.left (g.K.Keeper.recovers_now c.args.keeper.now _ _ image mid left)))
-
-pub returns-in_default-read_piece-clause-unread : goal.returns-in_default-read_piece-clause-unread
-returns-in_default-read_piece-clause-unread g c = λ start input count reads is.
-    let expects = expects_all _ start _ _ c.args.session.now _ reads.serves c.requires.empty in
-    let held = held_all _ start _ _ c.args.session.now _ reads.serves c.requires.empty in
-    let mid = g.K.Keeper.still_held c.args.keeper.now _ _ _ held c.flush.ensures.keeps.disk c.flush.ensures.keeps.left in
-    record {
-      input_left = (c.in_default-read_piece.ensures).reads.read ∙ c.flush.ensures.keeps.input ∙ reads.input_left;
-      there = reads.there;
-      sent = c.read_piece.ensures.reads.keeps.sent ∙ (c.in-Ok.ensures).sent start.sent _ expects;
-      held = g.K.Keeper.still_held c.args.keeper.now _ _ _ mid c.read_piece.ensures.reads.keeps.disk (stays_left c.read_piece.ensures.reads.keeps.moments);
-    }
-
-pub returns-in_default-read_piece-clause-before : goal.returns-in_default-read_piece-clause-before
-returns-in_default-read_piece-clause-before g c = λ records image recovered.
-    g.K.Keeper.recovered_before c.args.keeper.now records image _ _ c.flush.ensures.keeps.left
-    (g.K.Keeper.recovered_before c.args.keeper.now records image _ _ (stays_left c.read_piece.ensures.reads.keeps.moments) recovered)
-
-pub returns-clause-before : goal.returns-clause-before
-returns-clause-before g c = λ records image recovered.
-    g.K.Keeper.recovered_before c.args.keeper.now records image _ _ c.flush.ensures.keeps.left
-    (g.K.Keeper.recovered_before c.args.keeper.now records image _ _ (stays_left c.read_piece.ensures.reads.keeps.moments) recovered)
-
-pub returns-clause-read : goal.returns-clause-read
-returns-clause-read g c = λ start input count reads.
-    let expects = expects_all _ start _ _ c.args.session.now _ reads.serves c.requires.empty in
-    let held = held_all _ start _ _ c.args.session.now _ reads.serves c.requires.empty in
-    let mid = g.K.Keeper.still_held c.args.keeper.now _ _ _ held c.flush.ensures.keeps.disk c.flush.ensures.keeps.left in
-    let sent = c.read_piece.ensures.reads.keeps.sent ∙ (c.in-Ok.ensures).sent start.sent _ expects in
-    let last = g.K.Keeper.still_held c.args.keeper.now _ _ _ mid c.read_piece.ensures.reads.keeps.disk (stays_left c.read_piece.ensures.reads.keeps.moments) in
-    has_read _ start input count _ _ _ _ _ (takes_within _ _ _ c.args.most _ (c.in-Ok-read_piece.ensures).reads.read) (c.flush.ensures.keeps.input ∙ reads.input_left) reads.there sent
-    (serves_sent _ start _ _ c.args.session.now _ reads.serves c.requires.empty _ _ refl (c.in-Ok.ensures).empty sent last)
+returns-clause-moments g c = λ begin text expects.
+    sends_stays (c.flush.ensures.moments begin text expects) ((c.in-Ok.ensures).sent begin text expects) c.read_piece.ensures.reads.keeps.moments
 
 pub returns-clause-prompt : goal.returns-clause-prompt
-returns-clause-prompt g c = λ start input count reads.
-    let expects = expects_all _ start _ _ c.args.session.now _ reads.serves c.requires.empty in
-    one_ask start input count (g.H.Host.outside c.flush.new.host) (g.H.Host.outside c.read_piece.new.host) c.flush.ensures.keeps.asks (c.flush.ensures.keeps.input ∙ reads.input_left) reads.there ((c.in-Ok.ensures).sent start.sent _ expects)
-    (c.in-Ok-read_piece.ensures).reads.asks
+returns-clause-prompt g c = λ start input count left there expects.
+    one_ask start input count (g.H.Host.outside c.flush.new.host) (g.H.Host.outside c.read_piece.new.host) c.flush.ensures.keeps.asks (c.flush.ensures.keeps.input ∙ left) there
+    ((c.in-Ok.ensures).sent start.sent _ expects) (c.in-Ok-read_piece.ensures).reads.asks
+
+pub returns-clause-taken : goal.returns-clause-taken
+returns-clause-taken g c = takes_piece _ _ _ _ c.args.most _ c.flush.ensures.keeps.input (c.in-Ok-read_piece.ensures).reads.read
+
+pub returns-clause-keeps : goal.returns-clause-keeps
+returns-clause-keeps g c = exchanges_on c.flush.ensures.keeps c.read_piece.ensures.reads.keeps

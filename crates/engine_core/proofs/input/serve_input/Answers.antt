@@ -1,27 +1,33 @@
-use Rattle.std.proofs.Common.{◌≡◌, ◌+◌, take, refl, arith, rules}
-use Rattle.std.specs.Prelude.{Ok, Err}
+use Rattle.std.proofs.Common.{◌≡◌, inl, inr, ℕ, take, refl, ap, ◌∙◌, arith, rules, true≢false}
+use Rattle.std.specs.Prelude.{Err}
+use Rattle.std.proofs.lemmas.Bool.Decides.{nat_tests}
+use Rattle.std.proofs.lemmas.List.{length-take}
+use Rattle.std.specs.Io.KnownBytes.{append_known}
 use Rattle.host_core.specs.declared.fault.Fault.TheVariants.{Read}
-use Rattle.host_core.proofs.Moments.{widened, unchanged, further}
+use Rattle.host_core.proofs.Moments.{unchanged, further}
 use Rattle.host_core.proofs.Causes.{no_fault, faultless}
 use Rattle.wire_in.specs.Cutting.{bodies_of}
+use Rattle.engine_core.specs.Sessions.{expected}
 use Rattle.engine_core.proofs.Taken.{takes_none, takes_on}
-use Rattle.engine_core.proofs.Reading.{polls_none, polls_on, expects_all, held_all, safe_flush, answered_flush}
+use Rattle.engine_core.proofs.Keeping.{idles, runs_on}
+use Rattle.engine_core.proofs.Reading.{up_to, expects_all, serves_sent, safe_sent, answered_by, piece_begins, reads_more, none_left}
 use Rattle.engine_core.proofs.Asking.{no_ask, more_asks}
-use Rattle.engine_core.proofs.Ending.{last_end, full_end}
+use Rattle.engine_core.proofs.Ending.{ends}
 use Rattle.engine_core.proofs.input.serve_input.Goals as goal
 
-pub loop-read-init : goal.loop-read-init
-loop-read-init g c = record {
+pub loop-open-init : goal.loop-open-init
+loop-open-init g c = record {
   within = omega arith;
   answered = omega (arith, c.requires.fresh);
   buffer = c.requires.buffer;
   empty = c.requires.empty;
   ready = c.requires.ready;
-  reads = λ start input same reads. reads;
-  moments = λ start input same reads.
-      polls_none _ _ start input c.args.most _ _ (g.met.H.Host.sent_now c.args.host.now)
-      (λ records image held left. g.K.Keeper.recovers_now c.args.keeper.now records _ image held left) reads;
-  prompt = λ start input same reads. no_ask start input refl;
+  polls = λ start input same reads. record {
+    reads = reads;
+    moments = idles reads.serves _ (up_to 0 c.args.most input (omega arith)) (g.met.H.Host.sent_now c.args.host.now) (λ image left. g.K.Keeper.recovers_now c.args.keeper.now _ _ image reads.serves.held left);
+    prompt = no_ask start input refl;
+    end = λ closed. absurd (true≢false closed);
+  };
   before = λ records image recovered. recovered;
   taken = takes_none 0 _ _ refl;
   touches = g.K.Keeper.untouched _ _ refl refl;
@@ -29,119 +35,115 @@ loop-read-init g c = record {
   none = no_fault _;
 }
 
-pub loop-read-preserved : goal.loop-read-preserved
-loop-read-preserved g c = record {
-  within = omega (arith, c.loop-read.invariant.within, c.loop-read-test.true, c.in_ok-count.ensures.most, c.min-room.ensures);
-  answered = omega (arith, c.loop-read.invariant.answered, c.in_ok-count.ensures.few);
-  buffer = omega (arith, c.loop-read.invariant.buffer, c.poll.auto.buffer);
-  empty = c.in_ok-count.ensures.empty;
-  ready = c.in_ok-count.ensures.ready;
-  reads = λ start input same reads. c.in_ok-count.ensures.reads start input c.loop-read.read same (c.loop-read.invariant.reads start input same reads);
-  moments = λ start input same reads.
-      polls_on _ _ start input c.loop-read.invariant.before (c.loop-read.read + c.min-room.result) c.args.most (omega (arith, c.loop-read.invariant.within, c.min-room.ensures))
-      (c.loop-read.invariant.moments start input same reads) (c.poll.ensures.moments start input c.loop-read.read same (c.loop-read.invariant.reads start input same reads));
-  prompt = λ start input same reads.
-      more_asks start input (c.loop-read.invariant.prompt start input same reads) (c.poll.ensures.prompt start input c.loop-read.read same (c.loop-read.invariant.reads start input same reads));
-  before = λ records image recovered. c.loop-read.invariant.before records image (c.in_ok-count.ensures.before records image recovered);
-  taken = takes_on c.loop-read.read c.in_ok-count.count _ _ _ _ (omega arith) c.loop-read.invariant.taken c.in_ok-count.ensures.taken;
-  touches = g.K.Keeper.touches_both _ _ _ c.loop-read.invariant.touches c.poll.ensures.touches;
-  continues = further c.loop-read.invariant.continues c.poll.ensures.continues;
-  none = faultless c.loop-read.invariant.none c.in_ok-count.ensures.causes;
-}
+pub loop-open-preserved : goal.loop-open-preserved
+loop-open-preserved g c =
+    let n = c.in_ok-count.count in
+    let took = c.in_ok-count.ensures.taken in
+    let empty = c.loop-open.invariant.empty in
+    record {
+      within = omega (arith, c.loop-open.invariant.within, took.within, c.min-room.ensures);
+      answered = omega (arith, c.loop-open.invariant.answered, c.in_ok-feed.ensures.few, length-take n c.exchange.new.buffer);
+      buffer = omega (arith, c.loop-open.invariant.buffer, c.exchange.auto.buffer);
+      empty = c.in_ok-feed.ensures.empty;
+      ready = c.in_ok-feed.ensures.ready;
+      polls = λ start input same reads.
+          let was = c.loop-open.invariant.polls start input same reads in
+          let expects = expects_all was.reads empty in
+          let sent = c.in_ok-count.ensures.sent start.sent _ expects in
+          let held = g.K.Keeper.still_held c.loop-open.keeper _ _ _ was.reads.serves.held c.exchange.ensures.keeps.disk c.exchange.ensures.keeps.left in
+          let mid = serves_sent was.reads empty c.exchange.new.outbox (g.H.Host.outside c.exchange.new.host) held c.in_ok-count.ensures.empty sent in
+          let next = reads_more was.reads took _ _ _ c.feed.ensures.keeps.input (c.in_ok-feed.ensures.serves start _ same mid) in
+          record {
+            reads = next;
+            moments = runs_on (piece_begins was.reads took c.args.most (omega (arith, c.loop-open.invariant.within, took.within, c.min-room.ensures)))
+                (λ records image recovered. c.loop-open.invariant.before records image (g.K.Keeper.recovered_before c.loop-open.keeper records image _ _ c.exchange.ensures.keeps.left recovered))
+                (runs_on (up_to c.loop-open.read c.args.most input c.loop-open.invariant.within) c.loop-open.invariant.before was.moments
+                (safe_sent was.reads empty _ (λ records image held left. g.K.Keeper.recovers_now c.loop-open.keeper records _ image held left) (c.exchange.ensures.moments start.sent _ expects)))
+                (c.feed.ensures.moments start _ same mid);
+            prompt = more_asks start input (more_asks start input was.prompt (c.exchange.ensures.prompt start input c.loop-open.read was.reads.input_left was.reads.there expects)) (no_ask start input c.feed.ensures.keeps.asks);
+            end = λ closed.
+                let none : n ≡ 0 = grind (arith, nat_tests) in (
+                  elim (none_left was.reads took none) [ inl all ↦ inl (omega (arith, all, none)) | inr full ↦ inr (omega (arith, full, none, c.min-room.ensures, c.loop-open.invariant.buffer, c.loop-open.invariant.within)) ],
+                  answered_by next c.in_ok-feed.ensures.empty _ refl
+                      (c.in_ok-feed.ensures.still (omega (arith, none, length-take n c.exchange.new.buffer)) ∙ sent ∙ ap (λ (k : ℕ). append_known start.sent (expected start (bodies_of (take k input)))) (omega (arith, none)))
+                      (λ records held. held),
+                );
+          };
+      before = λ records image recovered.
+          c.loop-open.invariant.before records image (g.K.Keeper.recovered_before c.loop-open.keeper records image _ _ c.exchange.ensures.keeps.left (c.in_ok-feed.ensures.before records image recovered));
+      taken = takes_on c.loop-open.read n _ _ _ _ (omega arith) c.loop-open.invariant.taken (record { count = n; within = omega arith; left = c.feed.ensures.keeps.input ∙ took.left });
+      touches = g.K.Keeper.touches_both _ _ _ c.loop-open.invariant.touches
+          (g.K.Keeper.touches_both _ _ _ (g.K.Keeper.untouched _ _ c.exchange.ensures.keeps.disk c.exchange.ensures.keeps.disk_faults) c.feed.ensures.keeps.to_disk);
+      continues = further c.loop-open.invariant.continues (further c.exchange.ensures.keeps.continues c.feed.ensures.keeps.continues);
+      none = faultless c.loop-open.invariant.none (faultless c.in_ok-count.ensures.causes c.in_ok-feed.ensures.causes);
+    }
 
--- a poll that failed
-pub returns-in_err-count-clause-unread : goal.returns-in_err-count-clause-unread
-returns-in_err-count-clause-unread g c start input same reads failed =
-    let fault : c.poll.result ≡ Err Read = search rules in (
-      c.loop-read.read,
-      c.loop-read-test.true,
-      c.poll.ensures.unread start input c.loop-read.read same (c.loop-read.invariant.reads start input same reads) fault,
-    )
-
+-- what waits could not be sent, or no piece be read
 pub returns-in_err-count-clause-moments : goal.returns-in_err-count-clause-moments
-returns-in_err-count-clause-moments g c start input same reads =
-    let now = c.loop-read.invariant.reads start input same reads in
-    polls_on _ _ start input c.loop-read.invariant.before (c.loop-read.read + c.min-room.result) c.args.most (omega (arith, c.loop-read.invariant.within, c.min-room.ensures, c.loop-read-test.true))
-    (c.loop-read.invariant.moments start input same reads) (c.poll.ensures.moments start input c.loop-read.read same now)
+returns-in_err-count-clause-moments g c = λ start input same reads.
+    let was = c.loop-open.invariant.polls start input same reads in
+    runs_on (up_to c.loop-open.read c.args.most input c.loop-open.invariant.within) c.loop-open.invariant.before was.moments
+    (safe_sent was.reads c.loop-open.invariant.empty _ (λ records image held left. g.K.Keeper.recovers_now c.loop-open.keeper records _ image held left)
+    (c.exchange.ensures.moments start.sent _ (expects_all was.reads c.loop-open.invariant.empty)))
 
 pub returns-in_err-count-clause-prompt : goal.returns-in_err-count-clause-prompt
-returns-in_err-count-clause-prompt g c start input same reads =
-    more_asks start input (c.loop-read.invariant.prompt start input same reads)
-    (c.poll.ensures.prompt start input c.loop-read.read same (c.loop-read.invariant.reads start input same reads))
+returns-in_err-count-clause-prompt g c = λ start input same reads.
+    let was = c.loop-open.invariant.polls start input same reads in
+    more_asks start input was.prompt (c.exchange.ensures.prompt start input c.loop-open.read was.reads.input_left was.reads.there (expects_all was.reads c.loop-open.invariant.empty))
 
-pub returns-in_err-count-clause-bytes : goal.returns-in_err-count-clause-bytes
-returns-in_err-count-clause-bytes g c =
-    takes_on c.loop-read.read c.min-room.result c.args.most _ _ _ (omega (arith, c.loop-read.invariant.within, c.min-room.ensures, c.loop-read-test.true))
-    c.loop-read.invariant.taken c.in_err-count.ensures.taken_most
+pub returns-in_err-count-clause-unread : goal.returns-in_err-count-clause-unread
+returns-in_err-count-clause-unread g c = λ start input same reads failed.
+    let now = (c.loop-open.invariant.polls start input same reads).reads in
+    let fault : c.exchange.result ≡ Err Read = search rules in (
+      c.loop-open.read,
+      omega (arith, c.exchange.ensures.asked fault, c.min-room.ensures),
+      answered_by now c.loop-open.invariant.empty _ (c.in_err-count.ensures).untaken (c.exchange.ensures.unread start.sent _ (expects_all now c.loop-open.invariant.empty) fault)
+          (λ records held. g.K.Keeper.still_held c.loop-open.keeper records _ _ held c.exchange.ensures.keeps.disk c.exchange.ensures.keeps.left),
+    )
 
 pub returns-in_err-count-clause-touches : goal.returns-in_err-count-clause-touches
-returns-in_err-count-clause-touches g c = g.K.Keeper.touches_both _ _ _ c.loop-read.invariant.touches c.poll.ensures.touches
+returns-in_err-count-clause-touches g c =
+    g.K.Keeper.touches_both _ _ _ c.loop-open.invariant.touches (g.K.Keeper.untouched _ _ c.exchange.ensures.keeps.disk c.exchange.ensures.keeps.disk_faults)
 
--- the input's end
-pub returns-then-count-eq0-clause-exact : goal.returns-then-count-eq0-clause-exact
-returns-then-count-eq0-clause-exact g c start input same reads =
-    let now = c.loop-read.invariant.reads start input same reads in
-    let zero : c.poll.result ≡ Ok 0 = search rules in
-    let at_end = c.poll.ensures.end start input c.loop-read.read same now zero in
-    last_end _ start input c.args.most c.loop-read.read _ c.in_ok-count.count _ c.loop-read-test.true at_end.0 at_end.1
-    (c.ended.ensures.rest (take (c.loop-read.read + c.in_ok-count.count) input) (c.in_ok-count.ensures.reads start input c.loop-read.read same now).serves.judges.cutter)
-    c.if-count-eq0.true
+-- a round could not be kept or answered
+pub returns-in_err-feed-clause-moments : goal.returns-in_err-feed-clause-moments
+returns-in_err-feed-clause-moments g c = λ start input same reads.
+    let was = c.loop-open.invariant.polls start input same reads in
+    let expects = expects_all was.reads c.loop-open.invariant.empty in
+    let held = g.K.Keeper.still_held c.loop-open.keeper _ _ _ was.reads.serves.held c.exchange.ensures.keeps.disk c.exchange.ensures.keeps.left in
+    let mid = serves_sent was.reads c.loop-open.invariant.empty c.exchange.new.outbox (g.H.Host.outside c.exchange.new.host) held c.in_ok-count.ensures.empty (c.in_ok-count.ensures.sent start.sent _ expects) in
+    runs_on (piece_begins was.reads c.in_ok-count.ensures.taken c.args.most (omega (arith, c.loop-open.invariant.within, c.in_ok-count.ensures.taken.within, c.min-room.ensures)))
+    (λ records image recovered. c.loop-open.invariant.before records image (g.K.Keeper.recovered_before c.loop-open.keeper records image _ _ c.exchange.ensures.keeps.left recovered))
+    (runs_on (up_to c.loop-open.read c.args.most input c.loop-open.invariant.within) c.loop-open.invariant.before was.moments
+    (safe_sent was.reads c.loop-open.invariant.empty _ (λ records image held left. g.K.Keeper.recovers_now c.loop-open.keeper records _ image held left) (c.exchange.ensures.moments start.sent _ expects)))
+    (c.feed.ensures.moments start _ same mid)
 
-pub returns-then-count-eq0-clause-moments : goal.returns-then-count-eq0-clause-moments
-returns-then-count-eq0-clause-moments g c start input same reads =
-    let now = c.loop-read.invariant.reads start input same reads in
-    polls_on _ _ start input c.loop-read.invariant.before (c.loop-read.read + c.min-room.result) c.args.most (omega (arith, c.loop-read.invariant.within, c.min-room.ensures, c.loop-read-test.true))
-    (c.loop-read.invariant.moments start input same reads) (c.poll.ensures.moments start input c.loop-read.read same now)
+pub returns-in_err-feed-clause-prompt : goal.returns-in_err-feed-clause-prompt
+returns-in_err-feed-clause-prompt g c = λ start input same reads.
+    let was = c.loop-open.invariant.polls start input same reads in
+    let expects = expects_all was.reads c.loop-open.invariant.empty in
+    more_asks start input (more_asks start input was.prompt (c.exchange.ensures.prompt start input c.loop-open.read was.reads.input_left was.reads.there expects)) (no_ask start input c.feed.ensures.keeps.asks)
 
-pub returns-then-count-eq0-clause-prompt : goal.returns-then-count-eq0-clause-prompt
-returns-then-count-eq0-clause-prompt g c start input same reads =
-    more_asks start input (c.loop-read.invariant.prompt start input same reads)
-    (c.poll.ensures.prompt start input c.loop-read.read same (c.loop-read.invariant.reads start input same reads))
+pub returns-in_err-feed-clause-bytes : goal.returns-in_err-feed-clause-bytes
+returns-in_err-feed-clause-bytes g c =
+    let n = c.in_ok-count.count in
+    takes_on c.loop-open.read n _ _ _ _ (omega (arith, c.loop-open.invariant.within, c.in_ok-count.ensures.taken.within, c.min-room.ensures)) c.loop-open.invariant.taken
+    (record { count = n; within = omega arith; left = c.feed.ensures.keeps.input ∙ c.in_ok-count.ensures.taken.left })
 
-pub returns-then-count-eq0-clause-touches : goal.returns-then-count-eq0-clause-touches
-returns-then-count-eq0-clause-touches g c = g.K.Keeper.touches_both _ _ _ c.loop-read.invariant.touches c.poll.ensures.touches
+pub returns-in_err-feed-clause-touches : goal.returns-in_err-feed-clause-touches
+returns-in_err-feed-clause-touches g c =
+    g.K.Keeper.touches_both _ _ _ c.loop-open.invariant.touches
+    (g.K.Keeper.touches_both _ _ _ (g.K.Keeper.untouched _ _ c.exchange.ensures.keeps.disk c.exchange.ensures.keeps.disk_faults) c.feed.ensures.keeps.to_disk)
 
--- what waits could not be sent
-pub returns-in_err-flush-clause-moments : goal.returns-in_err-flush-clause-moments
-returns-in_err-flush-clause-moments g c start input same reads =
-    let now = c.loop-read.invariant.reads start input same reads in
-    let expects = expects_all _ start _ _ c.loop-read.session _ now.serves c.loop-read.invariant.empty in
-    let held = held_all _ start _ _ c.loop-read.session _ now.serves c.loop-read.invariant.empty in
-    polls_on _ _ start input c.loop-read.invariant.before c.loop-read.read c.args.most c.loop-read.invariant.within (c.loop-read.invariant.moments start input same reads)
-    (widened (c.flush.ensures.moments start.sent _ expects) _
-    (safe_flush _ start (bodies_of (take c.loop-read.read input)) _ (λ image left. g.K.Keeper.recovers_now c.loop-read.keeper _ _ image held left)))
-
-pub returns-in_err-flush-clause-prompt : goal.returns-in_err-flush-clause-prompt
-returns-in_err-flush-clause-prompt g c start input same reads =
-    more_asks start input (c.loop-read.invariant.prompt start input same reads) (no_ask start input c.flush.ensures.keeps.asks)
-
-pub returns-in_err-flush-clause-touches : goal.returns-in_err-flush-clause-touches
-returns-in_err-flush-clause-touches g c =
-    g.K.Keeper.touches_both _ _ _ c.loop-read.invariant.touches (g.K.Keeper.untouched _ _ c.flush.ensures.keeps.disk c.flush.ensures.keeps.disk_faults)
-
--- the most bytes of a session
+-- the session was closed
 pub returns-clause-exact : goal.returns-clause-exact
-returns-clause-exact g c start input same reads =
-    let now = c.loop-read.invariant.reads start input same reads in
-    let expects = expects_all _ start _ _ c.loop-read.session _ now.serves c.loop-read.invariant.empty in
-    let held = held_all _ start _ _ c.loop-read.session _ now.serves c.loop-read.invariant.empty in
-    full_end _ start input c.args.most c.loop-read.read _ c.loop-read.invariant.within c.loop-read-test.false now.there
-    (answered_flush _ _ start input c.loop-read.read c.loop-read.session _ _ now c.flush.ensures.keeps.input (c.in_ok-flush.ensures.sent start.sent _ expects)
-    (g.K.Keeper.still_held c.loop-read.keeper _ _ _ held c.flush.ensures.keeps.disk c.flush.ensures.keeps.left))
+returns-clause-exact g c = λ start input same reads.
+    let was = c.loop-open.invariant.polls start input same reads in
+    let at_end = was.end c.loop-open-test.false in
+    ends c.args.most _ c.loop-open.invariant.within at_end.1 at_end.0 (c.ending.ensures.status (take c.loop-open.read input) was.reads.serves.judges.cutter)
 
 pub returns-clause-moments : goal.returns-clause-moments
-returns-clause-moments g c start input same reads =
-    let now = c.loop-read.invariant.reads start input same reads in
-    let expects = expects_all _ start _ _ c.loop-read.session _ now.serves c.loop-read.invariant.empty in
-    let held = held_all _ start _ _ c.loop-read.session _ now.serves c.loop-read.invariant.empty in
-    polls_on _ _ start input c.loop-read.invariant.before c.loop-read.read c.args.most c.loop-read.invariant.within (c.loop-read.invariant.moments start input same reads)
-    (widened (c.flush.ensures.moments start.sent _ expects) _
-    (safe_flush _ start (bodies_of (take c.loop-read.read input)) _ (λ image left. g.K.Keeper.recovers_now c.loop-read.keeper _ _ image held left)))
+returns-clause-moments g c = λ start input same reads. (c.loop-open.invariant.polls start input same reads).moments
 
 pub returns-clause-prompt : goal.returns-clause-prompt
-returns-clause-prompt g c start input same reads =
-    more_asks start input (c.loop-read.invariant.prompt start input same reads) (no_ask start input c.flush.ensures.keeps.asks)
-
-pub returns-clause-touches : goal.returns-clause-touches
-returns-clause-touches g c =
-    g.K.Keeper.touches_both _ _ _ c.loop-read.invariant.touches (g.K.Keeper.untouched _ _ c.flush.ensures.keeps.disk c.flush.ensures.keeps.disk_faults)
+returns-clause-prompt g c = λ start input same reads. (c.loop-open.invariant.polls start input same reads).prompt

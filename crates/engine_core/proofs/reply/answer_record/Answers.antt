@@ -3,16 +3,14 @@ use Rattle.wire_out.specs.declared.message.Frame.TheVariants.{Ack}
 use Rattle.rulebook.specs.Sent.{spelled, numbered}
 use Rattle.rulebook.specs.Book.{messages_of, newest_messages}
 use Rattle.engine_core.specs.Sessions.{with_acknowledgements}
-use Rattle.engine_core.proofs.Pending.{whenever_ok, ok_expects}
+use Rattle.engine_core.proofs.Pending.{whenever_ok, on_ok, expects_same}
 use Rattle.engine_core.proofs.Sending.{sends_longer, sends_on}
-use Rattle.engine_core.proofs.Messages.{with_acknowledgement}
+use Rattle.engine_core.proofs.Messages.{acknowledged}
 use Rattle.engine_core.proofs.reply.answer_record.Goals as goal
 
 pub returns-in_err-publish-clause-moments : goal.returns-in_err-publish-clause-moments
 returns-in_err-publish-clause-moments g c = λ capacity held evaluated begin text s passed expects.
-    let messages = newest_messages (c.args.x.now ∷ evaluated) in
-    sends_longer _ (spelled (with_acknowledgements c.args.acknowledges (Ack (length evaluated + 1) ∷ []))) _
-    (with_acknowledgement c.args.acknowledges text (length (messages_of evaluated)) (length evaluated + 1) messages)
+    sends_longer _ (spelled (with_acknowledgements c.args.acknowledges (Ack (length evaluated + 1) ∷ []))) _ (acknowledged c.args.acknowledges text evaluated c.args.x.now)
     (c.publish.ensures.moments capacity held evaluated begin text s passed expects)
 
 pub returns-clause-represents : goal.returns-clause-represents
@@ -21,16 +19,14 @@ returns-clause-represents g c = λ capacity held evaluated s passed. whenever_ok
 pub returns-clause-pending : goal.returns-clause-pending
 returns-clause-pending g c = λ capacity held evaluated begin text s passed expects.
     let number : c.publish.new.engine.evaluated ≡ length evaluated + 1 = omega (arith, c.in_ok-publish.ensures.evaluated, s.evaluated_is) in
-    let messages = newest_messages (c.args.x.now ∷ evaluated) in
-    ok_expects c.acknowledge.result begin _ _ _ _
-    (ap (λ (k : ℕ). (text ++ spelled (numbered (length (messages_of evaluated)) messages)) ++ spelled (with_acknowledgements c.args.acknowledges (Ack k ∷ []))) number
-    ∙ with_acknowledgement c.args.acknowledges text (length (messages_of evaluated)) (length evaluated + 1) messages)
-    (c.acknowledge.ensures.pending begin _ (c.in_ok-publish.ensures.pending capacity held evaluated begin text s passed expects))
+    let messages = spelled (numbered (length (messages_of evaluated)) (newest_messages (c.args.x.now ∷ evaluated))) in
+    on_ok c.acknowledge.result (c.acknowledge.ensures.pending begin _ (c.in_ok-publish.ensures.pending capacity held evaluated begin text s passed expects))
+    (expects_same _ _
+    (ap (λ (k : ℕ). (text ++ messages) ++ spelled (with_acknowledgements c.args.acknowledges (Ack k ∷ []))) number ∙ acknowledged c.args.acknowledges text evaluated c.args.x.now))
 
 pub returns-clause-moments : goal.returns-clause-moments
 returns-clause-moments g c = λ capacity held evaluated begin text s passed expects.
-    let messages = newest_messages (c.args.x.now ∷ evaluated) in
-    let is = with_acknowledgement c.args.acknowledges text (length (messages_of evaluated)) (length evaluated + 1) messages in
     let last = spelled (with_acknowledgements c.args.acknowledges (Ack (length evaluated + 1) ∷ [])) in
+    let is = acknowledged c.args.acknowledges text evaluated c.args.x.now in
     sends_on (sends_longer _ last _ is (c.publish.ensures.moments capacity held evaluated begin text s passed expects)) _ last is
     (c.acknowledge.ensures.moments begin _ (c.in_ok-publish.ensures.pending capacity held evaluated begin text s passed expects))

@@ -1,17 +1,20 @@
-use Rattle.std.proofs.Common.{refl, sym, subst, arith}
-use Rattle.std.proofs.lemmas.List.{append-nil}
+use Rattle.std.proofs.Common.{◌+◌, ◌++◌, List, drop, refl, sym, ap, ◌∙◌, append_assoc, arith}
+use Rattle.std.proofs.lemmas.List.{append-nil, drop_all}
 use Rattle.host_core.proofs.Chains.{onward, sends_nothing}
 use Rattle.host_core.proofs.Causes.{no_fault, faultless}
+use Rattle.wire_out.specs.declared.message.Frame.TheVariants.{Numbered}
+use Rattle.wire_out.specs.declared.message.Stamped.{Stamped}
+use Rattle.wire_out.specs.Spelling.{spelling}
 use Rattle.rulebook.specs.Sent.{spelled, numbered}
-use Rattle.engine_core.specs.Pending.{Expects}
-use Rattle.engine_core.proofs.Sending.{sends_none, sends_longer}
-use Rattle.engine_core.proofs.Messages.{expects_more, sends_next}
+use Rattle.engine_core.proofs.Pending.{expects_same}
+use Rattle.engine_core.proofs.Sending.{sends_none, sends_longer, sends_on}
+use Rattle.engine_core.proofs.Answering.{drop_one}
 use Rattle.engine_core.proofs.reply.append_messages.Goals as goal
 
 pub loop-message-init : goal.loop-message-init
 loop-message-init g c = record {
   number = omega arith;
-  pending = λ begin text expects. subst (λ t. Expects begin (g.H.Host.outside c.args.host.now).sent c.args.outbox.now t) (sym (append-nil text)) expects;
+  pending = λ begin text expects. (text, expects, refl);
   moments = λ begin text expects.
       sends_longer text (spelled (numbered c.args.before c.args.messages.now)) _ refl
       (sends_none (g.H.Host.outside c.args.host.now) (g.met.H.Host.sent_now c.args.host.now) _ text expects);
@@ -20,20 +23,33 @@ loop-message-init g c = record {
 }
 
 pub loop-message-preserved : goal.loop-message-preserved
-loop-message-preserved g c = record {
-  number = omega (arith, c.loop-message.invariant.number);
-  pending = λ begin text expects.
-      expects_more begin _ _ text c.args.before c.loop-message.message-index c.loop-message.number c.args.messages.now c.message-item.result
-      c.loop-message-test.true c.message-item.is c.loop-message.invariant.number
-      (c.in_ok-append.ensures.pending begin _ (c.loop-message.invariant.pending begin text expects));
-  moments = λ begin text expects.
-      sends_next text c.args.before c.loop-message.message-index c.args.messages.now (c.loop-message.invariant.moments begin text expects)
-      (c.append.ensures.moments begin _ (c.loop-message.invariant.pending begin text expects));
-  keeps = onward c.loop-message.invariant.keeps c.append.ensures.keeps;
-  none = faultless c.loop-message.invariant.none c.in_ok-append.ensures.causes;
-}
+loop-message-preserved g c =
+    let number = c.loop-message.number in
+    let later = drop (c.loop-message.message-index + 1) c.args.messages.now in
+    let front = drop_one c.args.messages.now c.loop-message.message-index c.message-item.result c.loop-message-test.true c.message-item.is in
+    let frame = spelling (Numbered (number + 1) c.message-item.result) in
+    record {
+      number = omega (arith, c.loop-message.invariant.number);
+      pending = λ begin text expects.
+          let now = c.loop-message.invariant.pending begin text expects in (
+            now.0 ++ frame,
+            c.in_ok-append.ensures.pending begin now.0 now.1,
+            append_assoc now.0 frame (spelled (numbered (number + 1) later)) ∙ ap (λ (ms : List Stamped). now.0 ++ spelled (numbered number ms)) (sym front) ∙ now.2,
+          );
+      moments = λ begin text expects.
+          let now = c.loop-message.invariant.pending begin text expects in
+          sends_on (c.loop-message.invariant.moments begin text expects) now.0 _ now.2 (c.append.ensures.moments begin now.0 now.1);
+      keeps = onward c.loop-message.invariant.keeps c.append.ensures.keeps;
+      none = faultless c.loop-message.invariant.none c.in_ok-append.ensures.causes;
+    }
 
 pub returns-in_err-append-clause-moments : goal.returns-in_err-append-clause-moments
 returns-in_err-append-clause-moments g c = λ begin text expects.
-    sends_next text c.args.before c.loop-message.message-index c.args.messages.now (c.loop-message.invariant.moments begin text expects)
-    (c.append.ensures.moments begin _ (c.loop-message.invariant.pending begin text expects))
+    let now = c.loop-message.invariant.pending begin text expects in
+    sends_on (c.loop-message.invariant.moments begin text expects) now.0 _ now.2 (c.append.ensures.moments begin now.0 now.1)
+
+pub returns-clause-pending : goal.returns-clause-pending
+returns-clause-pending g c = λ begin text expects.
+    let now = c.loop-message.invariant.pending begin text expects in
+    let none = ap (λ (ms : List Stamped). now.0 ++ spelled (numbered c.loop-message.number ms)) (drop_all c.loop-message.message-index c.args.messages.now c.loop-message-test.false) in
+    expects_same _ _ (sym (append-nil now.0) ∙ sym none ∙ now.2) now.1

@@ -1,4 +1,4 @@
-use Rattle.std.proofs.Common.{◌≡◌, ◌+◌, ◌++◌, ℕ, List, take}
+use Rattle.std.proofs.Common.{◌≡◌, ◌+◌, ◌++◌, ℕ, List, drop}
 use Rattle.std.specs.Prelude.{Option}
 use Rattle.host_core.specs.Outside.{Elapses, NoFault}
 use Rattle.host_core.specs.Frames.{OnlySends}
@@ -10,7 +10,8 @@ abbrev pub invariant-loop-message : goal.invariant-loop-message
 invariant-loop-message g l = record {
   number : l.number ≡ l.before + l.message-index;
   pending : (begin : Option (List ℕ)) (text : List ℕ) → Expects begin (g.H.Host.outside l.initial.host).sent l.initial.outbox text
-      → Expects begin (g.H.Host.outside l.host).sent l.outbox (text ++ spelled (numbered l.before (take l.message-index l.messages)));
+      → (so_far : List ℕ) × Expects begin (g.H.Host.outside l.host).sent l.outbox so_far
+      × (so_far ++ spelled (numbered l.number (drop l.message-index l.messages)) ≡ text ++ spelled (numbered l.before l.messages));
   moments : (begin : Option (List ℕ)) (text : List ℕ) → Expects begin (g.H.Host.outside l.initial.host).sent l.initial.outbox text
       → Elapses (g.H.Host.outside l.initial.host) (g.H.Host.outside l.host) (SendsPrefix begin (text ++ spelled (numbered l.before l.messages)) (g.H.Host.outside l.initial.host));
   keeps : OnlySends (g.H.Host.outside l.initial.host) (g.H.Host.outside l.host);

@@ -1,17 +1,20 @@
 use Rattle.std.proofs.Common.{[], ◌∷◌, refl, ◌∙◌}
 use Rattle.engine_core.proofs.Pending.{on_ok, expects_same}
-use Rattle.engine_core.proofs.Sending.{sends_same}
+use Rattle.engine_core.proofs.Sending.{sends_none, sends_same}
 use Rattle.live_core.specs.InternalRecovery.{again}
-use Rattle.live_core.proofs.Again.{again_one, part_waits}
+use Rattle.rulebook.proofs.Sending.{again_one}
+use Rattle.live_core.proofs.Again.{sends_part}
 use Rattle.live_core.proofs.recovery.resume_record.Goals as goal
 
 pub returns-in_err-admit-clause-moments : goal.returns-in_err-admit-clause-moments
 returns-in_err-admit-clause-moments g c = λ capacity held begin resumes passed.
-    part_waits c.args.from (record { more = c.args.x.now ∷ []; whole = refl }) (g.H.Host.outside c.args.host.now) (g.met.H.Host.sent_now c.args.host.now) _ resumes.pending_is
+    sends_part c.args.from (record { more = c.args.x.now ∷ []; whole = refl })
+    (sends_none (g.H.Host.outside c.args.host.now) (g.met.H.Host.sent_now c.args.host.now) _ (again c.args.from held) resumes.pending_is)
 
 pub returns-in_err-evaluate-clause-moments : goal.returns-in_err-evaluate-clause-moments
 returns-in_err-evaluate-clause-moments g c = λ capacity held begin resumes passed.
-    part_waits c.args.from (record { more = c.args.x.now ∷ []; whole = refl }) (g.H.Host.outside c.args.host.now) (g.met.H.Host.sent_now c.args.host.now) _ resumes.pending_is
+    sends_part c.args.from (record { more = c.args.x.now ∷ []; whole = refl })
+    (sends_none (g.H.Host.outside c.args.host.now) (g.met.H.Host.sent_now c.args.host.now) _ (again c.args.from held) resumes.pending_is)
 
 pub returns-clause-resumes : goal.returns-clause-resumes
 returns-clause-resumes g c = λ capacity held begin resumes passed.

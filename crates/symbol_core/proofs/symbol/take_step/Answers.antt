@@ -1,6 +1,7 @@
 use Rattle.std.proofs.Common.{refl, arith}
 use Rattle.symbol_core.proofs.Live.{live-taken}
 use Rattle.symbol_core.proofs.Steps.{step-evaluates}
+use Rattle.symbol_core.proofs.Unmoved.{rested-finished}
 use Rattle.symbol_core.proofs.symbol.take_step.Goals as goal
 
 pub returns : goal.returns
@@ -11,4 +12,5 @@ returns c =
       few = omega arith;
       capacity = omega arith;
       recent = λ now. c.keep_deals.ensures.recent (live-taken c.args.step.now c.args.k.now c.take.new.self c.take.ensures now);
+      rested = rested-finished c.obey.new.self c.finish.new.self c.args.step.now c.finish.ensures;
     }

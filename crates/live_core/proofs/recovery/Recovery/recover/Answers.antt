@@ -1,55 +1,95 @@
-use Rattle.live_core.proofs.Again.{part_on}
-use Rattle.live_core.proofs.Recovering.{part_read, with_sends, passed_on, told_as, fault_is, hindered_by, hindered_fault}
-use Rattle.live_core.proofs.Restoring.{greeted, reading_still}
-use Rattle.host_core.proofs.Causes.{faultless}
+use Rattle.std.proofs.Common.{◌≡◌, ◌≢◌, Bool, true, false, ap, ◌∙◌}
+use Rattle.std.specs.Prelude.{Result, Ok}
+use Rattle.host_core.proofs.Causes.{no_fault, faultless}
+use Rattle.host_core.proofs.Chains.{reads_nothing, reads_faultless}
+use Rattle.live_core.proofs.Again.{sends_then}
+use Rattle.live_core.proofs.Recovering.{sends_read, greeted, reads_again, has_next, has_end, bad_form_there, only_read, only_sent, recovers_on, answered_on, fault_hinders, hinders_on, scan_hinders, no_error}
 use Rattle.live_core.proofs.recovery.Recovery.recover.Goals as goal
 
-pub returns-in_err-read_all-clause-damaged : goal.returns-in_err-read_all-clause-damaged
-returns-in_err-read_all-clause-damaged g c = λ at is. c.read_all.ensures.damaged at (passed_on c.in_err-read_all.was c.from_residual.ensures.1 is)
+not_more : {E : Type 0} {result : Result Bool E} {more : Bool} → result ≡ Ok more → more ≡ false → result ≢ Ok true
+not_more was none is = cc
 
-pub returns-in_err-read_all-clause-moments : goal.returns-in_err-read_all-clause-moments
-returns-in_err-read_all-clause-moments g c = c.read_all.ensures.moments
+pub batches-init : goal.batches-init
+batches-init g c = record {
+  reading = c.requires;
+  recovers = λ begin disk first. first;
+  moments = λ begin disk first. reads_again c.args.from first (reads_nothing _ (g.met.H.Host.sent_now c.args.host.now));
+  keeps = only_read (reads_nothing _ (g.met.H.Host.sent_now c.args.host.now));
+  none = no_fault _;
+}
 
-pub returns-in_err-read_all-clause-begun : goal.returns-in_err-read_all-clause-begun
-returns-in_err-read_all-clause-begun g c = λ is. c.read_all.ensures.begun (passed_on c.in_err-read_all.was c.from_residual.ensures.1 is)
+pub returns-in_err-more-clause-moments : goal.returns-in_err-more-clause-moments
+returns-in_err-more-clause-moments g c = λ begin disk first all covers.
+    sends_then (c.batches.invariant.moments begin disk first all covers) (reads_again c.args.from (c.batches.invariant.recovers begin disk first) c.next.ensures.keeps all covers)
 
-pub returns-in_err-read_all-clause-hindered : goal.returns-in_err-read_all-clause-hindered
-returns-in_err-read_all-clause-hindered g c = hindered_by _ _ c.from_residual.result _ c.from_residual.ensures.1 c.in_err-read_all.ensures.hindered
+pub returns-in_err-more-clause-hindered : goal.returns-in_err-more-clause-hindered
+returns-in_err-more-clause-hindered g c =
+    answered_on _ c.from_residual.result c.from_residual.ensures.1
+    (hinders_on _ _ _ _ _ _ _ _ c.batches.invariant.none (λ at there. there) (λ missing. missing)
+    (scan_hinders _ _ c.next.result _ c.in_err-more.was c.next.ensures.keeps c.next.ensures.faultless c.next.ensures.cause c.next.ensures.no_journal
+    (λ at is begin disk first.
+    bad_form_there c.args.from (c.batches.invariant.recovers begin disk first) c.next.ensures.keeps at (c.next.ensures.at_damage at is) (c.next.ensures.damaged at is))))
 
-pub returns-in_err-greet-clause-damaged : goal.returns-in_err-greet-clause-damaged
-returns-in_err-greet-clause-damaged g c = λ at is. absurd ((fault_is _).1 at (told_as c.from_residual-in_err-greet.ensures.1 is))
-
+-- the gate is closed
 pub returns-in_err-greet-clause-moments : goal.returns-in_err-greet-clause-moments
-returns-in_err-greet-clause-moments g c = λ begin disk all recovers covers.
-    let so_far = c.in_ok-read_all.ensures.recovers begin disk recovers in
-    part_on c.args.from (part_read so_far all covers) (c.read_all.ensures.moments begin disk all recovers covers) (c.greet.ensures.moments begin _ so_far.resumes.pending_is)
-
-pub returns-in_err-greet-clause-begun : goal.returns-in_err-greet-clause-begun
-returns-in_err-greet-clause-begun g c = λ is. (fault_is _).0 (told_as c.from_residual-in_err-greet.ensures.1 is)
-
-pub returns-in_err-greet-clause-keeps : goal.returns-in_err-greet-clause-keeps
-returns-in_err-greet-clause-keeps g c = with_sends c.read_all.ensures.keeps c.greet.ensures.keeps
+returns-in_err-greet-clause-moments g c = λ begin disk first all covers.
+    let so_far = c.batches.invariant.recovers begin disk first in
+    let end = has_end c.args.from so_far c.next.ensures.keeps c.next.new.self c.next.ensures.capacity (c.next.ensures.same (not_more c.in_ok-more.was c.if-not-more.true)) in
+    sends_then (sends_then (c.batches.invariant.moments begin disk first all covers) (reads_again c.args.from so_far c.next.ensures.keeps all covers))
+    (sends_read c.args.from end (c.greet.ensures.moments begin _ end.resumes.pending_is) all covers)
 
 pub returns-in_err-greet-clause-hindered : goal.returns-in_err-greet-clause-hindered
 returns-in_err-greet-clause-hindered g c =
-    hindered_fault _ c.from_residual-in_err-greet.result c.in_err-greet.was c.greet.ensures.unread c.from_residual-in_err-greet.ensures.1 c.in_ok-read_all.ensures.hindered c.in_err-greet.ensures.causes
+    answered_on _ c.from_residual-in_err-greet.result c.from_residual-in_err-greet.ensures.1
+    (fault_hinders _ _ _ c.in_err-greet.was c.greet.ensures.unread
+    (faultless c.batches.invariant.none (reads_faultless c.next.ensures.keeps (c.next.ensures.faultless (no_error c.in_ok-more.was)))) c.in_err-greet.ensures.causes)
 
-pub returns-clause-greeted : goal.returns-clause-greeted
-returns-clause-greeted g c = λ begin disk recovers.
-    let so_far = c.in_ok-read_all.ensures.recovers begin disk recovers in
-    greeted so_far c.greet.new.outbox (g.H.Host.outside c.greet.new.host) c.greet.ensures.keeps
-    (c.in_ok-greet.ensures.pending c.read_all.new.self.scan.capacity _ begin _ so_far.resumes.engine_is so_far.resumes.pending_is)
+pub returns-then-not-more-clause-moments : goal.returns-then-not-more-clause-moments
+returns-then-not-more-clause-moments g c = λ begin disk first all covers.
+    let so_far = c.batches.invariant.recovers begin disk first in
+    let end = has_end c.args.from so_far c.next.ensures.keeps c.next.new.self c.next.ensures.capacity (c.next.ensures.same (not_more c.in_ok-more.was c.if-not-more.true)) in
+    sends_then (sends_then (c.batches.invariant.moments begin disk first all covers) (reads_again c.args.from so_far c.next.ensures.keeps all covers))
+    (sends_read c.args.from end (c.greet.ensures.moments begin _ end.resumes.pending_is) all covers)
 
-pub returns-clause-moments : goal.returns-clause-moments
-returns-clause-moments g c = λ begin disk all recovers covers.
-    let so_far = c.in_ok-read_all.ensures.recovers begin disk recovers in
-    part_on c.args.from (part_read so_far all covers) (c.read_all.ensures.moments begin disk all recovers covers) (c.greet.ensures.moments begin _ so_far.resumes.pending_is)
+pub returns-then-not-more-clause-recovers : goal.returns-then-not-more-clause-recovers
+returns-then-not-more-clause-recovers g c = λ begin disk first.
+    let so_far = c.batches.invariant.recovers begin disk first in
+    let end = has_end c.args.from so_far c.next.ensures.keeps c.next.new.self c.next.ensures.capacity (c.next.ensures.same (not_more c.in_ok-more.was c.if-not-more.true)) in
+    greeted c.args.from end c.greet.ensures.keeps c.greet.new.outbox (c.in_ok-greet.ensures.pending c.next.new.self.capacity _ begin _ end.resumes.engine_is end.resumes.pending_is)
 
-pub returns-clause-reading : goal.returns-clause-reading
-returns-clause-reading g c = reading_still c.read_all.new.self c.greet.new.outbox _ _ c.greet.ensures.keeps.disk c.in_ok-read_all.ensures.reading
+-- there is a batch
+pub returns-in_err-resume-clause-moments : goal.returns-in_err-resume-clause-moments
+returns-in_err-resume-clause-moments g c = λ begin disk first all covers.
+    let so_far = c.batches.invariant.recovers begin disk first in
+    let more = c.in_ok-more.was ∙ ap (λ b. Ok b) c.if-not-more.false in
+    let next = has_next c.args.from so_far c.next.ensures.keeps c.next.new.self c.list.result.now c.list.ensures.records (c.next.ensures.at_batch more) c.next.ensures.capacity (c.next.ensures.batch more) in
+    sends_then (sends_then (c.batches.invariant.moments begin disk first all covers) (reads_again c.args.from so_far c.next.ensures.keeps all covers))
+    (c.resume.ensures.moments begin disk next all covers)
 
-pub returns-clause-keeps : goal.returns-clause-keeps
-returns-clause-keeps g c = with_sends c.read_all.ensures.keeps c.greet.ensures.keeps
+pub returns-in_err-resume-clause-hindered : goal.returns-in_err-resume-clause-hindered
+returns-in_err-resume-clause-hindered g c =
+    answered_on _ c.from_residual-in_err-resume.result c.from_residual-in_err-resume.ensures.1
+    (hinders_on _ _ _ _ _ _ _ _ (faultless c.batches.invariant.none (reads_faultless c.next.ensures.keeps (c.next.ensures.faultless (no_error c.in_ok-more.was))))
+    (λ at there begin disk first.
+    let so_far = c.batches.invariant.recovers begin disk first in
+    let more = c.in_ok-more.was ∙ ap (λ b. Ok b) c.if-not-more.false in
+    there begin disk (has_next c.args.from so_far c.next.ensures.keeps c.next.new.self c.list.result.now c.list.ensures.records (c.next.ensures.at_batch more) c.next.ensures.capacity (c.next.ensures.batch more)))
+    (λ missing. missing) c.in_err-resume.ensures.hindered)
 
-pub returns-clause-hindered : goal.returns-clause-hindered
-returns-clause-hindered g c = faultless c.in_ok-read_all.ensures.hindered c.in_ok-greet.ensures.causes
+pub batches-preserved : goal.batches-preserved
+batches-preserved g c =
+    let more = c.in_ok-more.was ∙ ap (λ b. Ok b) c.if-not-more.false in
+    record {
+      reading = c.in_ok-resume.ensures.reading;
+      recovers = λ begin disk first.
+          let so_far = c.batches.invariant.recovers begin disk first in
+          c.in_ok-resume.ensures.recovers begin disk
+          (has_next c.args.from so_far c.next.ensures.keeps c.next.new.self c.list.result.now c.list.ensures.records (c.next.ensures.at_batch more) c.next.ensures.capacity (c.next.ensures.batch more));
+      moments = λ begin disk first all covers.
+          let so_far = c.batches.invariant.recovers begin disk first in
+          let next = has_next c.args.from so_far c.next.ensures.keeps c.next.new.self c.list.result.now c.list.ensures.records (c.next.ensures.at_batch more) c.next.ensures.capacity (c.next.ensures.batch more) in
+          sends_then (sends_then (c.batches.invariant.moments begin disk first all covers) (reads_again c.args.from so_far c.next.ensures.keeps all covers))
+          (c.resume.ensures.moments begin disk next all covers);
+      keeps = recovers_on (recovers_on c.batches.invariant.keeps (only_read c.next.ensures.keeps)) (only_sent c.resume.ensures.keeps);
+      none = faultless (faultless c.batches.invariant.none (reads_faultless c.next.ensures.keeps (c.next.ensures.faultless (no_error c.in_ok-more.was)))) c.in_ok-resume.ensures.none;
+    }

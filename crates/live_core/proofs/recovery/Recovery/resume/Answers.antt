@@ -1,34 +1,66 @@
-use Rattle.std.proofs.Common.{◌∙◌}
-use Rattle.journal_core.specs.Layout.{records_of}
-use Rattle.live_core.proofs.Recovering.{covers_batch, resumed, stops_at_record, same_place, told, told_as, fault_is}
+use Rattle.std.proofs.Common.{◌≡◌, ◌≢◌, ℕ, refl, sym, subst, ◌∙◌, arith, rules}
+use Rattle.std.specs.Prelude.{None}
+use Rattle.host_core.proofs.Chains.{sends_nothing, onward}
+use Rattle.host_core.proofs.Causes.{no_fault, faultless}
+use Rattle.live_core.specs.InternalRecovery.{HasDamage}
+use Rattle.live_core.proofs.Again.{sends_then}
+use Rattle.live_core.proofs.Recovering.{waits_there, sends_next, resumed_next, bad_there, all_resumed, answered_on, fault_hinders}
 use Rattle.live_core.proofs.recovery.Recovery.resume.Goals as goal
 
-pub returns-in_err-whole-clause-moments : goal.returns-in_err-whole-clause-moments
-returns-in_err-whole-clause-moments g c = λ begin disk all next covers.
-    c.resume_batch.ensures.moments c.args.self.now.scan.capacity (records_of next.batches) all begin next.resumes
-    (covers_batch next c.list.result.now c.list.ensures.records all covers)
+pub loop-x-init : goal.loop-x-init
+loop-x-init g c = record {
+  small = c.requires.small;
+  count = omega arith;
+  capacity = refl;
+  scan = refl;
+  resuming = λ begin disk first. first;
+  moments = λ begin disk first. waits_there first (g.met.H.Host.sent_now c.args.host.now);
+  keeps = sends_nothing _;
+  none = no_fault _;
+}
 
-pub returns-then-not-whole-clause-moments : goal.returns-then-not-whole-clause-moments
-returns-then-not-whole-clause-moments g c = λ begin disk all next covers.
-    c.resume_batch.ensures.moments c.args.self.now.scan.capacity (records_of next.batches) all begin next.resumes
-    (covers_batch next c.list.result.now c.list.ensures.records all covers)
+pub loop-x-preserved : goal.loop-x-preserved
+loop-x-preserved g c =
+    let found : c.verdict.result ≡ None = search rules in
+    record {
+      small = c.in_ok-resume_record.ensures.small;
+      count = omega (arith, c.in_ok-resume_record.ensures.count, c.loop-x.invariant.count);
+      capacity = c.resume_record.ensures.capacity ∙ c.loop-x.invariant.capacity;
+      scan = c.loop-x.invariant.scan;
+      resuming = λ begin disk first.
+          let s = c.loop-x.invariant.resuming begin disk first in
+          resumed_next s c.x-item.result c.loop-x-test.true c.x-item.is c.verdict.result c.verdict.ensures.exact found c.resume_record.new.engine c.resume_record.new.outbox
+          c.resume_record.ensures.keeps (c.in_ok-resume_record.ensures.resumes c.loop-x.self.scan.capacity _ begin s.resumes);
+      moments = λ begin disk first all covers.
+          let s = c.loop-x.invariant.resuming begin disk first in
+          sends_then (c.loop-x.invariant.moments begin disk first all covers)
+          (sends_next s c.x-item.result c.loop-x-test.true c.x-item.is c.verdict.result c.verdict.ensures.exact found
+          (c.resume_record.ensures.moments c.loop-x.self.scan.capacity _ begin s.resumes) all covers);
+      keeps = onward c.loop-x.invariant.keeps c.resume_record.ensures.keeps;
+      none = faultless c.loop-x.invariant.none c.in_ok-resume_record.ensures.causes;
+    }
 
-pub returns-clause-moments : goal.returns-clause-moments
-returns-clause-moments g c = λ begin disk all next covers.
-    c.resume_batch.ensures.moments c.args.self.now.scan.capacity (records_of next.batches) all begin next.resumes
-    (covers_batch next c.list.result.now c.list.ensures.records all covers)
+pub returns-in_err-resume_record-clause-moments : goal.returns-in_err-resume_record-clause-moments
+returns-in_err-resume_record-clause-moments g c = λ begin disk first all covers.
+    let found : c.verdict.result ≡ None = search rules in
+    let s = c.loop-x.invariant.resuming begin disk first in
+    sends_then (c.loop-x.invariant.moments begin disk first all covers)
+    (sends_next s c.x-item.result c.loop-x-test.true c.x-item.is c.verdict.result c.verdict.ensures.exact found
+    (c.resume_record.ensures.moments c.loop-x.self.scan.capacity _ begin s.resumes) all covers)
 
-pub returns-then-not-whole-clause-damaged : goal.returns-then-not-whole-clause-damaged
-returns-then-not-whole-clause-damaged g c = λ at is begin disk next.
-    stops_at_record next c.list.result.now c.list.ensures.records c.resume_batch.new.engine c.resume_batch.new.outbox (g.H.Host.outside c.resume_batch.new.host)
-    at (same_place is ∙ c.at.ensures)
-    (c.resume_batch.ensures.refused (told c.in_ok-whole.was c.if-not-whole.true) c.args.self.now.scan.capacity (records_of next.batches) begin next.resumes)
+pub returns-in_err-resume_record-clause-hindered : goal.returns-in_err-resume_record-clause-hindered
+returns-in_err-resume_record-clause-hindered g c =
+    answered_on _ c.from_residual.result c.from_residual.ensures.1
+    (fault_hinders _ _ _ c.in_err-resume_record.was c.resume_record.ensures.unread c.loop-x.invariant.none c.in_err-resume_record.ensures.causes)
+
+pub returns-then-is_some-clause-hindered : goal.returns-then-is_some-clause-hindered
+returns-then-is_some-clause-hindered g c = (
+  c.loop-x.invariant.none,
+  λ begin disk first.
+      let some : c.verdict.result ≢ None = search rules in
+      subst (λ (at : ℕ). HasDamage at disk) (sym c.at.ensures)
+      (bad_there (c.loop-x.invariant.resuming begin disk first) c.x-item.result c.loop-x-test.true c.x-item.is c.verdict.result c.verdict.ensures.exact some),
+)
 
 pub returns-clause-recovers : goal.returns-clause-recovers
-returns-clause-recovers g c = λ begin disk next.
-    resumed next c.list.result.now c.list.ensures.records c.resume_batch.new.engine c.resume_batch.new.outbox (g.H.Host.outside c.resume_batch.new.host)
-    c.resume_batch.ensures.keeps
-    (c.resume_batch.ensures.resumes (told c.in_ok-whole.was c.if-not-whole.false) c.args.self.now.scan.capacity (records_of next.batches) begin next.resumes)
-
-pub returns-in_err-whole-clause-begun : goal.returns-in_err-whole-clause-begun
-returns-in_err-whole-clause-begun g c = λ is. (fault_is _).0 (told_as c.from_residual.ensures.1 is)
+returns-clause-recovers g c = λ begin disk first. all_resumed (c.loop-x.invariant.resuming begin disk first) c.loop-x-test.false

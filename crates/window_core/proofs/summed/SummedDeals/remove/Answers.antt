@@ -1,8 +1,24 @@
-use Rattle.window_core.specs.Deals.{stays}
-use Rattle.window_core.proofs.Sums.{summed_some}
+use Rattle.std.proofs.Common.{List, filter, sym, subst, ap, ◌∙◌}
+use Rattle.window_core.specs.declared.window.Deal.{Deal}
+use Rattle.window_core.specs.Deals.{is_numbered}
+use Rattle.window_core.specs.Summed.{SummedState}
+use Rattle.window_core.specs.Tallies.{Tallies}
+use Rattle.window_core.proofs.Sums.{none_numbered, numbered_most, summed_removed}
 use Rattle.window_core.proofs.summed.SummedDeals.remove.Goals as goal
+
+pub returns-then-removed-eq0-clause-deals : goal.returns-then-removed-eq0-clause-deals
+returns-then-removed-eq0-clause-deals c =
+    sym (none_numbered c.args.number c.args.self.now.deals (sym c.tally_number-removed.ensures.tallies.count_is ∙ c.if-removed-eq0.true))
+
+pub overflow_sub-self : goal.overflow_sub-self
+overflow_sub-self c =
+    let removed = c.tally_number-removed.result in
+    let gone = subst (λ (deals : List Deal). Tallies removed.sum removed.count (filter (is_numbered c.args.number) deals)) (sym (ap (λ (held : SummedState). held.deals) c.self.view_is)) c.tally_number-removed.ensures.tallies in
+    numbered_most c.args.number removed.sum removed.count c.self.inside.newest c.self.inside.sum c.self.inside.is_ordered c.self.inside.items.items gone c.self.invariant
 
 pub invariant_of-self : goal.invariant_of-self
 invariant_of-self c =
-    summed_some c.self.inside.sum c.total_of-left.result c.self.inside.newest c.self.inside.is_ordered (stays c.args.number) c.self.inside.items.items c.remove.new.deals.items
-    c.remove.ensures.items c.total_of-left.ensures c.self.invariant
+    let removed = c.tally_number-removed.result in
+    let gone = subst (λ (deals : List Deal). Tallies removed.sum removed.count (filter (is_numbered c.args.number) deals)) (sym (ap (λ (held : SummedState). held.deals) c.self.view_is)) c.tally_number-removed.ensures.tallies in
+    summed_removed c.args.number removed.sum removed.count c.self.inside.newest c.self.inside.sum c.self.inside.is_ordered c.self.inside.items.items c.remove.new.deals.items
+    c.remove.ensures.items gone c.self.invariant

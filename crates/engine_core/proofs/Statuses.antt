@@ -1,0 +1,23 @@
+-- The status of a run, and what it says.
+use Rattle.std.proofs.Common.{◌≡◌, refl, subst, arith}
+use Rattle.std.specs.Prelude.{Result, Ok, Err, IfOk}
+use Rattle.host_core.specs.declared.fault.Fault.{Fault}
+use Rattle.host_core.specs.declared.fault.Fault.TheVariants as fault
+use Rattle.host_core.specs.declared.status.Status.{Status}
+use Rattle.host_core.specs.declared.status.Status.TheVariants.{ReadFault}
+use Rattle.host_core.specs.Faults.{Causes}
+use Rattle.host_core.specs.Outside.{Outside}
+use Rattle.engine_core.specs.Ends.{IsEnd, Told, answer_of}
+
+pub at_an_end : (result : Result Status Fault) (P : Status → Type 0) → IfOk result P → IsEnd (answer_of result) → P (answer_of result)
+at_an_end (Ok s) P p end = p
+at_an_end (Err fault.Read) P p end = absurd end
+at_an_end (Err f) P p end = absurd end
+
+pub at_a_read : (result : Result Status Fault) → IfOk result IsEnd → answer_of result ≡ ReadFault → result ≡ Err fault.Read
+at_a_read (Ok s) end is = absurd (subst IsEnd is end)
+at_a_read (Err fault.Read) end is = refl
+at_a_read (Err f) end is = absurd cc
+
+pub told_of : (result : Result Status Fault) (old new : Outside) → IfOk result IsEnd → Causes result old new → Told (answer_of result) old new
+told_of result old new end causes = grind arith

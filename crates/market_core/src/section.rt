@@ -1,0 +1,190 @@
+ghost use Rattle.std.specs.Prelude.{◌≡◌, ◌+◌, ◌*◌, ◌<◌, ◌≤◌, ◌++◌, ◌∷◌, [], true, false, Some, IfOk, IsOk, OnOk, OnErr, length, vec_len, vec_capacity};
+ghost use Rattle.wire_in.specs.Records.{is_day, is_tick, moment_of};
+ghost use Rattle.alarms.specs.Due.{NoneDue};
+ghost use Rattle.symbol_core.specs.Evaluates.{most_of_symbol};
+ghost use Rattle.market_core.specs.Kinds.{is_trade};
+
+use crate::since::{ALWAYS_DUE, Since, alarm_of, pass, renew};
+use crate::symbols::{evaluate, evaluate_each};
+use alarms::Alarms;
+use price_core::NoMemory;
+use session_core::Moment;
+use std::alloc::Global;
+use std::marker::Model;
+use symbol_core::{MOST_OF_SYMBOL, MarketView, Symbol};
+use wire_in::Record;
+use wire_out::{Message, Stamped};
+
+/// The stocks of ids that follow each other, in their order, each with the moment at which a tick may next bring it
+/// something.
+#[derive(Drop)]
+pub struct Section {
+    symbols: Vec<Symbol>,
+    alarms: Alarms,
+    since: Option<Since>,
+    said: Vec<Message>,
+}
+
+impl Model for Section {
+    ghost use Rattle.std.specs.Prelude.{◌-◌, ◌≤◌, min, length, vec_len, vec_capacity};
+    ghost use Rattle.symbol_core.specs.Evaluates.{most_of_symbol};
+    ghost use Rattle.market_core.specs.Sections.{SectionState, EachIdles};
+
+    ghost Value = { SectionState };
+
+    ghost view = { λ section. record { symbols = section.symbols.items; spare = min (vec_capacity section.symbols - vec_len section.symbols) (length section.alarms - vec_len section.symbols); since = section.since } };
+
+    ghost invariant = { λ section. (vec_len section.symbols ≤ length section.alarms) × (most_of_symbol ≤ vec_capacity section.said) × EachIdles section.since section.alarms section.symbols.items };
+}
+
+/// The first place from one on that is due, or the end where none before it is.
+fn first_due(alarms: &mut Alarms, from: usize, end: usize, t: Moment) -> usize
+    requires from { from ≤ end }
+    requires end { end ≤ length alarms.old }
+    ensures from { from ≤ result }
+    ensures end { result ≤ end }
+    ensures none { NoneDue t from result alarms.old }
+    ensures same { alarms.new ≡ alarms.old }
+{
+    match alarms.next(from, t.nanos()) {
+        Some(place) if place < end => place,
+        _ => end,
+    }
+}
+
+fn push_symbol(symbols: &mut Vec<Symbol>, symbol: Symbol)
+    requires { vec_len symbols.old + 1 ≤ vec_capacity symbols.old }
+    ensures items { symbols.new.items ≡ symbols.old.items ++ symbol ∷ [] }
+    ensures len { vec_len symbols.new ≡ vec_len symbols.old + 1 }
+{
+    symbols.push(symbol).unwrap();
+}
+
+impl Section {
+    ghost use Rattle.market_core.specs.Applied.{AppendsBelow, AppendsOne};
+    ghost use Rattle.market_core.specs.Sections.{NoneMoves};
+
+    /// No stocks.
+    pub fn new(alloc: Global) -> Result<Section, NoMemory>
+        ensures { IfOk result (λ section. section.symbols ≡ []) }
+    {
+        let said = Vec::with_capacity(alloc, MOST_OF_SYMBOL)?;
+        Ok(Section {
+            symbols: Vec::new(alloc),
+            alarms: Alarms::new(alloc),
+            since: None,
+            said,
+        })
+    }
+
+    /// How many stocks there are.
+    pub fn len(&self) -> usize
+        ensures { result ≡ length self.now.symbols }
+    {
+        self.symbols.len()
+    }
+
+    /// Takes room for one more stock. An error leaves the stocks as they were.
+    pub fn reserve(&mut self) -> Result<(), NoMemory>
+        ensures ok { OnOk result (1 ≤ self.new.spare) }
+        ensures symbols { self.new.symbols ≡ self.old.symbols }
+    {
+        self.symbols.reserve(1)?;
+        if self.alarms.len() == self.symbols.len() {
+            self.alarms.push(ALWAYS_DUE)?;
+        }
+        Ok(())
+    }
+
+    /// Adds a stock behind the others, in room that was taken before.
+    pub fn push(&mut self, symbol: Symbol)
+        requires { 1 ≤ self.old.spare }
+        ensures { self.new.symbols ≡ self.old.symbols ++ symbol ∷ [] }
+    {
+        self.alarms.set(self.symbols.len(), ALWAYS_DUE);
+        push_symbol(&mut self.symbols, symbol);
+    }
+
+    /// Evaluates a record for the stock of an index. Only a trade may find no memory, and then all stays as it was.
+    pub fn evaluate(
+        &mut self,
+        index: usize,
+        x: &Record,
+        market: &MarketView,
+        out: &mut Vec<Stamped>,
+    ) -> Result<(), NoMemory>
+        requires index { index < length self.old.symbols }
+        requires room { vec_len out.old + most_of_symbol ≤ vec_capacity out.old }
+        ensures ok { OnOk result (AppendsOne index market.now x.now self.old.symbols self.new.symbols out.old.items out.new.items) }
+        ensures err { OnErr result ((self.new.symbols ≡ self.old.symbols) × (out.new.items ≡ out.old.items)) }
+        ensures succeeds { is_trade x.now ≡ false → IsOk result }
+        ensures since { (now : MarketView) → self.old.since ≡ Some (record { from = moment_of x.now; market = now }) → self.new.since ≡ self.old.since }
+        ensures room { vec_capacity out.old ≤ vec_capacity out.new }
+        ensures len { vec_len out.new ≤ vec_len out.old + most_of_symbol }
+    {
+        pass(&mut self.since, x.moment());
+        let symbol = &mut self.symbols[index];
+        evaluate(symbol, x, market, &mut self.said, out)?;
+        let alarm = alarm_of(symbol, &self.since);
+        self.alarms.set(index, alarm);
+        Ok(())
+    }
+
+    /// Begins a day for each stock, in order of ids.
+    pub fn begin_day(&mut self, x: &Record, market: &MarketView, out: &mut Vec<Stamped>)
+        requires day { is_day x.now ≡ true }
+        requires room { vec_len out.old + most_of_symbol * length self.old.symbols ≤ vec_capacity out.old }
+        ensures appends { AppendsBelow (length self.old.symbols) market.now x.now self.old.symbols self.new.symbols out.old.items out.new.items }
+        ensures count { length self.new.symbols ≡ length self.old.symbols }
+        ensures room { vec_capacity out.old ≤ vec_capacity out.new }
+        ensures len { vec_len out.new ≤ vec_len out.old + most_of_symbol * length self.old.symbols }
+    {
+        self.since = None;
+        evaluate_each(&mut self.symbols, x, market, &mut self.said, out);
+    }
+
+    /// Begins a tick: alarms of another market, or of a later moment, say nothing of it, and each stock is due.
+    fn begin_tick(&mut self, t: Moment, market: &MarketView)
+        ensures since { self.new.since ≡ Some (record { from = t; market = market.now }) }
+        ensures symbols { self.new.symbols ≡ self.old.symbols }
+    {
+        let now = Since {
+            from: t,
+            market: *market,
+        };
+        renew(&mut self.alarms, &self.since, &now);
+        self.since = Some(now);
+    }
+
+    /// The first index from one on whose stock is due, or the number of stocks where there is none.
+    fn next_due(&mut self, from: usize, x: &Record, market: &MarketView) -> usize
+        requires tick { is_tick x.now ≡ true }
+        requires since { self.old.since ≡ Some (record { from = moment_of x.now; market = market.now }) }
+        requires from { from ≤ length self.old.symbols }
+        ensures from { from ≤ result }
+        ensures end { result ≤ length self.old.symbols }
+        ensures none { NoneMoves market.now x.now from result self.old.symbols }
+        ensures since { self.new.since ≡ self.old.since }
+        ensures symbols { self.new.symbols ≡ self.old.symbols }
+    {
+        first_due(&mut self.alarms, from, self.symbols.len(), x.moment())
+    }
+
+    /// Evaluates a clock or an index tick for each stock to which it may bring something, in order of ids.
+    pub fn tick(&mut self, x: &Record, market: &MarketView, out: &mut Vec<Stamped>)
+        requires tick { is_tick x.now ≡ true }
+        requires room { vec_len out.old + most_of_symbol * length self.old.symbols ≤ vec_capacity out.old }
+        ensures appends { AppendsBelow (length self.old.symbols) market.now x.now self.old.symbols self.new.symbols out.old.items out.new.items }
+        ensures count { length self.new.symbols ≡ length self.old.symbols }
+        ensures room { vec_capacity out.old ≤ vec_capacity out.new }
+        ensures len { vec_len out.new ≤ vec_len out.old + most_of_symbol * length self.old.symbols }
+    {
+        self.begin_tick(x.moment(), market);
+        let count = self.len();
+        let mut index = self.next_due(0, x, market);
+        while index < count {
+            self.evaluate(index, x, market, out).unwrap();
+            index = self.next_due(index + 1, x, market);
+        }
+    }
+}

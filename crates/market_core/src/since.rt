@@ -1,0 +1,94 @@
+// From when on, and over which market, alarms of stocks hold.
+ghost use Rattle.std.specs.Prelude.{◌≡◌, ℕ, true, Some, List, length};
+ghost use Rattle.symbol_core.specs.Rests.{Held};
+ghost use Rattle.market_core.specs.Sections.{EachIdles, IdlesUntil};
+
+use alarms::Alarms;
+use session_core::Moment;
+use symbol_core::{MarketView, Symbol};
+
+/// From when on, and over which market, the alarms of a section hold.
+#[derive(Clone, Copy, Debug)]
+pub struct Since {
+    pub from: Moment,
+    pub market: MarketView,
+}
+
+/// The alarm of a stock of which nothing is known: each tick may bring it something.
+pub(crate) const ALWAYS_DUE: u64 = 0;
+
+fn is_same(a: &MarketView, b: &MarketView) -> bool
+    ensures { result ≡ true → a.now ≡ b.now }
+{
+    a == b
+}
+
+/// Whether what holds since one moment holds since another.
+fn includes(since: &Since, other: &Since) -> bool
+    ensures { result ≡ true → (alarm : ℕ) (held : Held) → IdlesUntil (Some since.now) alarm held → IdlesUntil (Some other.now) alarm held }
+{
+    since.from.nanos() <= other.from.nanos() && is_same(&since.market, &other.market)
+}
+
+/// Whether the alarms that held hold from now on.
+fn still_holds(since: &Option<Since>, now: &Since) -> bool
+    ensures { result ≡ true → (alarm : ℕ) (held : Held) → IdlesUntil since.now alarm held → IdlesUntil (Some now.now) alarm held }
+{
+    match since {
+        Some(since) => includes(since, now),
+        None => false,
+    }
+}
+
+/// Keeps alarms where they hold from now on, and makes each place due where they don't.
+pub(crate) fn renew(alarms: &mut Alarms, since: &Option<Since>, now: &Since)
+    ensures idles { (symbols : List Held) → EachIdles since.now alarms.old symbols → EachIdles (Some now.now) alarms.new symbols }
+    ensures len { length alarms.new ≡ length alarms.old }
+{
+    if still_holds(since, now) {
+        return;
+    }
+    alarms.fill(ALWAYS_DUE);
+}
+
+/// Lets time pass: what holds from one moment on holds from a later one on.
+pub(crate) fn pass(since: &mut Option<Since>, t: Moment)
+    ensures idles { (alarm : ℕ) (held : Held) → IdlesUntil since.old alarm held → IdlesUntil since.new alarm held }
+    ensures same { (market : MarketView) → since.old ≡ Some (record { from = t; market = market }) → since.new ≡ since.old }
+{
+    if let Some(since) = since {
+        if since.from.nanos() < t.nanos() {
+            since.from = t;
+        }
+    }
+}
+
+/// A moment before which the ticks since then bring a stock nothing, in nanoseconds of the day.
+fn alarm_since(symbol: &Symbol, since: &Since) -> u64
+    ensures { IdlesUntil (Some since.now) result symbol.now }
+{
+    match symbol.due() {
+        Some(due) => {
+            let known = Since {
+                from: due.from,
+                market: due.market,
+            };
+            if includes(&known, since) {
+                due.until
+            } else {
+                ALWAYS_DUE
+            }
+        }
+        None => ALWAYS_DUE,
+    }
+}
+
+/// The same, where it may not be known since when alarms hold.
+pub(crate) fn alarm_of(symbol: &Symbol, since: &Option<Since>) -> u64
+    ensures { IdlesUntil since.now result symbol.now }
+{
+    match since {
+        Some(since) => alarm_since(symbol, since),
+        None => ALWAYS_DUE,
+    }
+}

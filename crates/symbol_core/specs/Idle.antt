@@ -1,0 +1,106 @@
+-- When a clock or an index tick finds nothing to say of a symbol. Private words: no public clause cites them.
+use Rattle.std.specs.Prelude.{◌≡◌, ◌+◌, ◌<◌, ◌≤◌, ℕ, Bool, true, false, nat_lt, Option, Some, None, List, ◌&&◌, ◌||◌, not, is_some, unwrap_or}
+use Rattle.std.specs.Option.{option_map_or}
+use Rattle.session_core.specs.declared.day.Day.{Day}
+use Rattle.session_core.specs.declared.state.Phase.TheVariants.{LimitLow, LimitHigh}
+use Rattle.session_core.specs.Durations.{five_minutes}
+use Rattle.session_core.specs.Times.{in_session, is_closed}
+use Rattle.wire_in.specs.Records.{is_tick}
+use Rattle.limit_core.specs.Timers.{has_lasted}
+use Rattle.pause_core.specs.Phases.{can_market_halt, can_start, is_done, is_in_regulatory_halt, is_limit, is_trading}
+use Rattle.refprice_core.specs.Prices.{has_stood, is_in_opening_period}
+use Rattle.window_core.specs.declared.window.Deal.{Deal}
+use Rattle.window_core.specs.Deals.{live, mean_of}
+use Rattle.rulebook.specs.declared.symbol.Banded.{Banded}
+use Rattle.rulebook.specs.Auction.{is_paused}
+use Rattle.rulebook.specs.Rules.{at_band}
+use Rattle.symbol_core.specs.declared.due.Due.{Due}
+use Rattle.symbol_core.specs.declared.kept.Kept.{Kept}
+use Rattle.symbol_core.specs.declared.kept.Step.{Step}
+use Rattle.symbol_core.specs.Kept.{is_straddling_now}
+use Rattle.symbol_core.specs.Pricing.{adoption, reference, time_changes}
+
+-- the last step left nothing for the rules of its own record
+pub record IsRested (k : Kept) : Type 0 where
+  pub left_limit : k.left_limit ≡ false
+  pub released : k.released ≡ None
+  pub deal : k.deal ≡ None
+  pub is_fresh : k.is_fresh ≡ false
+
+-- in a limit state whose band the quotation has left
+abbrev pub leaves_limit : Kept → Bool
+leaves_limit k = is_limit k.phase && not (at_band k.phase k.quote k.band)
+
+-- no rule says anything at a tick, whatever its time
+pub record IsSettled (k : Kept) (stopped : Bool) : Type 0 where
+  pub runs : (stopped && can_market_halt k.phase) ≡ false
+  pub halted : k.halted ≡ is_in_regulatory_halt k.phase
+  pub stays : leaves_limit k ≡ false
+  pub low : (is_trading k.phase && at_band LimitLow k.quote k.band) ≡ false
+  pub high : (is_trading k.phase && at_band LimitHigh k.quote k.band) ≡ false
+  pub straddles : is_straddling_now k ≡ k.straddling
+
+-- What each rule that waits for a time says nothing before.
+
+abbrev pub ClosesFrom : Day → ℕ → Type 0
+ClosesFrom day until = (u : ℕ) → u < until → is_closed u day ≡ false
+
+abbrev pub starts_at : Kept → Day → Bool → ℕ → Bool
+starts_at k day stopped u = can_start k.phase && (in_session u day && not stopped)
+
+abbrev pub StartsFrom : Kept → Day → Bool → ℕ → Type 0
+StartsFrom k day stopped until = (u : ℕ) → u < until → starts_at k day stopped u ≡ false
+
+abbrev pub pauses_at : Kept → ℕ → Bool
+pauses_at k u = is_limit k.phase && has_lasted k.since u
+
+abbrev pub PausesFrom : Kept → ℕ → Type 0
+PausesFrom k until = (u : ℕ) → u < until → pauses_at k u ≡ false
+
+abbrev pub reopens_at : Kept → ℕ → Bool
+reopens_at k u = is_paused k.phase && option_map_or (λ round. not (nat_lt u (round.moment + five_minutes))) k.round false
+
+abbrev pub ReopensFrom : Kept → ℕ → Type 0
+ReopensFrom k until = (u : ℕ) → u < until → reopens_at k u ≡ false
+
+-- whether time gives other bands than the last ones
+abbrev pub changes_bands : Kept → Step → Bool
+changes_bands k step = is_trading k.phase && option_map_or (time_changes k step) k.band false
+
+abbrev pub ChangesBandsFrom : Kept → Day → ℕ → ℕ → Type 0
+ChangesBandsFrom k day from until = (step : Step) → step.day ≡ day → from ≤ step.moment → step.moment < until → changes_bands k step ≡ false
+
+-- a new reference price at a tick
+abbrev pub PricesFrom : Kept → List Deal → ℕ → ℕ → Type 0
+PricesFrom k deals from until = (step : Step) → is_tick step.input ≡ true → from ≤ step.moment → step.moment < until → reference k step (mean_of (live step.moment deals)) ≡ None
+
+-- from a moment of a day on and before another, time brings nothing
+pub record Lasts (k : Kept) (deals : List Deal) (day : Day) (stopped : Bool) (from until : ℕ) : Type 0 where
+  pub closes : ClosesFrom day until
+  pub starts : StartsFrom k day stopped until
+  pub pauses : PausesFrom k until
+  pub reopens : ReopensFrom k until
+  pub bands : ChangesBandsFrom k day from until
+  pub prices : PricesFrom k deals from until
+
+-- ticks of that market from that moment on and before the other find nothing to say
+pub record IsIdle (k : Kept) (deals : List Deal) (due : Due) : Type 0 where
+  pub rested : IsRested k
+  pub settled : IsSettled k due.market.stopped
+  pub lasts : Lasts k deals due.market.day due.market.stopped due.from due.until
+
+-- its day is over, or it isn't listed today
+abbrev pub is_out : Kept → Bool
+is_out k = is_done k.phase || not (is_some k.terms)
+
+abbrev pub IsDue : Option Due → Kept → List Deal → Type 0
+IsDue None k deals = Unit {0}
+IsDue (Some due) k deals = is_out k ≡ false → IsIdle k deals due
+
+-- whether a mean would be taken, 30 seconds after the last reference price and five minutes after the run's begin
+abbrev pub awaits_after : Kept → ℕ → Option Banded → Bool
+awaits_after k t None = not (is_in_opening_period (unwrap_or k.begun 0) t)
+awaits_after k t (Some b) = has_stood (adoption k b) t
+
+abbrev pub awaits_mean : Kept → ℕ → Bool
+awaits_mean k t = awaits_after k t k.band

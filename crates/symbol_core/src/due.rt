@@ -1,0 +1,282 @@
+// When a symbol is next due: before that, clocks and index ticks bring nothing of it.
+ghost use Rattle.std.specs.Prelude.{◌≡◌, ◌<◌, ◌≤◌, ◌&&◌, ◌||◌, ℕ, true, false, Some, List, is_some, not};
+ghost use Rattle.std.specs.Option.{option_map_or};
+ghost use Rattle.session_core.specs.declared.day.Day.{Day};
+ghost use Rattle.session_core.specs.Times.{is_closed};
+ghost use Rattle.pause_core.specs.Phases.{can_start, is_trading};
+ghost use Rattle.percent_core.specs.Percentages.{span};
+ghost use Rattle.window_core.specs.declared.window.Deal.{Deal};
+ghost use Rattle.rulebook.specs.Rules.{at_band};
+ghost use Rattle.symbol_core.specs.Idle.{ChangesBandsFrom, IsDue, IsRested, IsSettled, Lasts, PausesFrom, PricesFrom, ReopensFrom, StartsFrom, is_out, leaves_limit};
+ghost use Rattle.symbol_core.specs.Pricing.{time_changes};
+
+use crate::kept::{Kept, Step};
+use crate::says::is_paused;
+use crate::symbol::MarketView;
+use crate::turns::at_band;
+use pause_core::{
+    can_market_halt, can_start, is_done, is_in_regulatory_halt, is_limit, is_trading,
+};
+use refprice_core::is_in_opening_period;
+use rulebook::Banded;
+use session_core::{
+    Day, END_OF_FIRST_15_MINUTES, FIFTEEN_SECONDS, FIVE_MINUTES, Moment, Phase, SESSION_OPEN,
+    THIRTY_SECONDS, TWENTY_FIVE_MINUTES, close_moment,
+};
+use window_core::SummedDeals;
+
+/// From when on and until when ticks of one market bring a stock nothing.
+#[derive(Clone, Copy, Debug)]
+pub struct Due {
+    pub from: Moment,
+    /// In nanoseconds of the day.
+    pub until: u64,
+    pub market: MarketView,
+}
+
+fn is_same(a: &MarketView, b: &MarketView) -> bool
+    ensures { result ≡ true → a.now ≡ b.now }
+{
+    a == b
+}
+
+impl Due {
+    /// From a step on, over its market.
+    fn of(step: &Step, until: u64) -> Due
+        ensures { result ≡ record { from = step.now.moment; until = until; market = record { day = step.now.day; stopped = step.now.stopped } } }
+    {
+        Due {
+            from: step.moment,
+            until,
+            market: MarketView {
+                day: step.day,
+                stopped: step.stopped,
+            },
+        }
+    }
+
+    /// From a moment on, without an end.
+    pub(crate) fn without_end(t: Moment, market: &MarketView) -> Due {
+        Due {
+            from: t,
+            until: u64::MAX,
+            market: *market,
+        }
+    }
+
+    /// The same from a later moment on.
+    pub(crate) fn since(&self, t: Moment) -> Due
+        ensures { result ≡ record self.now { from = t } }
+    {
+        Due {
+            from: t,
+            until: self.until,
+            market: self.market,
+        }
+    }
+
+    /// Whether a tick at a moment of a market brings nothing.
+    pub(crate) fn holds(&self, t: Moment, market: &MarketView) -> bool
+        ensures from { result ≡ true → self.now.from ≤ t }
+        ensures until { result ≡ true → t < self.now.until }
+        ensures market { result ≡ true → market.now ≡ self.now.market }
+    {
+        self.from.nanos() <= t.nanos() && t.nanos() < self.until && is_same(market, &self.market)
+    }
+}
+
+/// The close, or before it the next moment at which the percentages change, in nanoseconds of the day.
+fn next_change(t: Moment, day: &Day) -> u64
+    ensures { (u : ℕ) → t ≤ u → u < result → span u day.now ≡ span t day.now }
+{
+    let close = close_moment(day).nanos();
+    let last_25 = close.saturating_sub(TWENTY_FIVE_MINUTES);
+    if last_25 <= t.nanos() {
+        close
+    } else if t.nanos() < END_OF_FIRST_15_MINUTES {
+        END_OF_FIRST_15_MINUTES.min(last_25)
+    } else {
+        last_25
+    }
+}
+
+fn close_of(day: &Day) -> u64
+    ensures { (u : ℕ) → u < result → is_closed u day.now ≡ false }
+{
+    close_moment(day).nanos()
+}
+
+fn earlier(a: u64, b: u64) -> u64
+    ensures first { result ≤ a }
+    ensures second { result ≤ b }
+{
+    if a < b { a } else { b }
+}
+
+impl Kept {
+    fn leaves_limit(&self) -> bool
+        ensures { result ≡ leaves_limit self.now }
+    {
+        is_limit(self.phase) && !at_band(self.phase, &self.quote, &self.band)
+    }
+
+    fn enters_limit(&self, side: Phase) -> bool
+        ensures { result ≡ (is_trading self.now.phase && at_band side self.now.quote self.now.band) }
+    {
+        is_trading(self.phase) && at_band(side, &self.quote, &self.band)
+    }
+
+    /// Whether no rule says anything at a tick, whatever its time.
+    fn is_settled(&self, stopped: bool) -> bool
+        ensures { result ≡ true → IsSettled self.now stopped }
+    {
+        !(stopped && can_market_halt(self.phase))
+            && self.halted == is_in_regulatory_halt(self.phase)
+            && !self.leaves_limit()
+            && !self.enters_limit(Phase::LimitLow)
+            && !self.enters_limit(Phase::LimitHigh)
+            && self.is_straddling_now() == self.straddling
+    }
+}
+
+// From when on a rule may say something at a tick, in nanoseconds of the day; `u64::MAX` where there is no such moment.
+impl Kept {
+    fn can_start(&self, stopped: bool) -> bool
+        ensures { result ≡ (can_start self.now.phase && not stopped) }
+    {
+        can_start(self.phase) && !stopped
+    }
+
+    fn starts_from(&self, stopped: bool) -> u64
+        ensures { (day : Day) → StartsFrom self.now day stopped result }
+    {
+        if self.can_start(stopped) {
+            SESSION_OPEN
+        } else {
+            u64::MAX
+        }
+    }
+
+    /// 15 seconds after the begin of a limit state (LULD Plan, Section VII(A)).
+    fn pauses_from(&self) -> u64
+        ensures { PausesFrom self.now result }
+    {
+        if is_limit(self.phase) {
+            self.since.nanos() + FIFTEEN_SECONDS
+        } else {
+            u64::MAX
+        }
+    }
+
+    /// Five minutes after the last collars (after Nasdaq Rule 4120).
+    fn reopens_from(&self) -> u64
+        ensures { ReopensFrom self.now result }
+    {
+        if !is_paused(self.phase) {
+            return u64::MAX;
+        }
+        match &self.round {
+            Some(timed) => timed.round().moment.nanos() + FIVE_MINUTES,
+            None => u64::MAX,
+        }
+    }
+
+    fn time_brings_bands(&self, step: &Step) -> bool
+        ensures { result ≡ option_map_or (time_changes self.now step.now) self.now.band false }
+    {
+        match &self.band {
+            Some(last) => self.time_changes(step, last),
+            None => false,
+        }
+    }
+
+    /// When the percentages change next (LULD Plan, Appendix A).
+    fn changes_bands_from(&self, step: &Step) -> u64
+        ensures { ChangesBandsFrom self.now step.now.day step.now.moment result }
+    {
+        if !is_trading(self.phase) {
+            u64::MAX
+        } else if self.time_brings_bands(step) {
+            0
+        } else {
+            next_change(step.moment, &step.day)
+        }
+    }
+}
+
+// The same of a new reference price (LULD Plan, Section V).
+impl Kept {
+    /// In a run without bands: five minutes after its begin.
+    fn first_from(&self, t: Moment) -> u64
+        ensures { IsRested self.now → is_some self.now.band ≡ false → (deals : List Deal) → PricesFrom self.now deals t result }
+    {
+        if is_in_opening_period(self.begun_at(), t) {
+            self.begun_at().nanos() + FIVE_MINUTES
+        } else {
+            0
+        }
+    }
+
+    /// With bands: 30 seconds after the last reference price, and then where a deal leaves the mean.
+    fn moves_from(&self, t: Moment, last: &Banded, deals: &SummedDeals) -> u64
+        ensures { IsRested self.now → self.now.band ≡ Some last.now → PricesFrom self.now deals.now.deals t result }
+    {
+        let adoption = self.adoption(last);
+        if !adoption.has_stood(t) {
+            self.adopted.nanos() + THIRTY_SECONDS
+        } else if adoption.moved_price(t, deals.mean()).is_some() {
+            0
+        } else {
+            deals.live_until()
+        }
+    }
+
+    fn prices_from(&self, t: Moment, deals: &SummedDeals) -> u64
+        ensures { IsRested self.now → PricesFrom self.now deals.now.deals t result }
+    {
+        if !is_trading(self.phase) {
+            return u64::MAX;
+        }
+        if deals.first_moment().is_none() {
+            return u64::MAX;
+        }
+        match &self.band {
+            Some(last) => self.moves_from(t, last, deals),
+            None => self.first_from(t),
+        }
+    }
+}
+
+impl Kept {
+    fn lasts_until(&self, step: &Step, deals: &SummedDeals) -> u64
+        ensures { IsRested self.now → Lasts self.now deals.now.deals step.now.day step.now.stopped step.now.moment result }
+    {
+        let close = close_of(&step.day);
+        let starts = self.starts_from(step.stopped);
+        let pauses = self.pauses_from();
+        let reopens = self.reopens_from();
+        let bands = self.changes_bands_from(step);
+        let prices = self.prices_from(step.moment, deals);
+        let phase = earlier(close, earlier(starts, earlier(pauses, reopens)));
+        earlier(phase, earlier(bands, prices))
+    }
+
+    fn is_out(&self) -> bool
+        ensures { result ≡ is_out self.now }
+    {
+        is_done(self.phase) || !self.terms.is_some()
+    }
+
+    /// When the symbol is next due after a step. None where a rule says something at the next tick, whenever that comes.
+    pub fn due(&self, step: &Step, deals: &SummedDeals) -> Option<Due>
+        ensures { IsRested self.now → IsDue result self.now deals.now.deals }
+    {
+        if self.is_out() {
+            Some(Due::of(step, u64::MAX))
+        } else if self.is_settled(step.stopped) {
+            Some(Due::of(step, self.lasts_until(step, deals)))
+        } else {
+            None
+        }
+    }
+}

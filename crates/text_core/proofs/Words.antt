@@ -1,0 +1,78 @@
+-- The words of a line, one after the other.
+use Rattle.std.proofs.Common.{◌≡◌, ℕ, zero, suc, ◌+◌, Bool, true, List, [], ◌∷◌, ◌++◌, length, get_or, take, drop, Option, Some, refl, sym, ap, ◌∙◌, arith, append_assoc, append-nil, length-take-le, length-drop, ◌-◌}
+use Rattle.std.specs.Prelude.{not, ◌==◌}
+use Rattle.std.specs.List.{list_all, prefix_len}
+use Rattle.std.proofs.lemmas.Bool.Decides.{nat_tests}
+use Rattle.std.proofs.lemmas.List.Sums.{prefix_len-le-length}
+use Rattle.std.proofs.Math.Seq.{take-append_seam, take-length, drop-append-add, drop-nil}
+use Rattle.wire_core.specs.Names.{is_visible}
+use Rattle.text_core.specs.Lines.{followed_by, line_of}
+use Rattle.text_core.specs.Reading.{word_len, word_at}
+use Rattle.text_core.proofs.Plain.{IsPlain, both}
+
+pub word_first : (n : ℕ) (line : List ℕ) → n ≡ 0 → take (word_len line) line ≡ word_at n line
+unfolding word_at
+word_first n line e = rw e refl
+
+pub word_next : (j n : ℕ) (line rest : List ℕ) → n ≡ suc j → rest ≡ drop (word_len line + 1) line → word_at j rest ≡ word_at n line
+unfolding word_at
+word_next j n line rest e d = rw (e, d) refl
+
+pub rest_is : (k : ℕ) (line : List ℕ) → take (length line - k) (drop k line) ≡ drop k line
+rest_is k line = ap (λ n. take n (drop k line)) (sym (length-drop k line)) ∙ take-length (drop k line)
+
+-- further words, each behind a blank
+abbrev pub further : List (List ℕ) → List ℕ
+further [] = []
+further (word ∷ words) = 32 ∷ word ++ further words
+
+pub followed_is : (line : List ℕ) (words : List (List ℕ)) → followed_by line words ≡ line ++ further words
+followed_is line [] = sym (append-nil line)
+followed_is line (word ∷ words) = followed_is (line ++ 32 ∷ word) words ∙ append_assoc line (32 ∷ word) (further words)
+
+abbrev is_in_word : ℕ → Bool
+is_in_word b = not (b == 32)
+
+in_word : (b : ℕ) → is_visible b ≡ true → is_in_word b ≡ true
+in_word b h = grind (arith, nat_tests)
+
+-- a word ends at the next blank
+front_len : (word : List ℕ) (words : List (List ℕ)) → list_all is_visible word ≡ true → prefix_len is_in_word (word ++ further words) ≡ length word
+front_len [] [] h = refl
+front_len [] (next ∷ words) h = refl
+front_len (b ∷ word) words h =
+    let parts = both (is_visible b) (list_all is_visible word) h in
+    rw (in_word b parts.0, front_len word words parts.1) (omega arith)
+
+first_len : (word : List ℕ) (words : List (List ℕ)) → IsPlain word → word_len (word ++ further words) ≡ length word
+first_len word words h =
+    length-take-le (prefix_len is_in_word (word ++ further words)) _ (prefix_len-le-length is_in_word (word ++ further words))
+    ∙ front_len word words h.visible
+
+abbrev pub ArePlain : List (List ℕ) → Type 0
+ArePlain [] = Unit {0}
+ArePlain (word ∷ words) = IsPlain word × ArePlain words
+
+nothing_behind : (n : ℕ) → word_at n [] ≡ []
+unfolding word_at
+nothing_behind zero = refl
+nothing_behind (suc n) = ap (word_at n) (drop-nil 1) ∙ nothing_behind n
+
+word_behind : (n : ℕ) (word : List ℕ) (words : List (List ℕ)) → ArePlain (word ∷ words) → word_at n (word ++ further words) ≡ get_or (word ∷ words) n []
+unfolding word_at
+word_behind zero word words h = rw (first_len word words h.0) (take-append_seam word (further words))
+word_behind (suc n) word [] h =
+    rw (first_len word [] h.0)
+    (ap (word_at n) (drop-append-add word [] 1) ∙ nothing_behind (suc n))
+word_behind (suc n) word (next ∷ words) h =
+    rw (first_len word (next ∷ words) h.0)
+    (ap (word_at n) (drop-append-add word (32 ∷ next ++ further words) 1) ∙ word_behind n next words h.1)
+
+-- a word of a line
+pub word_is : (n : ℕ) (words : List (List ℕ)) → ArePlain words → word_at n (line_of words) ≡ get_or words n []
+word_is n [] h = nothing_behind n
+word_is n (word ∷ words) h = ap (word_at n) (followed_is word words) ∙ word_behind n word words h
+
+-- what is found in a word of a line
+pub found : {A : Type 0} (read : List ℕ → Option A) (v : A) (n : ℕ) (words : List (List ℕ)) → ArePlain words → read (get_or words n []) ≡ Some v → read (word_at n (line_of words)) ≡ Some v
+found read v n words h e = ap read (word_is n words h) ∙ e

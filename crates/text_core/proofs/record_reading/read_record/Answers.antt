@@ -1,0 +1,13 @@
+use Rattle.std.proofs.Common.{Ok, ap}
+use Rattle.text_core.proofs.Records.{nothing_read, same_read, not_refused}
+use Rattle.text_core.proofs.record_reading.read_record.Goals as goal
+
+pub returns-in_default-clause-only : goal.returns-in_default-clause-only
+returns-in_default-clause-only c = λ x p. nothing_read c.args.line.now x c.record.result c.in_default.is c.record.ensures p
+
+pub returns-then-prints-clause-only : goal.returns-then-prints-clause-only
+returns-then-prints-clause-only c = λ x p. ap Ok (same_read c.args.line.now x _ c.record.result c.in-Some.is c.record.ensures p)
+
+pub returns-else-prints-clause-only : goal.returns-else-prints-clause-only
+returns-else-prints-clause-only c = λ x p.
+    not_refused c.args.line.now x _ c.prints.result (same_read c.args.line.now x _ c.record.result c.in-Some.is c.record.ensures p) c.if-prints.false c.prints.ensures p

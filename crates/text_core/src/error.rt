@@ -1,0 +1,6 @@
+use thiserror::Error;
+
+/// A line prints no value.
+#[derive(Clone, Copy, Debug, PartialEq, Eq, Error)]
+#[error("the line prints no value")]
+pub struct BadLine;

@@ -1,0 +1,24 @@
+//! One line of text for each input record and each published frame, printed and read.
+#![tactic(auto)]
+
+mod error;
+mod field_reading;
+mod frame_printing;
+mod frame_reading;
+mod kind;
+mod law;
+mod line;
+mod record_printing;
+mod record_reading;
+#[cfg(test)]
+mod tests;
+mod word;
+mod word_reading;
+
+pub use error::BadLine;
+pub use frame_printing::print_frame;
+pub use frame_reading::read_frame;
+pub use kind::Kind;
+pub use law::lines_differ;
+pub use record_printing::print_record;
+pub use record_reading::read_record;
