@@ -1,0 +1,10 @@
+pub mod Sums
+pub mod ClaimStep
+pub mod GiveStep
+pub mod SeatSteps
+pub mod LastSeat
+pub mod FirstState
+pub mod SplitViews
+pub mod SlotJobs
+pub mod EachPieceOnce
+pub mod Pushed

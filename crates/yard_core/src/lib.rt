@@ -1,0 +1,22 @@
+//! A table of claimed work: each job is claimed by one seat, worked and given back, in as many threads as there are seats.
+#![tactic(auto)]
+
+mod close;
+mod gate;
+mod job;
+mod law;
+mod open;
+mod room;
+mod rule;
+#[cfg(test)]
+mod square;
+#[cfg(test)]
+mod tests;
+mod view;
+mod yard;
+
+pub use gate::{Gate, OpenGate};
+pub use job::Job;
+pub use law::each_piece_once;
+pub use view::SeatView;
+pub use yard::{Claim, Yard, YardSeat};
