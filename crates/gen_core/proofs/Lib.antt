@@ -1,0 +1,5 @@
+pub mod Numbers
+pub mod Listed
+pub mod Behind
+pub mod Ranges
+pub mod Given

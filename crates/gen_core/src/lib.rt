@@ -1,0 +1,13 @@
+//! The generated day: records drawn from a seed, for trials and measures.
+#![tactic(auto)]
+
+mod draws;
+mod generator;
+mod plan;
+mod session;
+mod start;
+#[cfg(test)]
+mod tests;
+
+pub use generator::Generator;
+pub use plan::DayPlan;

@@ -1,0 +1,156 @@
+// The records of the session, drawn one after the other.
+ghost use Rattle.std.specs.Prelude.{◌≡◌, ◌+◌, ◌-◌, ◌%◌, ◌<◌, ◌≤◌, length, slice_index, slice_set};
+ghost use Rattle.session_core.specs.Moments.{IsMoment};
+ghost use Rattle.gen_core.specs.Draws.{next_number, answer_of, number_after, draw};
+ghost use Rattle.gen_core.specs.Generated.{IsPlan, moment_of, second_of, is_clock, close_of, middle, traded_price, index_tick, quote, trade, record_of_kind, session_record, symbol_drawn, draws_of};
+ghost use Rattle.gen_core.specs.InternalState.{flags_after};
+ghost use Rattle.wire_in.specs.declared.record.Record.TheVariants as records;
+
+use crate::draws::Draws;
+use crate::plan::DayPlan;
+use crate::start::close_of;
+use price_core::{Index, Price};
+use session_core::{Moment, SESSION_OPEN};
+use wire_in::Record;
+
+/// Over how many nanoseconds the records are spread.
+const SPREAD: u64 = 23_400_000_000_000;
+
+/// The moment of the record k, in nanoseconds.
+fn nanos_of(plan: &DayPlan, k: u32) -> u64
+    requires { k < plan.now.records }
+    ensures value { result ≡ moment_of plan.now k }
+    ensures range { IsMoment result }
+{
+    SESSION_OPEN + u64::from(k) * (SPREAD / u64::from(plan.records))
+}
+
+/// The whole second of the record k.
+fn second_of(plan: &DayPlan, k: u32) -> u64
+    requires { k < plan.now.records }
+    ensures { result ≡ second_of (moment_of plan.now k) }
+{
+    nanos_of(plan, k) / 1_000_000_000
+}
+
+/// Whether the record k is a clock.
+fn is_clock(plan: &DayPlan, k: u32) -> bool
+    requires { k < plan.now.records }
+    ensures { result ≡ is_clock plan.now k }
+{
+    k == 0 || second_of(plan, k) != second_of(plan, k - 1)
+}
+
+/// Draws an index tick.
+fn index_tick(moment: Moment, draws: &mut Draws) -> Record
+    ensures record { result ≡ index_tick moment (draw draws.old.number 1) }
+    ensures number { draws.new.number ≡ number_after draws.old.number 1 }
+{
+    let below = draws.below(36_000) as u32;
+    Record::IndexTick {
+        moment,
+        value: Index::new(500_000 - below).unwrap(),
+    }
+}
+
+/// Draws a symbol.
+fn symbol(symbols: u32, draws: &mut Draws) -> u16
+    requires { (0 < symbols) × (symbols ≤ 16384) }
+    ensures value { result ≡ draw draws.old.number 1 % symbols }
+    ensures range { result < symbols }
+    ensures number { draws.new.number ≡ number_after draws.old.number 1 }
+{
+    draws.below(u64::from(symbols)) as u16
+}
+
+/// Draws the middle of a quotation.
+fn middle(close: u64, draws: &mut Draws) -> u64
+    requires { (200000 ≤ close) × (close ≤ 2000000) }
+    ensures value { result ≡ middle close (draw draws.old.number 1) }
+    ensures range { (1000 ≤ result) × (result ≤ 3000000) }
+    ensures number { draws.new.number ≡ number_after draws.old.number 1 }
+{
+    close - 6 * close / 100 + draws.below(12 * close / 100 + 1)
+}
+
+/// Draws a quotation.
+fn quote(moment: Moment, symbols: u32, draws: &mut Draws) -> Record
+    requires { (0 < symbols) × (symbols ≤ 16384) }
+    ensures record { result ≡ quote moment (draw draws.old.number 1 % symbols) (draw draws.old.number 2) }
+    ensures number { draws.new.number ≡ number_after draws.old.number 2 }
+{
+    let symbol = symbol(symbols, draws);
+    let middle = middle(close_of(symbol), draws);
+    Record::Quote {
+        moment,
+        symbol,
+        bid: Some(Price::of(middle - 100)),
+        offer: Some(Price::of(middle + 100)),
+        bid_size: 100,
+        offer_size: 100,
+    }
+}
+
+/// Draws the price of a trade.
+fn traded_price(close: u64, draws: &mut Draws) -> u64
+    requires { (200000 ≤ close) × (close ≤ 2000000) }
+    ensures value { result ≡ traded_price close (draw draws.old.number 1) }
+    ensures range { (1000 ≤ result) × (result ≤ 3000000) }
+    ensures number { draws.new.number ≡ number_after draws.old.number 1 }
+{
+    close - close / 25 + draws.below(2 * (close / 25) + 1)
+}
+
+/// Draws a trade. The next trade of its symbol has no flags.
+fn trade(moment: Moment, number: u32, draws: &mut Draws, flags: &mut [u16]) -> Record
+    requires { (0 < length flags.old) × (length flags.old ≤ 16384) }
+    ensures record { result ≡ trade moment (draw draws.old.number 1 % length flags.old) number (slice_index flags.old (draw draws.old.number 1 % length flags.old)) (draw draws.old.number 2) }
+    ensures number { draws.new.number ≡ number_after draws.old.number 2 }
+    ensures flags { flags.new ≡ slice_set flags.old (draw draws.old.number 1 % length flags.old) 0 }
+{
+    let symbol = symbol(flags.len() as u32, draws);
+    let price = Price::of(traded_price(close_of(symbol), draws));
+    let own_flags = flags[usize::from(symbol)];
+    flags[usize::from(symbol)] = 0;
+    Record::Trade {
+        moment,
+        symbol,
+        number,
+        price,
+        size: 100,
+        flags: own_flags,
+    }
+}
+
+/// Draws the record k of a kind.
+fn record_of_kind(kind: u64, moment: Moment, k: u32, draws: &mut Draws, flags: &mut [u16]) -> Record
+    requires { (0 < length flags.old) × (length flags.old ≤ 16384) }
+    ensures record { result ≡ record_of_kind kind moment k (draw draws.old.number 1 % length flags.old) (slice_index flags.old (draw draws.old.number 1 % length flags.old)) (draw draws.old.number 1) (draw draws.old.number 2) }
+    ensures number { draws.new.number ≡ number_after draws.old.number (draws_of result - 1) }
+    ensures flags { flags.new ≡ flags_after result flags.old }
+{
+    if kind == 0 {
+        index_tick(moment, draws)
+    } else if kind <= 9 {
+        quote(moment, flags.len() as u32, draws)
+    } else {
+        trade(moment, k, draws, flags)
+    }
+}
+
+/// The record k: a clock, or one that is drawn.
+pub fn session_record(plan: &DayPlan, k: u32, draws: &mut Draws, flags: &mut [u16]) -> Record
+    requires plan { IsPlan plan.now }
+    requires record { k < plan.now.records }
+    requires flags { length flags.old ≡ plan.now.symbols }
+    ensures record { result ≡ session_record plan.now k draws.old.number (slice_index flags.old (symbol_drawn plan.now draws.old.number)) }
+    ensures number { draws.new.number ≡ number_after draws.old.number (draws_of result) }
+    ensures flags { flags.new ≡ flags_after result flags.old }
+{
+    let moment = Moment::new(nanos_of(plan, k)).unwrap();
+    if is_clock(plan, k) {
+        return Record::Clock { moment };
+    }
+    let kind = draws.below(16);
+    record_of_kind(kind, moment, k, draws, flags)
+}
