@@ -9,10 +9,10 @@ use Rattle.market_core.specs.AdmissionState.{AdmissionState}
 use Rattle.market_core.specs.MarketState.{most_messages}
 use Rattle.engine_core.specs.declared.engine.Engine.{Engine}
 use Rattle.engine_core.specs.Pending.{Expects, SendsPrefix}
-use Rattle.engine_core.specs.EngineState.{Represents}
+use Rattle.engine_core.specs.EngineState.{Represents, IsRoomy}
 use Rattle.engine_core.specs.Rounds.{Outcome, outcomes_of, records_in, IsAdmissible}
-use Rattle.engine_core.specs.Sessions.{Start, held_after, expected, with_acknowledgements}
-use Rattle.engine_core.specs.Answering.{Waits, Answers}
+use Rattle.engine_core.specs.Sessions.{Start, held_after, expected, with_acknowledgements, Starved}
+use Rattle.engine_core.specs.Answering.{Waits, Answers, IsShort}
 use Rattle.engine_core.specs.Serving.{IsSound}
 use Rattle.engine_core.proofs.Pending.{expects_same}
 use Rattle.engine_core.proofs.Sending.{sends_on}
@@ -62,6 +62,19 @@ module _ {start : Start} {all : List (List ℕ)} {number : ℕ} {outcome : Outco
   whole : (answers.answered ++ first.0 ∷ []) ++ first.1 ≡ all
   whole = append_assoc answers.answered (first.0 ∷ []) first.1 ∙ ap (λ (b : List (List ℕ)). answers.answered ++ b) (sym first.2) ∙ answers.waits.whole
 
+  -- memory is short for it
+  pub starved_at : (now : Outside) → IsShort outcome start.sent now.sent (expected start answers.answered) → Starved start all now
+  starved_at now short = record {
+    answered = answers.answered;
+    body = first.0;
+    later = first.1;
+    frames = sym (ap (λ (b : List (List ℕ)). answers.answered ++ b) (sym first.2) ∙ answers.waits.whole);
+    x = short.x;
+    accepted = sym first.3 ∙ short.is;
+    takes = short.takes;
+    sent = short.sent;
+  }
+
   text_is : text ≡ expected start (answers.answered ++ first.0 ∷ [])
   text_is =
       (λ j. expected start answers.answered ++ spelled (with_acknowledgements start.acknowledges (reply (answers.waits.number_is j + 1) held (first.3 j))))
@@ -92,8 +105,9 @@ module _ {start : Start} {all : List (List ℕ)} {number : ℕ} {outcome : Outco
 
 -- and the counts
 pub sound_next : {engine : Engine} {outcome : Outcome} {later : List Outcome} {number : ℕ} (next : Engine) → IsSound engine (outcome ∷ later) number → next.admission ≡ engine.admission
-    → next.evaluated ≡ engine.evaluated + length (records_in (outcome ∷ [])) → next.published ≤ engine.published + most_messages * length (records_in (outcome ∷ [])) → IsSound next later (number + 1)
-sound_next {outcome = outcome} {later = later} next sound same evaluated published =
+    → next.evaluated ≡ engine.evaluated + length (records_in (outcome ∷ [])) → next.published ≤ engine.published + most_messages * length (records_in (outcome ∷ [])) → IsRoomy next
+    → IsSound next later (number + 1)
+sound_next {outcome = outcome} {later = later} next sound same evaluated published roomy =
     let one = few_records (outcome ∷ []) in
     let both = ap length (records-append (outcome ∷ []) later) ∙ length-append (records_in (outcome ∷ [])) (records_in later) in
     let counted = ap (λ (a : AdmissionState). a.count) same in
@@ -102,4 +116,5 @@ sound_next {outcome = outcome} {later = later} next sound same evaluated publish
       count = omega (arith, sound.count, counted, evaluated, both);
       few = omega (arith, sound.few, evaluated, published);
       small = omega (arith, sound.small, evaluated, one);
+      roomy = roomy;
     }

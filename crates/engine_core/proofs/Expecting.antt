@@ -10,7 +10,7 @@ use Rattle.wire_out.specs.declared.message.Frame.{Frame}
 use Rattle.rulebook.specs.Sent.{spelled, replies, reply, judged, with_record, accepted_of}
 use Rattle.rulebook.proofs.Sending.{spelled-append, replies-append, accepted_of-append, unacknowledged-append}
 use Rattle.engine_core.specs.Pending.{SendsPrefix}
-use Rattle.engine_core.specs.Sessions.{Start, held_after, expected, with_acknowledgements, IsSafe}
+use Rattle.engine_core.specs.Sessions.{Start, held_after, expected, with_acknowledgements, IsSafe, Starved}
 use Rattle.engine_core.proofs.Sending.{prefix_of_longer}
 
 with_acknowledgements-append : (acknowledges : Bool) (a b : List Frame) → with_acknowledgements acknowledges (a ++ b) ≡ with_acknowledgements acknowledges a ++ with_acknowledgements acknowledges b
@@ -97,6 +97,22 @@ module _ (recovers : List Record → List ℕ → Type 0) (start : Start) where
   safe_sends bodies now image bytes recovered stop =
       subst (λ (all : List (List ℕ)). IsSafe recovers start all image bytes) (append-nil bodies)
       (safe_of bodies [] image bytes stop.sent stop.rest recovered stop.known stop.prefix)
+
+-- where memory was short among some frames, it was so among more
+pub starved_further : {start : Start} {front all : List ℕ} → Begins front all → {now : Outside} → Starved start (bodies_of front) now → Starved start (bodies_of all) now
+starved_further {front = front} begins starved =
+    let more = bodies_of (rest_of front ++ begins.more) in
+    record {
+      answered = starved.answered;
+      body = starved.body;
+      later = starved.later ++ more;
+      frames = ap bodies_of (sym begins.whole) ∙ bodies_of-append front begins.more ∙ ap (λ (b : List (List ℕ)). b ++ more) starved.frames
+          ∙ append_assoc starved.answered (starved.body ∷ starved.later) more;
+      x = starved.x;
+      accepted = starved.accepted;
+      takes = starved.takes;
+      sent = starved.sent;
+    }
 
 -- before the first frame
 pub expected-none : (start : Start) → expected start [] ≡ start.opening

@@ -10,4 +10,5 @@ pub mod Reading
 pub mod Asking
 pub mod Ending
 pub mod Statuses
+pub mod Starving
 pub mod Beginning

@@ -4,7 +4,7 @@ use Rattle.std.specs.Prelude.{Result, Ok, Err, IfOk}
 use Rattle.host_core.specs.declared.fault.Fault.{Fault}
 use Rattle.host_core.specs.declared.fault.Fault.TheVariants as fault
 use Rattle.host_core.specs.declared.status.Status.{Status}
-use Rattle.host_core.specs.declared.status.Status.TheVariants.{ReadFault}
+use Rattle.host_core.specs.declared.status.Status.TheVariants.{ReadFault, NoMemory}
 use Rattle.host_core.specs.Faults.{Causes}
 use Rattle.host_core.specs.Outside.{Outside}
 use Rattle.engine_core.specs.Ends.{IsEnd, Told, answer_of}
@@ -18,6 +18,11 @@ pub at_a_read : (result : Result Status Fault) → IfOk result IsEnd → answer_
 at_a_read (Ok s) end is = absurd (subst IsEnd is end)
 at_a_read (Err fault.Read) end is = refl
 at_a_read (Err f) end is = absurd cc
+
+pub at_no_memory : (result : Result Status Fault) → IfOk result IsEnd → answer_of result ≡ NoMemory → result ≡ Err fault.Memory
+at_no_memory (Ok s) end is = absurd (subst IsEnd is end)
+at_no_memory (Err fault.Memory) end is = refl
+at_no_memory (Err f) end is = absurd cc
 
 pub told_of : (result : Result Status Fault) (old new : Outside) → IfOk result IsEnd → Causes result old new → Told (answer_of result) old new
 told_of result old new end causes = grind arith

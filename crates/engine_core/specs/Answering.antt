@@ -1,5 +1,8 @@
 -- Frames that wait to be answered.
-use Rattle.std.specs.Prelude.{◌≡◌, ℕ, List, ◌++◌, length, Option}
+use Rattle.std.specs.Prelude.{◌≡◌, ℕ, List, ◌++◌, length, Option, Ok}
+use Rattle.std.specs.Io.KnownBytes.{append_known}
+use Rattle.wire_in.specs.declared.record.Record.{Record}
+use Rattle.market_core.specs.Kinds.{TakesMemory}
 use Rattle.engine_core.specs.declared.engine.Engine.{Engine}
 use Rattle.engine_core.specs.Pending.{Expects}
 use Rattle.engine_core.specs.EngineState.{Represents}
@@ -20,3 +23,10 @@ pub record Answers (start : Start) (all : List (List ℕ)) (number : ℕ) (outco
   pub answered : List (List ℕ)
   pub waits : Waits start answered all number outcomes engine
   pub pending_is : Expects start.sent sent outbox (expected start answered)
+
+-- memory was short for this record of a frame, which takes memory, and all that was expected before it was sent
+pub record IsShort (outcome : Outcome) (begin now : Option (List ℕ)) (text : List ℕ) : Type 0 where
+  pub x : Record
+  pub is : outcome ≡ Ok x
+  pub takes : TakesMemory x
+  pub sent : now ≡ append_known begin text

@@ -8,6 +8,7 @@ use Rattle.market_core.specs.MarketState.{most_messages}
 use Rattle.engine_core.specs.declared.engine.Engine.{Engine}
 use Rattle.engine_core.specs.declared.session.Session.{Session}
 use Rattle.engine_core.specs.Answering.{Waits}
+use Rattle.engine_core.specs.EngineState.{IsRoomy}
 use Rattle.engine_core.specs.Pending.{Expects}
 use Rattle.engine_core.specs.Rounds.{Outcome, records_in}
 use Rattle.engine_core.specs.Sessions.{Start, held_after, expected}
@@ -31,13 +32,14 @@ pub record Reads (holds : List Record → Outside → Type 0) (start : Start) (i
   pub there : count ≤ length input
   pub serves : Serves holds start (take count input) session now
 
--- Admission has accepted what was evaluated and what waits, within its capacity, and counts stay far below the ends of
--- their types.
+-- Admission has accepted what was evaluated and what waits, within its capacity, counts stay far below the ends of their
+-- types, and there is room for messages.
 pub record IsSound (engine : Engine) (outcomes : List Outcome) (answered : ℕ) : Type 0 where
   pub within : engine.admission.count ≤ engine.admission.capacity
   pub count : engine.admission.count ≡ engine.evaluated + length (records_in outcomes)
   pub few : engine.published ≤ most_messages * engine.evaluated
   pub small : engine.evaluated ≤ 2 ^ 32 + answered
+  pub roomy : IsRoomy engine
 
 -- and the keeper has room for every record that admission may still accept
 pub record IsReady (has_room : ℕ → Type 0) (session : Session) : Type 0 where

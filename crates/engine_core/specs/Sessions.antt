@@ -1,11 +1,12 @@
 -- What a session expects to send, and what a stop of it may leave.
-use Rattle.std.specs.Prelude.{◌≡◌, ℕ, ◌≤◌, Bool, true, false, List, [], ◌∷◌, ◌++◌, length, take, drop, Option, Some}
+use Rattle.std.specs.Prelude.{◌≡◌, ℕ, ◌≤◌, Bool, true, false, List, [], ◌∷◌, ◌++◌, length, take, drop, Option, Some, Ok}
 use Rattle.std.specs.Io.KnownBytes.{append_known}
 use Rattle.host_core.specs.Outside.{Outside, Ask, Agrees}
 use Rattle.wire_in.specs.declared.record.Record.{Record}
 use Rattle.wire_in.specs.Cutting.{bodies_of}
 use Rattle.wire_out.specs.declared.message.Frame.{Frame}
-use Rattle.rulebook.specs.Sent.{accepted_of, replies, unacknowledged, spelled}
+use Rattle.rulebook.specs.Sent.{accepted_of, judged, replies, unacknowledged, spelled}
+use Rattle.market_core.specs.Kinds.{TakesMemory}
 
 -- What a session begins with: the capacity of records, the records that are held, the newest first, whether accepted
 -- records are acknowledged, what is sent before the first frame is answered, and what was sent before, where it is known.
@@ -46,6 +47,18 @@ pub record Answered (holds : List Record → Outside → Type 0) (start : Start)
   pub there : count ≤ length input
   pub sent : now.sent ≡ append_known start.sent (expected start (bodies_of (take count input)))
   pub held : holds (held_after start (bodies_of (take count input))) now
+
+-- All that is expected for some of the first frames, and no more, was sent, and the frame behind them brings a Listing or a
+-- Trade that is accepted.
+pub record Starved (start : Start) (bodies : List (List ℕ)) (now : Outside) : Type 0 where
+  pub answered : List (List ℕ)
+  pub body : List ℕ
+  pub later : List (List ℕ)
+  pub frames : bodies ≡ answered ++ body ∷ later
+  pub x : Record
+  pub accepted : judged start.capacity (held_after start answered) body ≡ Ok x
+  pub takes : TakesMemory x
+  pub sent : now.sent ≡ append_known start.sent (expected start answered)
 
 -- When a read began, some of the first bytes of the input had been read, and all that is expected for the whole frames
 -- among them, no more and no less, had been sent.

@@ -1,6 +1,6 @@
 //! Admission and the market, kept from record to record.
 
-ghost use Rattle.std.specs.Prelude.{◌≡◌, ◌+◌, ◌*◌, ◌<◌, ◌≤◌, ◌^◌, ◌∷◌, [], ℕ, List, None, IfOk, IfErr, OnOk, OnErr, length, vec_len};
+ghost use Rattle.std.specs.Prelude.{◌≡◌, ◌+◌, ◌*◌, ◌<◌, ◌≤◌, ◌^◌, ◌∷◌, [], ℕ, List, None, IfOk, IfErr, OnOk, OnErr, length, vec_len, vec_capacity};
 ghost use Rattle.wire_in.specs.declared.record.Record.{Record};
 ghost use Rattle.wire_in.specs.Spelling.{InRange};
 ghost use Rattle.rulebook.specs.Admission.{verdict};
@@ -8,10 +8,12 @@ ghost use Rattle.rulebook.specs.Sent.{judged};
 ghost use Rattle.rulebook.specs.Book.{newest_messages};
 ghost use Rattle.market_core.specs.AdmissionState as admissions;
 ghost use Rattle.market_core.specs.AdmissionState.{refusal_of};
+ghost use Rattle.market_core.specs.Kinds.{TakesMemory};
 ghost use Rattle.market_core.specs.MarketState.{most_messages};
+ghost use Rattle.engine_core.specs.EngineState.{HasRoomFor};
 
 use crate::round::Outcome;
-use market_core::{Admission, Market};
+use market_core::{Admission, Market, most_messages_of};
 use price_core::NoMemory;
 use std::alloc::Global;
 use wire_in::{Record, decode};
@@ -42,40 +44,65 @@ pub fn judge(admission: &Admission, body: &[u8]) -> Outcome
     }
 }
 
+/// Empties a list of messages, and at a Listing takes room for those of one stock more.
+fn make_room(messages: &mut Vec<Stamped>, market: &Market, x: &Record) -> Result<(), NoMemory>
+    ensures items { OnOk result (messages.new.items ≡ []) }
+    ensures kept { vec_capacity messages.old ≤ vec_capacity messages.new }
+    ensures room { OnOk result (HasRoomFor x.now (length market.now.directory) (vec_capacity messages.new)) }
+    ensures starved { OnErr result (TakesMemory x.now) }
+{
+    messages.clear();
+    let Record::Listing { .. } = x else {
+        return Ok(());
+    };
+    messages.reserve(most_messages_of(market.names() + 1))?;
+    Ok(())
+}
+
 impl Engine {
-    ghost use Rattle.engine_core.specs.EngineState.{Represents};
+    ghost use Rattle.engine_core.specs.EngineState.{Represents, IsRoomy};
 
     /// An engine of no records, under a capacity of records.
     pub fn new(alloc: Global, capacity: u64) -> Result<Engine, NoMemory>
         ensures represents { IfOk result (λ engine. Represents engine capacity [] []) }
+        ensures roomy { IfOk result IsRoomy }
         ensures none { IfOk result (λ engine. engine.admission.count ≡ 0) }
         ensures evaluated { IfOk result (λ engine. engine.evaluated ≡ 0) }
         ensures published { IfOk result (λ engine. engine.published ≡ 0) }
     {
+        let admission = Admission::new(alloc, capacity)?;
+        let market = Market::new(alloc)?;
+        let messages = Vec::with_capacity(alloc, most_messages_of(market.names()))?;
         Ok(Engine {
-            admission: Admission::new(alloc, capacity)?,
-            market: Market::new(alloc)?,
-            messages: Vec::new(alloc),
+            admission,
+            market,
+            messages,
             evaluated: 0,
             published: 0,
         })
     }
 
-    /// Admits a record that is admissible after the accepted ones. It waits to be evaluated.
-    pub fn admit(&mut self, x: &Record) -> Result<(), NoMemory>
-        requires { refusal_of self.old.admission x.now ≡ None }
-        ensures represents { (capacity : ℕ) (accepted evaluated : List Record) → Represents self.old capacity accepted evaluated
-            → OnOk result (Represents self.new capacity (x.now ∷ accepted) evaluated) }
-        ensures rest { self.new ≡ record self.old { admission = self.new.admission } }
-        ensures count { OnOk result (self.new.admission.count ≡ self.old.admission.count + 1) }
-        ensures capacity { self.new.admission.capacity ≡ self.old.admission.capacity }
-        ensures err { OnErr result (self.new ≡ self.old) }
+    /// Puts another capacity of records in.
+    pub fn limit(&mut self, capacity: u64)
+        ensures { self.new ≡ record self.old { admission = record self.old.admission { capacity = capacity } } }
     {
-        self.admission.admit(x)
+        self.admission.limit(capacity);
     }
 
-    /// Evaluates the oldest of the accepted records that wait, and keeps its messages. After an error the engine is of no
-    /// further use.
+    /// Admits a record that is admissible after the accepted ones. It waits to be evaluated.
+    pub fn admit(&mut self, x: &Record)
+        requires { refusal_of self.old.admission x.now ≡ None }
+        ensures represents { (capacity : ℕ) (accepted evaluated : List Record) → Represents self.old capacity accepted evaluated
+            → Represents self.new capacity (x.now ∷ accepted) evaluated }
+        ensures rest { self.new ≡ record self.old { admission = self.new.admission } }
+        ensures count { self.new.admission.count ≡ self.old.admission.count + 1 }
+        ensures capacity { self.new.admission.capacity ≡ self.old.admission.capacity }
+    {
+        self.admission.admit(x).unwrap();
+    }
+
+    /// Evaluates the oldest of the accepted records that wait, and keeps its messages. It takes memory at a Listing and a
+    /// Trade alone. After an error the engine is of no further use.
     pub fn evaluate(&mut self, x: &Record) -> Result<(), NoMemory>
         requires room { self.old.published + most_messages < 2 ^ 64 }
         requires count { self.old.evaluated + 1 < 2 ^ 64 }
@@ -87,8 +114,10 @@ impl Engine {
         ensures evaluated { OnOk result (self.new.evaluated ≡ self.old.evaluated + 1) }
         ensures published { OnOk result (self.new.published ≡ self.old.published + vec_len self.new.messages) }
         ensures few { OnOk result (vec_len self.new.messages ≤ most_messages) }
+        ensures roomy { IsRoomy self.old → OnOk result (IsRoomy self.new) }
+        ensures starved { IsRoomy self.old → OnErr result (TakesMemory x.now) }
     {
-        self.messages.clear();
+        make_room(&mut self.messages, &self.market, x)?;
         self.market.apply(x, &mut self.messages)?;
         self.evaluated += 1;
         self.published += self.messages.len() as u64;

@@ -9,7 +9,7 @@ ghost use Rattle.wire_in.specs.declared.record.Record.{Record};
 ghost use Rattle.wire_in.specs.Cutting.{pending, bodies_of, rest_of};
 ghost use Rattle.engine_core.specs.Ends.{IsEnd, ReadsAtMost, end_of};
 ghost use Rattle.engine_core.specs.Pending.{Expects, SendsPrefix};
-ghost use Rattle.engine_core.specs.Sessions.{Start, IsSafe, Answered, Prompt, expected};
+ghost use Rattle.engine_core.specs.Sessions.{Start, IsSafe, Answered, Prompt, Starved, expected};
 ghost use Rattle.engine_core.specs.Serving.{Reads, IsReady, TakesPiece, OnlyExchanges};
 
 use crate::keeper::Keeper;
@@ -55,6 +55,7 @@ fn exchange<H: Host>(
     ensures keeps { OnlyExchanges (H.outside host.old) (H.outside host.new) }
     ensures causes { Causes result (H.outside host.old) (H.outside host.new) }
     ensures unkept { result ≢ Err Fault.Disk }
+    ensures unstarved { result ≢ Err Fault.Memory }
 {
     let Ok(()) = outbox.flush(host) else {
         return Err(Fault::Send);
@@ -108,6 +109,8 @@ pub fn serve_input<K: Keeper, H: Host>(
         → Elapses (H.outside host.old) (H.outside host.new) (IsSafe (K.recovers keeper.old (H.outside host.old)) start (bodies_of (take most input))) }
     ensures prompt { (start : Start) (input : List ℕ) → start.acknowledges ≡ K.acknowledges → Reads (K.holds keeper.old) start input 0 session.old (H.outside host.old)
         → Prompt start input (H.outside host.old).asks (H.outside host.new).asks }
+    ensures starved { (start : Start) (input : List ℕ) → start.acknowledges ≡ K.acknowledges → Reads (K.holds keeper.old) start input 0 session.old (H.outside host.old)
+        → result ≡ Err Fault.Memory → Starved start (bodies_of (take most input)) (H.outside host.new) }
     ensures bytes { ReadsAtMost most (H.outside host.old).input (H.outside host.new).input }
     ensures touches { K.touches (H.outside host.old) (H.outside host.new) }
     ensures continues { Continues (H.outside host.old) (H.outside host.new) }

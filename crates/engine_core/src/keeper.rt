@@ -71,5 +71,6 @@ pub trait Keeper {
         ensures keeps { OnlyWrites (H.outside host.old) (H.outside host.new) }
         ensures causes { Causes result (H.outside host.old) (H.outside host.new) }
         ensures unread { result ≢ Err Fault.Read }
-        ensures unkept { result ≡ Err Fault.Disk → fails };
+        ensures unkept { result ≡ Err Fault.Disk → fails }
+        ensures unstarved { result ≢ Err Fault.Memory };
 }

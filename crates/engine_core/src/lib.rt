@@ -16,6 +16,6 @@ pub use engine::{Engine, judge};
 pub use input::{PIECE, serve_input};
 pub use keeper::Keeper;
 pub use outbox::Outbox;
-pub use reply::append_messages;
+pub use reply::{append_messages, evaluate};
 pub use round::{Outcome, Round};
 pub use session::Session;

@@ -1,6 +1,6 @@
 //! Frames that wait to be sent together.
 
-ghost use Rattle.std.specs.Prelude.{◌≡◌, ◌≢◌, ◌+◌, ◌≤◌, ◌++◌, [], ℕ, List, Option, length, Err, OnOk, OnErr, IfOk, IfErr};
+ghost use Rattle.std.specs.Prelude.{◌≡◌, ◌+◌, ◌≤◌, ◌++◌, [], ℕ, List, Option, length, OnOk, OnErr, IfOk, IfErr};
 ghost use Rattle.std.specs.Io.KnownBytes.{append_known};
 ghost use Rattle.host_core.specs.Outside.{Elapses};
 ghost use Rattle.host_core.specs.Frames.{OnlySends};
@@ -71,8 +71,7 @@ impl Outbox {
             → Elapses (H.outside host.old) (H.outside host.new) (SendsPrefix begin text (H.outside host.old)) }
         ensures keeps { OnlySends (H.outside host.old) (H.outside host.new) }
         ensures causes { Causes result (H.outside host.old) (H.outside host.new) }
-        ensures unread { result ≢ Err Fault.Read }
-        ensures unkept { result ≢ Err Fault.Disk }
+        ensures fault { IfErr result (λ fault. fault ≡ Fault.Send) }
     {
         if self.bytes.len() + FRAME <= CAPACITY {
             return Ok(());
@@ -99,8 +98,7 @@ impl Outbox {
             → Elapses (H.outside host.old) (H.outside host.new) (SendsPrefix begin text (H.outside host.old)) }
         ensures keeps { OnlySends (H.outside host.old) (H.outside host.new) }
         ensures causes { Causes result (H.outside host.old) (H.outside host.new) }
-        ensures unread { result ≢ Err Fault.Read }
-        ensures unkept { result ≢ Err Fault.Disk }
+        ensures fault { IfErr result (λ fault. fault ≡ Fault.Send) }
     {
         self.make_room(host)?;
         self.write(frame);

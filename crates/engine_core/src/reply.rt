@@ -1,16 +1,18 @@
 //! What is sent for a frame, appended to what waits.
 
-ghost use Rattle.std.specs.Prelude.{◌≡◌, ◌≢◌, ◌+◌, ◌*◌, ◌<◌, ◌≤◌, ◌^◌, ◌++◌, ◌∷◌, [], ℕ, Bool, true, List, Option, None, IfOk, Err, OnOk, length};
+ghost use Rattle.std.specs.Prelude.{◌≡◌, ◌≢◌, ◌+◌, ◌*◌, ◌<◌, ◌≤◌, ◌^◌, ◌++◌, ◌∷◌, [], ℕ, Bool, true, List, Option, None, Ok, Err, IfErr, OnOk, length, vec_len};
+ghost use Rattle.std.specs.Io.KnownBytes.{append_known};
 ghost use Rattle.host_core.specs.Outside.{Elapses};
 ghost use Rattle.host_core.specs.Frames.{OnlySends};
-ghost use Rattle.host_core.specs.Faults.{Causes};
+ghost use Rattle.host_core.specs.Faults.{Causes, HasCause};
 ghost use Rattle.wire_in.specs.declared.record.Record.{Record};
 ghost use Rattle.rulebook.specs.Admission.{verdict};
 ghost use Rattle.rulebook.specs.Sent.{spelled, numbered, refused, accepted, reply, with_record};
 ghost use Rattle.rulebook.specs.Book.{messages_of, newest_messages};
 ghost use Rattle.market_core.specs.MarketState.{most_messages};
 ghost use Rattle.engine_core.specs.Pending.{Expects, SendsPrefix};
-ghost use Rattle.engine_core.specs.EngineState.{Represents};
+ghost use Rattle.engine_core.specs.EngineState.{Represents, IsRoomy};
+ghost use Rattle.engine_core.specs.Answering.{IsShort};
 ghost use Rattle.engine_core.specs.Rounds.{IsAdmissible, records_in};
 ghost use Rattle.engine_core.specs.Sessions.{with_acknowledgements};
 
@@ -35,8 +37,7 @@ pub fn append_messages<H: Host>(
         → Elapses (H.outside host.old) (H.outside host.new) (SendsPrefix begin (text ++ spelled (numbered before messages.now)) (H.outside host.old)) }
     ensures keeps { OnlySends (H.outside host.old) (H.outside host.new) }
     ensures causes { Causes result (H.outside host.old) (H.outside host.new) }
-    ensures unread { result ≢ Err Fault.Read }
-    ensures unkept { result ≢ Err Fault.Disk }
+    ensures fault { IfErr result (λ fault. fault ≡ Fault.Send) }
 {
     let mut number = before;
     for message in messages {
@@ -63,13 +64,64 @@ fn acknowledge<H: Host>(
         → Elapses (H.outside host.old) (H.outside host.new) (SendsPrefix begin text (H.outside host.old)) }
     ensures keeps { OnlySends (H.outside host.old) (H.outside host.new) }
     ensures causes { Causes result (H.outside host.old) (H.outside host.new) }
-    ensures unread { result ≢ Err Fault.Read }
-    ensures unkept { result ≢ Err Fault.Disk }
+    ensures fault { IfErr result (λ fault. fault ≡ Fault.Send) }
 {
     if !acknowledges {
         return Ok(());
     }
     outbox.append(host, &Frame::Ack { input })
+}
+
+/// Sends what waits, since memory is short. It answers so, or that the send failed.
+fn give_up<H: Host>(outbox: &mut Outbox, host: &mut H) -> Fault
+    ensures sent { (begin : Option (List ℕ)) (text : List ℕ) → Expects begin (H.outside host.old).sent outbox.old text
+        → result ≡ Fault.Memory → (H.outside host.new).sent ≡ append_known begin text }
+    ensures moments { (begin : Option (List ℕ)) (text : List ℕ) → Expects begin (H.outside host.old).sent outbox.old text
+        → Elapses (H.outside host.old) (H.outside host.new) (SendsPrefix begin text (H.outside host.old)) }
+    ensures keeps { OnlySends (H.outside host.old) (H.outside host.new) }
+    ensures cause { HasCause result (H.outside host.old) (H.outside host.new) }
+    ensures unread { result ≢ Fault.Read }
+    ensures unkept { result ≢ Fault.Disk }
+{
+    match outbox.flush(host) {
+        Ok(()) => Fault::Memory,
+        Err(fault) => fault,
+    }
+}
+
+/// Evaluates a record. Where memory is short, what waits is sent before that is told.
+pub fn evaluate<H: Host>(
+    engine: &mut Engine,
+    outbox: &mut Outbox,
+    host: &mut H,
+    x: &Record,
+) -> Result<(), Fault>
+    requires room { engine.old.published + most_messages < 2 ^ 64 }
+    requires count { engine.old.evaluated + 1 < 2 ^ 64 }
+    ensures represents { (capacity : ℕ) (accepted evaluated : List Record) → Represents engine.old capacity accepted evaluated → verdict capacity evaluated x.now ≡ None
+        → OnOk result (Represents engine.new capacity accepted (x.now ∷ evaluated)) }
+    ensures messages { (capacity : ℕ) (accepted evaluated : List Record) → Represents engine.old capacity accepted evaluated → verdict capacity evaluated x.now ≡ None
+        → OnOk result (engine.new.messages.items ≡ newest_messages (x.now ∷ evaluated)) }
+    ensures admission { engine.new.admission ≡ engine.old.admission }
+    ensures evaluated { OnOk result (engine.new.evaluated ≡ engine.old.evaluated + 1) }
+    ensures published { OnOk result (engine.new.published ≡ engine.old.published + vec_len engine.new.messages) }
+    ensures few { OnOk result (vec_len engine.new.messages ≤ most_messages) }
+    ensures pending { (begin : Option (List ℕ)) (text : List ℕ) → Expects begin (H.outside host.old).sent outbox.old text
+        → OnOk result (Expects begin (H.outside host.new).sent outbox.new text) }
+    ensures moments { (begin : Option (List ℕ)) (text : List ℕ) → Expects begin (H.outside host.old).sent outbox.old text
+        → Elapses (H.outside host.old) (H.outside host.new) (SendsPrefix begin text (H.outside host.old)) }
+    ensures keeps { OnlySends (H.outside host.old) (H.outside host.new) }
+    ensures causes { Causes result (H.outside host.old) (H.outside host.new) }
+    ensures unread { result ≢ Err Fault.Read }
+    ensures unkept { result ≢ Err Fault.Disk }
+    ensures roomy { IsRoomy engine.old → OnOk result (IsRoomy engine.new) }
+    ensures starved { (begin : Option (List ℕ)) (text : List ℕ) → IsRoomy engine.old → Expects begin (H.outside host.old).sent outbox.old text
+        → result ≡ Err Fault.Memory → IsShort (Ok x.now) begin (H.outside host.new).sent text }
+{
+    match engine.evaluate(x) {
+        Ok(()) => Ok(()),
+        Err(_) => Err(give_up(outbox, host)),
+    }
 }
 
 /// Evaluates a record, and appends its messages.
@@ -96,9 +148,12 @@ fn publish<H: Host>(
     ensures causes { Causes result (H.outside host.old) (H.outside host.new) }
     ensures unread { result ≢ Err Fault.Read }
     ensures unkept { result ≢ Err Fault.Disk }
+    ensures roomy { IsRoomy engine.old → OnOk result (IsRoomy engine.new) }
+    ensures starved { (begin : Option (List ℕ)) (text : List ℕ) → IsRoomy engine.old → Expects begin (H.outside host.old).sent outbox.old text
+        → result ≡ Err Fault.Memory → IsShort (Ok x.now) begin (H.outside host.new).sent text }
 {
     let before = engine.published;
-    engine.evaluate(x)?;
+    evaluate(engine, outbox, host, x)?;
     append_messages(outbox, host, before, &engine.messages)
 }
 
@@ -127,6 +182,9 @@ fn answer_record<H: Host>(
     ensures causes { Causes result (H.outside host.old) (H.outside host.new) }
     ensures unread { result ≢ Err Fault.Read }
     ensures unkept { result ≢ Err Fault.Disk }
+    ensures roomy { IsRoomy engine.old → OnOk result (IsRoomy engine.new) }
+    ensures starved { (begin : Option (List ℕ)) (text : List ℕ) → IsRoomy engine.old → Expects begin (H.outside host.old).sent outbox.old text
+        → result ≡ Err Fault.Memory → IsShort (Ok x.now) begin (H.outside host.new).sent text }
 {
     publish(engine, outbox, host, x)?;
     acknowledge(outbox, host, acknowledges, engine.evaluated)
@@ -145,8 +203,7 @@ fn refuse<H: Host>(
         → Elapses (H.outside host.old) (H.outside host.new) (SendsPrefix begin (text ++ spelled (with_acknowledgements acknowledges (refused number refusal))) (H.outside host.old)) }
     ensures keeps { OnlySends (H.outside host.old) (H.outside host.new) }
     ensures causes { Causes result (H.outside host.old) (H.outside host.new) }
-    ensures unread { result ≢ Err Fault.Read }
-    ensures unkept { result ≢ Err Fault.Disk }
+    ensures fault { IfErr result (λ fault. fault ≡ Fault.Send) }
 {
     let frame = Frame::Refused {
         place: number,
@@ -182,6 +239,9 @@ pub fn answer<H: Host>(
     ensures causes { Causes result (H.outside host.old) (H.outside host.new) }
     ensures unread { result ≢ Err Fault.Read }
     ensures unkept { result ≢ Err Fault.Disk }
+    ensures roomy { IsRoomy engine.old → OnOk result (IsRoomy engine.new) }
+    ensures starved { (begin : Option (List ℕ)) (text : List ℕ) → IsRoomy engine.old → Expects begin (H.outside host.old).sent outbox.old text
+        → result ≡ Err Fault.Memory → IsShort outcome.now begin (H.outside host.new).sent text }
 {
     match outcome {
         Ok(x) => answer_record(engine, outbox, host, acknowledges, x),

@@ -14,7 +14,7 @@ ghost use Rattle.market_core.specs.AdmissionState.{refusal_of};
 ghost use Rattle.engine_core.specs.Pending.{SendsPrefix};
 ghost use Rattle.engine_core.specs.EngineState.{Represents};
 ghost use Rattle.engine_core.specs.Rounds.{Outcome, records_in};
-ghost use Rattle.engine_core.specs.Sessions.{Start, IsSafe, expected};
+ghost use Rattle.engine_core.specs.Sessions.{Start, IsSafe, Starved, expected};
 ghost use Rattle.engine_core.specs.Answering.{Answers};
 ghost use Rattle.engine_core.specs.Serving.{Serves, IsSound, IsReady, Keeps, OnlyAnswers};
 
@@ -25,7 +25,6 @@ use crate::reply::answer;
 use crate::round::{Outcome, Round};
 use host_core::{Fault, Host};
 use journal_core::BATCH_MAX;
-use price_core::NoMemory;
 use wire_in::Cutter;
 
 /// What is kept from piece to piece: the frame begun, the accepted records' engine, the frames that were judged and wait to
@@ -40,18 +39,18 @@ pub struct Session {
 }
 
 /// Admits the record of a frame, where it is accepted.
-fn admit(engine: &mut Engine, outcome: &Outcome) -> Result<(), NoMemory>
+fn admit(engine: &mut Engine, outcome: &Outcome)
     requires admissible { IfOk outcome.now (λ x. refusal_of engine.old.admission x ≡ None) }
     ensures represents { (capacity : ℕ) (accepted evaluated : List Record) → Represents engine.old capacity accepted evaluated
-        → OnOk result (Represents engine.new capacity (with_record accepted outcome.now) evaluated) }
+        → Represents engine.new capacity (with_record accepted outcome.now) evaluated }
     ensures rest { engine.new ≡ record engine.old { admission = engine.new.admission } }
-    ensures count { OnOk result (engine.new.admission.count ≡ engine.old.admission.count + length (records_in (outcome.now ∷ []))) }
-    ensures within { engine.old.admission.count ≤ engine.old.admission.capacity → OnOk result (engine.new.admission.count ≤ engine.new.admission.capacity) }
+    ensures count { engine.new.admission.count ≡ engine.old.admission.count + length (records_in (outcome.now ∷ [])) }
+    ensures within { engine.old.admission.count ≤ engine.old.admission.capacity → engine.new.admission.count ≤ engine.new.admission.capacity }
     ensures capacity { engine.new.admission.capacity ≡ engine.old.admission.capacity }
 {
     match outcome {
         Ok(x) => engine.admit(x),
-        Err(_) => Ok(()),
+        Err(_) => {}
     }
 }
 
@@ -79,6 +78,9 @@ fn answer_each<H: Host>(
     ensures causes { Causes result (H.outside host.old) (H.outside host.new) }
     ensures unread { result ≢ Err Fault.Read }
     ensures unkept { result ≢ Err Fault.Disk }
+    ensures starved { (start : Start) (all : List (List ℕ)) → acknowledges ≡ start.acknowledges
+        → Answers start all answered outcomes.now engine.old outbox.old (H.outside host.old).sent
+        → result ≡ Err Fault.Memory → Starved start all (H.outside host.new) }
 {
     let mut number = answered;
     for outcome in outcomes {
@@ -111,6 +113,9 @@ fn answer_round<H: Host>(
     ensures causes { Causes result (H.outside host.old) (H.outside host.new) }
     ensures unread { result ≢ Err Fault.Read }
     ensures unkept { result ≢ Err Fault.Disk }
+    ensures starved { (start : Start) (all : List (List ℕ)) → acknowledges ≡ start.acknowledges
+        → Answers start all session.old.answered session.old.round session.old.engine session.old.outbox (H.outside host.old).sent
+        → result ≡ Err Fault.Memory → Starved start all (H.outside host.new) }
 {
     answer_each(
         &mut session.engine,
@@ -145,6 +150,7 @@ fn keep_round<K: Keeper, H: Host>(
     ensures causes { Causes result (H.outside host.old) (H.outside host.new) }
     ensures unread { result ≢ Err Fault.Read }
     ensures unkept { result ≡ Err Fault.Disk → K.fails }
+    ensures unstarved { result ≢ Err Fault.Memory }
 {
     let batch = session.round.accepted();
     if batch.is_empty() {
@@ -174,6 +180,8 @@ fn settle<K: Keeper, H: Host>(
     ensures causes { Causes result (H.outside host.old) (H.outside host.new) }
     ensures unread { result ≢ Err Fault.Read }
     ensures unkept { result ≡ Err Fault.Disk → K.fails }
+    ensures starved { (start : Start) (read : List ℕ) → start.acknowledges ≡ K.acknowledges → Serves (K.holds keeper.old) start read session.old (H.outside host.old)
+        → result ≡ Err Fault.Memory → Starved start (bodies_of read) (H.outside host.new) }
 {
     keep_round(session, keeper, host)?;
     answer_round(session, host, keeper.acknowledges())
@@ -201,32 +209,31 @@ impl Session {
     }
 
     /// Judges the frame that the cutter has whole, and admits its record where it is accepted.
-    fn judge(&mut self) -> Result<(), NoMemory>
+    fn judge(&mut self)
         requires whole { IsTrue (is_frame self.old.cutter) }
         requires room { length self.old.round < BATCH_MAX }
-        ensures waits { OnOk result ((body : List ℕ) × (framed body ≡ self.old.cutter)
+        ensures waits { (body : List ℕ) × (framed body ≡ self.old.cutter)
             × ((start : Start) (answered all : List (List ℕ)) → Waits start answered all self.old.answered self.old.round self.old.engine
-            → Waits start answered (all ++ body ∷ []) self.new.answered self.new.round self.new.engine)) }
-        ensures more { OnOk result (length self.new.round ≡ length self.old.round + 1) }
-        ensures sound { IsSound self.old.engine self.old.round self.old.answered → OnOk result (IsSound self.new.engine self.new.round self.new.answered) }
+            → Waits start answered (all ++ body ∷ []) self.new.answered self.new.round self.new.engine) }
+        ensures more { length self.new.round ≡ length self.old.round + 1 }
+        ensures sound { IsSound self.old.engine self.old.round self.old.answered → IsSound self.new.engine self.new.round self.new.answered }
         ensures rest { self.new ≡ record self.old { engine = record self.old.engine { admission = self.new.engine.admission }; round = self.new.round } }
         ensures capacity { self.new.engine.admission.capacity ≡ self.old.engine.admission.capacity }
     {
         let outcome = judge(&self.engine.admission, self.cutter.body());
-        admit(&mut self.engine, &outcome)?;
+        admit(&mut self.engine, &outcome);
         self.round.push(&outcome);
-        Ok(())
     }
 
     /// Takes bytes up to the end of a frame or of the piece, and judges the frame if it is whole. Answers how many bytes
     /// it took.
-    fn advance(&mut self, piece: &[u8]) -> Result<usize, NoMemory>
+    fn advance(&mut self, piece: &[u8]) -> usize
         requires room { length self.old.round < BATCH_MAX }
-        ensures used { IfOk result (λ n. (n ≤ length piece.now) × (0 < length piece.now → 0 < n)) }
+        ensures used { (result ≤ length piece.now) × (0 < length piece.now → 0 < result) }
         ensures judges { (start : Start) (answered : List (List ℕ)) (read : List ℕ) → Judges start answered read self.old
-            → IfOk result (λ n. Judges start answered (read ++ take n piece.now) self.new) }
-        ensures more { OnOk result (length self.new.round ≤ length self.old.round + 1) }
-        ensures sound { IsSound self.old.engine self.old.round self.old.answered → OnOk result (IsSound self.new.engine self.new.round self.new.answered) }
+            → Judges start answered (read ++ take result piece.now) self.new }
+        ensures more { length self.new.round ≤ length self.old.round + 1 }
+        ensures sound { IsSound self.old.engine self.old.round self.old.answered → IsSound self.new.engine self.new.round self.new.answered }
         ensures capacity { self.new.engine.admission.capacity ≡ self.old.engine.admission.capacity }
         ensures evaluated { self.new.engine.evaluated ≡ self.old.engine.evaluated }
         ensures outbox { self.new.outbox ≡ self.old.outbox }
@@ -234,22 +241,22 @@ impl Session {
     {
         let cut = self.cutter.take(piece);
         if !cut.whole {
-            return Ok(cut.used);
+            return cut.used;
         }
-        self.judge()?;
-        Ok(cut.used)
+        self.judge();
+        cut.used
     }
 
     /// Takes bytes of a piece from a place on, up to its end or until so many frames wait. Answers the place behind them.
-    fn fill(&mut self, frames: usize, piece: &[u8], from: usize) -> Result<usize, NoMemory>
+    fn fill(&mut self, frames: usize, piece: &[u8], from: usize) -> usize
         requires frames { (1 ≤ frames) × (frames ≤ BATCH_MAX) }
         requires empty { self.old.round ≡ [] }
         requires some { from < length piece.now }
-        ensures place { IfOk result (λ at. (from < at) × (at ≤ length piece.now)) }
+        ensures place { (from < result) × (result ≤ length piece.now) }
         ensures judges { (start : Start) (answered : List (List ℕ)) (read : List ℕ) → Judges start answered (read ++ take from piece.now) self.old
-            → IfOk result (λ at. Judges start answered (read ++ take at piece.now) self.new) }
-        ensures few { IfOk result (λ at. from + length self.new.round ≤ at) }
-        ensures sound { IsSound self.old.engine self.old.round self.old.answered → OnOk result (IsSound self.new.engine self.new.round self.new.answered) }
+            → Judges start answered (read ++ take result piece.now) self.new }
+        ensures few { from + length self.new.round ≤ result }
+        ensures sound { IsSound self.old.engine self.old.round self.old.answered → IsSound self.new.engine self.new.round self.new.answered }
         ensures capacity { self.new.engine.admission.capacity ≡ self.old.engine.admission.capacity }
         ensures evaluated { self.new.engine.evaluated ≡ self.old.engine.evaluated }
         ensures outbox { self.new.outbox ≡ self.old.outbox }
@@ -257,9 +264,9 @@ impl Session {
     {
         let mut at = from;
         while at < piece.len() && self.round.len() < frames {
-            at += self.advance(&piece[at..])?;
+            at += self.advance(&piece[at..]);
         }
-        Ok(at)
+        at
     }
 }
 
@@ -289,10 +296,12 @@ pub fn feed<K: Keeper, H: Host>(
     ensures causes { Causes result (H.outside host.old) (H.outside host.new) }
     ensures unread { result ≢ Err Fault.Read }
     ensures unkept { result ≡ Err Fault.Disk → K.fails }
+    ensures starved { (start : Start) (read : List ℕ) → start.acknowledges ≡ K.acknowledges → Serves (K.holds keeper.old) start read session.old (H.outside host.old)
+        → result ≡ Err Fault.Memory → Starved start (bodies_of (read ++ piece.now)) (H.outside host.new) }
 {
     let mut at = 0;
     while at < piece.len() {
-        at = session.fill(frames, piece, at)?;
+        at = session.fill(frames, piece, at);
         settle(session, keeper, host)?;
     }
     Ok(())

@@ -9,11 +9,11 @@ use Rattle.replay_core.specs.Replayed.{Replayed}
 use Rattle.halts.specs.declared.words.Command.{Command}
 use Rattle.halts.specs.declared.words.Command.TheVariants.{Format, Serve, Replay}
 
--- what a command promises
-abbrev pub Ran : Command → Status → Outside → Outside → Type 0
-Ran (Format limit) status old new = Formatted limit status old new
-Ran (Serve from bytes) status old new = Served from bytes status old new
-Ran (Replay bytes) status old new = Replayed bytes status old new
+-- what a command promises; what says that no call of the host was made is given
+abbrev pub Ran : Type 0 → Command → Status → Outside → Outside → Type 0
+Ran unbegun (Format limit) status old new = Formatted limit status old new
+Ran unbegun (Serve from bytes) status old new = Served unbegun from bytes status old new
+Ran unbegun (Replay bytes) status old new = Replayed unbegun bytes status old new
 
 -- the numbers of a command are in their ranges
 abbrev pub IsInRange : Command → Type 0

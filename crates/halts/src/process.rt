@@ -43,7 +43,7 @@ pub fn perform<Rt: Threads + Sync, H: Host>(
     ensures usage { (result ≡ Status.Usage) ↔ (asked (map (λ w. w.now) args.now) ≡ None) }
     ensures untouched { result ≡ Status.Usage → host.new ≡ host.old }
     // Each command keeps what it promises.
-    ensures ran { IfSome (asked (map (λ w. w.now) args.now)) (λ command. Ran command result (H.outside host.old) (H.outside host.new)) }
+    ensures ran { IfSome (asked (map (λ w. w.now) args.now)) (λ command. Ran (host.new ≡ host.old) command result (H.outside host.old) (H.outside host.new)) }
     ensures continues { Continues (H.outside host.old) (H.outside host.new) }
 {
     run(rt, alloc, words_behind(args), host)

@@ -35,7 +35,7 @@ fn obey<Rt: Threads + Sync, H: Host>(
     command: Command,
 ) -> Status
     requires { IsInRange command }
-    ensures ran { Ran command result (H.outside host.old) (H.outside host.new) }
+    ensures ran { Ran (host.new ≡ host.old) command result (H.outside host.old) (H.outside host.new) }
     ensures continues { Continues (H.outside host.old) (H.outside host.new) }
 {
     match command {
@@ -56,7 +56,7 @@ pub fn run<Rt: Threads + Sync, H: Host>(
     ensures usage { (result ≡ Status.Usage) ↔ (command_of (map (λ w. w.now) words.now) ≡ None) }
     ensures untouched { result ≡ Status.Usage → host.new ≡ host.old }
     // Each command keeps what it promises.
-    ensures ran { IfSome (command_of (map (λ w. w.now) words.now)) (λ command. Ran command result (H.outside host.old) (H.outside host.new)) }
+    ensures ran { IfSome (command_of (map (λ w. w.now) words.now)) (λ command. Ran (host.new ≡ host.old) command result (H.outside host.old) (H.outside host.new)) }
     ensures continues { Continues (H.outside host.old) (H.outside host.new) }
 {
     match parse(words) {

@@ -54,6 +54,7 @@ impl Scan {
         ensures settled { OnOk result (IsSettled (H.outside host.new)) }
         ensures no_journal { result ≡ Err ScanError.NoJournal → (disk : List ℕ) → (H.outside host.new).disk ≡ Some disk → HasNoHeader disk }
         ensures not_damaged { (at : ℕ) → result ≢ Err (ScanError.Damaged at) }
+        ensures unbegun { result ≡ Err ScanError.NoMemory → host.new ≡ host.old }
         ensures cause { result ≡ Err ScanError.DiskFault → Rose (H.outside host.old).disk_faults (H.outside host.new).disk_faults }
         ensures faultless { result ≢ Err ScanError.DiskFault → (H.outside host.new).disk_faults ≡ (H.outside host.old).disk_faults }
         ensures keeps { OnlyReadsDisk (H.outside host.old) (H.outside host.new) }

@@ -19,6 +19,7 @@ ready_of recovery known reading session is journal whole of_disk capacity count 
         count = omega (arith, reading.small.evaluated);
         few = reading.small.few;
         small = omega (arith, reading.small);
+        roomy = reading.roomy;
       };
       room = record { whole = whole; of_disk = of_disk; room = λ n le. omega (arith, le, reading.small, capacity, count, reading.capacity, reading.count) };
     })

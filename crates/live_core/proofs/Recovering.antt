@@ -2,6 +2,7 @@
 use Rattle.std.proofs.Common.{◌≡◌, ◌≢◌, inl, inr, ℕ, ◌+◌, ◌-◌, ◌<◌, ◌≤◌, List, [], ◌∷◌, ◌++◌, length, get_or, take, drop, None, refl, sym, ap, subst, ◌∙◌, append_assoc, arith}
 use Rattle.std.specs.Prelude.{Option, Some, Result, Ok, Err, IfErr, reverse}
 use Rattle.std.specs.Result.{IsErrAnd}
+use Rattle.std.specs.Io.KnownBytes.{append_known}
 use Rattle.std.proofs.lemmas.List.{reverse-append, drop_all, take_all, take_more, take-append-drop}
 use Rattle.host_core.specs.declared.status.Status.{Status}
 use Rattle.host_core.specs.declared.fault.Fault.{Fault}
@@ -26,16 +27,37 @@ use Rattle.journal_core.proofs.Readable.{records_more}
 use Rattle.rulebook.specs.Admission.{verdict, IsLawful}
 use Rattle.rulebook.specs.Sent.{spelled}
 use Rattle.market_core.specs.AdmissionState as admission
+use Rattle.market_core.specs.Kinds.{TakesMemory}
 use Rattle.engine_core.specs.Pending.{Expects, SendsPrefix}
 use Rattle.engine_core.proofs.Pending.{expects_still}
 use Rattle.engine_core.proofs.Sending.{waits, sends_none}
 use Rattle.engine_core.specs.declared.engine.Engine.{Engine}
+use Rattle.engine_core.specs.EngineState.{Represents}
 use Rattle.live_core.specs.declared.recovery.Recovery.{Recovery}
-use Rattle.live_core.specs.InternalRecovery.{again, opening, Resumes, IsPart, StandsFirst, Covers, Rests, Recovers, Resuming, OnlyRecovers, HasDamage, Hinders}
+use Rattle.live_core.specs.InternalRecovery.{again, opening, Resumes, IsPart, StandsFirst, Covers, StarvesAgain, Rests, Recovers, Resuming, OnlyRecovers, HasDamage, Hinders}
 use Rattle.live_core.proofs.Again.{sends_part}
 
 sends_rests : {disk : List ℕ} {now new : Outside} → OnlySends now new → Rests disk now → Rests disk new
 sends_rests sends rests = record { known = sends.disk ∙ rests.known; settled = record { only = λ image left. sends.disk ∙ rests.settled.only image (sends.left image left) } }
+
+-- an engine that another capacity was put into
+pub limited : {engine : Engine} {capacity : ℕ} {accepted evaluated : List Record} (limit : ℕ) (next : Engine) → next ≡ record engine { admission = record engine.admission { capacity = limit } }
+    → Represents engine capacity accepted evaluated → Represents next limit accepted evaluated
+limited {accepted = accepted} {evaluated = evaluated} limit next is r =
+    subst (λ (e : Engine). Represents e limit accepted evaluated) (sym is) (record {
+      within = refl;
+      admission = record {
+        count = r.admission.count;
+        day = r.admission.day;
+        last = r.admission.last;
+        directory = r.admission.directory;
+        listed = r.admission.listed;
+        dated = r.admission.dated;
+      };
+      market = r.market;
+      evaluated_is = r.evaluated_is;
+      published = r.published;
+    })
 
 -- A batch, record by record.
 module _ {from : Option ℕ} {begin : Option (List ℕ)} {disk : List ℕ} {batch : List Record} {count : ℕ} {recovery : Recovery} {now : Outside} (s : Resuming from begin disk batch count recovery now) where
@@ -85,11 +107,21 @@ module _ {from : Option ℕ} {begin : Option (List ℕ)} {disk : List ℕ} {batc
     passes : found ≡ None → verdict recovery.scan.capacity held x ≡ None
     passes none = sym verdict_is ∙ none
 
+    -- it stands in each list that covers the disk
+    covered : found ≡ None → (all : List Record) → Covers disk all → IsPart (x ∷ held) all
+    covered none all covers =
+        let lawful = subst (λ (r : List Record). IsLawful recovery.scan.capacity r) with_next (passes none, s.resumes.lawful) in
+        subst (λ (r : List Record). IsPart r all) (sym with_next) (covers recovery.scan.capacity _ (stands (count + 1)) lawful)
+
     pub sends_next : found ≡ None → {new : Outside} → (verdict recovery.scan.capacity held x ≡ None → Elapses now new (SendsPrefix begin (again from (x ∷ held)) now))
         → (all : List Record) → Covers disk all → Elapses now new (SendsPrefix begin (again from all) now)
-    sends_next none run all covers =
-        let lawful = subst (λ (r : List Record). IsLawful recovery.scan.capacity r) with_next (passes none, s.resumes.lawful) in
-        sends_part from (subst (λ (r : List Record). IsPart r all) (sym with_next) (covers recovery.scan.capacity _ (stands (count + 1)) lawful)) (run (passes none))
+    sends_next none run all covers = sends_part from (covered none all covers) (run (passes none))
+
+    -- memory is short for it
+    pub starves_there : found ≡ None → (new : Outside) → TakesMemory x × (new.sent ≡ append_known begin (again from (with_batch (records_of s.batches) (take count batch)))) → StarvesAgain from begin disk new
+    starves_there none new short all covers =
+        let part = covered none all covers in
+        record { before = held; x = x; later = part.more; parts = sym part.whole; takes = short.0; sent = short.1 }
 
     pub resumed_next : found ≡ None → (engine : Engine) (outbox : List ℕ) {new : Outside} → OnlySends now new
         → (verdict recovery.scan.capacity held x ≡ None → Resumes (again from) recovery.scan.capacity (x ∷ held) begin engine outbox new)
@@ -223,27 +255,28 @@ pub answered_on : {T : Type 0} (P : Status → Type 0) (result : Result T Status
 answered_on P (Ok x) is p = absurd is
 answered_on P (Err e) is p = subst P (sym is) p
 
-pub fault_hinders : {T : Type 0} (damaged : ℕ → Type 0) (missing : Type 0) {old mid : Outside} (new : Outside) {first : Result T Fault} {f : Fault} → first ≡ Err f → first ≢ Err fault.Read
-    → NoFault old mid → HasCause f mid new → Hinders damaged missing (status_of f) old new
-fault_hinders damaged missing {old} {mid} new {first} {f} is unread none cause =
+pub fault_hinders : {T : Type 0} (damaged : ℕ → Type 0) (missing starved : Type 0) {old mid : Outside} (new : Outside) {first : Result T Fault} {f : Fault} → first ≡ Err f → first ≢ Err fault.Read
+    → (first ≡ Err fault.Memory → starved) → NoFault old mid → HasCause f mid new → Hinders damaged missing starved (status_of f) old new
+fault_hinders damaged missing starved {old} {mid} new {first} {f} is unread short none cause =
+    let hungry : f ≡ fault.Memory → starved = λ memory. short (is ∙ ap (λ e. Err e) memory) in
     let other : f ≢ fault.Read = λ read. unread (is ∙ ap (λ e. Err e) read) in
     grind (arith, faultless)
 
-pub hinders_on : (damaged worse : ℕ → Type 0) (missing absent : Type 0) (old mid new : Outside) (s : Status) → NoFault old mid → ((at : ℕ) → damaged at → worse at) → (missing → absent)
-    → Hinders damaged missing s mid new → Hinders worse absent s old new
-hinders_on damaged worse missing absent old mid new s none more other why = grind (arith, faultless)
+pub hinders_on : (damaged worse : ℕ → Type 0) (missing absent hungry starved : Type 0) (old mid new : Outside) (s : Status) → NoFault old mid → ((at : ℕ) → damaged at → worse at) → (missing → absent) → (hungry → starved)
+    → Hinders damaged missing hungry s mid new → Hinders worse absent starved s old new
+hinders_on damaged worse missing absent hungry starved old mid new s none more other still why = grind (arith, faultless)
 
-pub why_at : (damaged : ℕ → Type 0) (missing : Type 0) (old new : Outside) {s : Status} (same : Status) → s ≡ same → Hinders damaged missing s old new → Hinders damaged missing same old new
-why_at damaged missing old new same is = subst (λ (s : Status). Hinders damaged missing s old new) is
+pub why_at : (damaged : ℕ → Type 0) (missing starved : Type 0) (old new : Outside) {s : Status} (same : Status) → s ≡ same → Hinders damaged missing starved s old new → Hinders damaged missing starved same old new
+why_at damaged missing starved old new same is = subst (λ (s : Status). Hinders damaged missing starved s old new) is
 
 -- by what a scan answered
-pub scan_hinders : {T : Type 0} (damaged : ℕ → Type 0) (missing : Type 0) {old new : Outside} (first : Result T ScanError) (e : ScanError) → first ≡ Err e → OnlyReadsDisk old new
+pub scan_hinders : {T : Type 0} (damaged : ℕ → Type 0) (missing starved : Type 0) {old new : Outside} (first : Result T ScanError) (e : ScanError) → first ≡ Err e → OnlyReadsDisk old new
     → (first ≢ Err scan.DiskFault → new.disk_faults ≡ old.disk_faults) → (first ≡ Err scan.DiskFault → Rose old.disk_faults new.disk_faults)
-    → (first ≡ Err scan.NoJournal → missing) → ((at : ℕ) → first ≡ Err (scan.Damaged at) → damaged at) → Hinders damaged missing (scan_status e) old new
-scan_hinders damaged missing first scan.NoMemory was reads none rose no_journal there = reads_faultless reads (none (λ is. cc))
-scan_hinders damaged missing first scan.DiskFault was reads none rose no_journal there = rose was
-scan_hinders damaged missing first scan.NoJournal was reads none rose no_journal there = (reads_faultless reads (none (λ is. cc)), no_journal was)
-scan_hinders damaged missing first (scan.Damaged at) was reads none rose no_journal there = (reads_faultless reads (none (λ is. cc)), there at was)
+    → (first ≡ Err scan.NoJournal → missing) → (first ≡ Err scan.NoMemory → starved) → ((at : ℕ) → first ≡ Err (scan.Damaged at) → damaged at) → Hinders damaged missing starved (scan_status e) old new
+scan_hinders damaged missing starved first scan.NoMemory was reads none rose no_journal short there = (reads_faultless reads (none (λ is. cc)), short was)
+scan_hinders damaged missing starved first scan.DiskFault was reads none rose no_journal short there = rose was
+scan_hinders damaged missing starved first scan.NoJournal was reads none rose no_journal short there = (reads_faultless reads (none (λ is. cc)), no_journal was)
+scan_hinders damaged missing starved first (scan.Damaged at) was reads none rose no_journal short there = (reads_faultless reads (none (λ is. cc)), there at was)
 
 pub no_error : {T E : Type 0} {result : Result T E} {a : T} {e : E} → result ≡ Ok a → result ≢ Err e
 no_error was err = cc

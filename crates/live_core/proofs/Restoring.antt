@@ -24,7 +24,7 @@ use Rattle.live_core.specs.declared.recovery.Recovery.{Recovery}
 use Rattle.live_core.specs.declared.recovery.Serving.{Serving}
 use Rattle.live_core.specs.Safe.{Begin, Begins, start_of, IsSafeOrPending}
 use Rattle.live_core.specs.Ends.{TellsNoJournal}
-use Rattle.live_core.specs.InternalRecovery.{again, opening, SendsAgain, IsReading, Recovers, OnlyRecovers, HasDamage, Hinders}
+use Rattle.live_core.specs.InternalRecovery.{again, opening, SendsAgain, StarvesAgain, IsReading, Recovers, OnlyRecovers, HasDamage, Hinders}
 use Rattle.live_core.specs.InternalServing.{IsFinished, IsSound, IsRestored, IsUnread}
 use Rattle.live_core.proofs.Again.{sends_then}
 use Rattle.live_core.proofs.OneDamage.{covers_held, covers_damaged}
@@ -57,15 +57,15 @@ none_sent : {old mid : Outside} → OnlyReadsDisk old mid → (text : List ℕ) 
 none_sent {old} reads text = widened reads.moments (SendsPrefix old.sent text old) (sends_none text old)
 
 -- no journal was begun
-pub unbegun : (from : Option ℕ) (status : Status) {old mid : Outside} → OnlyReadsDisk old mid → TellsNoJournal status
-    → Hinders (λ at. ⊥) ((disk : List ℕ) → mid.disk ≡ Some disk → HasNoHeader disk) status old mid → IsUnread from status old mid
-unbegun from status {old} {mid} reads tells why = record {
+pub unbegun : (here : Type 0) (from : Option ℕ) (status : Status) {old mid : Outside} → OnlyReadsDisk old mid → TellsNoJournal status
+    → Hinders (λ at. ⊥) ((disk : List ℕ) → mid.disk ≡ Some disk → HasNoHeader disk) here status old mid → IsUnread here from status old mid
+unbegun here from status {old} {mid} reads tells why = record {
   moments = λ begin input same begins. pending_still begin begins reads.moments;
   damage_moments = λ capacity at before disk known damaged. none_sent reads (again from before);
   no_header = λ disk known none. (tells, reads.sent);
   unsent = λ is. reads.sent;
   keeps = only_read reads;
-  hinders = hinders_on _ _ _ _ old old mid status (no_fault old) (λ at none. absurd none) (λ missing disk known. missing disk (reads.disk ∙ known)) why;
+  hinders = hinders_on _ _ _ _ _ _ old old mid status (no_fault old) (λ at none. absurd none) (λ missing disk known. missing disk (reads.disk ∙ known)) (λ before. inl before) why;
 }
 
 -- A journal was begun, and then read.
@@ -85,16 +85,18 @@ module _ (from : Option ℕ) {old mid new : Outside} {recovery : Recovery} (read
       (safe_opening begin begins from same reads.disk (started begins).rests.settled)
 
   -- but not to its end
-  pub unread : (status : Status) → ((disk : List ℕ) → mid.disk ≡ Some disk → ¬ HasNoHeader disk)
-      → Hinders (λ at. (begin : Option (List ℕ)) (disk : List ℕ) → Recovers (again from) begin disk recovery mid → HasDamage at disk) ⊥ status mid new → IsUnread from status old new
-  unread status header why = record {
+  pub unread : (here : Type 0) (status : Status) → ((disk : List ℕ) → mid.disk ≡ Some disk → ¬ HasNoHeader disk)
+      → Hinders (λ at. (begin : Option (List ℕ)) (disk : List ℕ) → Recovers (again from) begin disk recovery mid → HasDamage at disk) ⊥
+      ((begin : Option (List ℕ)) (disk : List ℕ) → Recovers (again from) begin disk recovery mid → StarvesAgain from begin disk new) status mid new → IsUnread here from status old new
+  unread here status header why = record {
     moments = start_moments;
     damage_moments = λ capacity at before disk known damaged.
         sends_then (none_sent reads (again from before)) (moments old.sent disk (begun_at disk known) before (covers_damaged capacity at before disk damaged));
     no_header = λ disk known missing. absurd (header disk (reads.disk ∙ known) missing);
-    unsent = λ is. absurd (why_at _ _ mid new NoJournal is why).1;
+    unsent = λ is. absurd (why_at _ _ _ mid new NoJournal is why).1;
     keeps = recovers_on (only_read reads) keeps;
-    hinders = hinders_on _ _ _ _ old mid new status none (λ at there disk known. there old.sent disk (begun_at disk known)) (λ missing. absurd missing) why;
+    hinders = hinders_on _ _ _ _ _ _ old mid new status none (λ at there disk known. there old.sent disk (begun_at disk known)) (λ missing. absurd missing)
+        (λ hungry. inr (λ disk known. hungry old.sent disk (begun_at disk known))) why;
   }
 
   -- to its end

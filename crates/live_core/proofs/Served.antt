@@ -1,5 +1,5 @@
 -- What a session did, whatever ended it.
-use Rattle.std.proofs.Common.{◌≡◌, ◌≢◌, inl, inr, ℕ, ◌<◌, List, [], ◌++◌, length, take, drop, refl, sym, ap, subst, ◌∙◌, append_assoc, arith}
+use Rattle.std.proofs.Common.{◌≡◌, ◌≢◌, ◌⊎◌, inl, inr, ℕ, ◌<◌, List, [], ◌++◌, length, take, drop, refl, sym, ap, subst, ◌∙◌, append_assoc, arith}
 use Rattle.std.specs.Prelude.{Option, Some, min, Result, IfOk}
 use Rattle.std.proofs.lemmas.List.{append-nil, take-append-drop}
 use Rattle.host_core.specs.declared.status.Status.{Status}
@@ -30,11 +30,12 @@ use Rattle.live_core.specs.declared.recovery.Serving.{Serving}
 use Rattle.live_core.specs.Safe.{Begin, Begins, start_of, IsSafe, IsSafeOrPending}
 use Rattle.live_core.specs.Damage.{IsDamagedAt, StopsAtDamage}
 use Rattle.live_core.specs.Ends.{Answered, IsKept, IsUnserved, TellsDamage}
+use Rattle.live_core.specs.Starved.{StarvedAtRecord}
 use Rattle.live_core.specs.Served.{Served}
 use Rattle.live_core.specs.InternalKeeping.{held_now}
-use Rattle.live_core.specs.InternalRecovery.{again, HasDamage, Hinders}
+use Rattle.live_core.specs.InternalRecovery.{again, Covers, StarvesAgain, HasDamage, Hinders}
 use Rattle.live_core.specs.InternalServing.{IsSound, IsRestored, IsUnread, IsAnswered}
-use Rattle.live_core.proofs.OneDamage.{one_damage, lawful_undamaged}
+use Rattle.live_core.proofs.OneDamage.{covers_held, covers_damaged, one_damage, lawful_undamaged}
 use Rattle.live_core.proofs.Recovering.{why_at}
 use Rattle.live_core.proofs.Restoring.{one_disk, unbegun}
 
@@ -80,16 +81,26 @@ completes s old new told memory journal whole no_reads no_sends no_disks = grind
 told_after : {old mid : Outside} (new : Outside) (s : Status) → NoFault old mid → Told s mid new → Told s old new
 told_after new s none told = grind (arith, faultless)
 
-hinders_told : (damaged : ℕ → Type 0) (missing : Type 0) (s : Status) (old new : Outside) → Hinders damaged missing s old new → Told s old new
-hinders_told damaged missing s old new why = grind arith
+hinders_told : (damaged : ℕ → Type 0) (missing starved : Type 0) (s : Status) (old new : Outside) → Hinders damaged missing starved s old new → Told s old new
+hinders_told damaged missing starved s old new why = grind arith
 
-hinders_no_end : (damaged : ℕ → Type 0) (missing : Type 0) (s : Status) (old new : Outside) → Hinders damaged missing s old new → IsEnd s → ⊥
-hinders_no_end damaged missing s old new why end = grind arith
+hinders_no_end : (damaged : ℕ → Type 0) (missing starved : Type 0) (s : Status) (old new : Outside) → Hinders damaged missing starved s old new → IsEnd s → ⊥
+hinders_no_end damaged missing starved s old new why end = grind arith
 
-hinders_damage : (damaged : ℕ → Type 0) (missing : Type 0) (s : Status) (old new : Outside) (at : ℕ) → Hinders damaged missing s old new → ¬ missing → ((other : ℕ) → damaged other → other ≡ at)
+hinders_damage : (damaged : ℕ → Type 0) (missing starved : Type 0) (s : Status) (old new : Outside) (at : ℕ) → Hinders damaged missing starved s old new → ¬ missing → ((other : ℕ) → damaged other → other ≡ at)
     → TellsDamage at s
-hinders_damage damaged missing (Damaged other) old new at why has place = inl (ap (λ (k : ℕ). Damaged k) (place other why.1))
-hinders_damage damaged missing s old new at why has place = grind arith
+hinders_damage damaged missing starved (Damaged other) old new at why has place = inl (ap (λ (k : ℕ). Damaged k) (place other why.1))
+hinders_damage damaged missing starved s old new at why has place = grind arith
+
+-- where memory was short while the journal was read, by one of the lists that cover the disk
+starved_among : {here : Type 0} (from : Option ℕ) (all : List Record) {disk : List ℕ} (old new : Outside) → old.disk ≡ Some disk → Covers disk all
+    → here ⊎ ((disk : List ℕ) → old.disk ≡ Some disk → StarvesAgain from old.sent disk new) → here ⊎ StarvedAtRecord from all old.sent new.sent
+starved_among from all old new known covers (inl before) = inl before
+starved_among from all {disk} old new known covers (inr hungry) = inr (hungry disk known all covers)
+
+or_else : {A B : Type 0} (C : Type 0) → A ⊎ B → A ⊎ B ⊎ C
+or_else C (inl a) = inl a
+or_else C (inr b) = inr (inl b)
 
 pub answered_as : {most : ℕ} {before after : JournalState} {session : Session} {old new : Outside} {s same : Status} → same ≡ s → IsAnswered most before after session s old new
     → IsAnswered most before after session same old new
@@ -98,13 +109,13 @@ answered_as {most} {before} {after} {session} {old} {new} is = subst (λ (s : St
 pub no_end_unserved : (result : Result Status Fault) → IfOk result IsEnd → IsUnserved (answer_of result) → ⊥
 no_end_unserved result end unserved = grind arith
 
-module _ (from : Option ℕ) (most : ℕ) (status : Status) (old new : Outside)
+module _ (here : Type 0) (from : Option ℕ) (most : ℕ) (status : Status) (old new : Outside)
     (sent_now : (image bytes : List ℕ) → new.leaves new.moment image bytes → Agrees new.sent bytes) (read_passes : (disk : List ℕ) → new.disk ≡ Some disk → MayLeave new disk)
     (stops_now : (sent : List ℕ) → new.sent ≡ Some sent → (image : List ℕ) × MayLeave new image) where
   -- A session, by its stops and its status, and by what it left where no session was served.
   module _ (moments : (begin : Begin) (input : List ℕ) → begin.from ≡ from → Begins begin input old → Elapses old new (IsSafeOrPending old begin (bodies_of (take most input))))
       (continues : Continues old new) (told : Told status old new)
-      (unserved : IsUnserved status → IsUnread from status old new) (unsound : (disk : List ℕ) → old.disk ≡ Some disk → ¬ IsSound disk → IsUnread from status old new) where
+      (unserved : IsUnserved status → IsUnread here from status old new) (unsound : (disk : List ℕ) → old.disk ≡ Some disk → ¬ IsSound disk → IsUnread here from status old new) where
     told_at : (s : Status) → status ≡ s → Told s old new
     told_at s is = subst (λ (s : Status). Told s old new) is told
 
@@ -116,10 +127,10 @@ module _ (from : Option ℕ) (most : ℕ) (status : Status) (old new : Outside)
         let end = ends begin input same begins in
         rw (begins.sent_known, end.sent_known) (part_of old begin (bodies_of (take most input)) end.image end.bytes end.left)
 
-    headless : (disk : List ℕ) → old.disk ≡ Some disk → HasNoHeader disk → IsUnread from status old new
+    headless : (disk : List ℕ) → old.disk ≡ Some disk → HasNoHeader disk → IsUnread here from status old new
     headless disk known none = unsound disk known (λ sound. readable.header disk sound.capacity sound.held sound.holds none)
 
-    damaged : {capacity at : ℕ} {before disk : List _} → old.disk ≡ Some disk → IsDamagedAt capacity at before disk → IsUnread from status old new
+    damaged : {capacity at : ℕ} {before disk : List _} → old.disk ≡ Some disk → IsDamagedAt capacity at before disk → IsUnread here from status old new
     damaged {capacity} {at} {before} {disk} known damage =
         unsound disk known (λ sound. lawful_undamaged capacity at before disk sound.capacity sound.held damage sound.holds sound.lawful)
 
@@ -132,8 +143,9 @@ module _ (from : Option ℕ) (most : ℕ) (status : Status) (old new : Outside)
         ))
 
     -- why there was no session
-    why : (s : Status) → status ≡ s → IsUnserved s → Hinders (λ at. (disk : List ℕ) → old.disk ≡ Some disk → HasDamage at disk) ((disk : List ℕ) → old.disk ≡ Some disk → HasNoHeader disk) s old new
-    why s is un = why_at _ _ old new s is (unserved (subst IsUnserved (sym is) un)).hinders
+    why : (s : Status) → status ≡ s → IsUnserved s → Hinders (λ at. (disk : List ℕ) → old.disk ≡ Some disk → HasDamage at disk) ((disk : List ℕ) → old.disk ≡ Some disk → HasNoHeader disk)
+        (here ⊎ ((disk : List ℕ) → old.disk ≡ Some disk → StarvesAgain from old.sent disk new)) s old new
+    why s is un = why_at _ _ _ old new s is (unserved (subst IsUnserved (sym is) un)).hinders
 
     stops : (at : ℕ) → status ≡ Damaged at → (disk : List ℕ) → old.disk ≡ Some disk → StopsAtDamage from old.sent at disk new
     stops at is disk known =
@@ -148,8 +160,10 @@ module _ (from : Option ℕ) (most : ℕ) (status : Status) (old new : Outside)
     pub served : ((begin : Begin) (input : List ℕ) → begin.from ≡ from → Begins begin input old → IsEnd status → (status ≡ end_of most input) × Answered begin input (min most (length input)) new)
         → ((begin : Begin) (input : List ℕ) → begin.from ≡ from → Begins begin input old → status ≡ ReadFault → (count : ℕ) × (count < most) × Answered begin input count new)
         → ((begin : Begin) (input : List ℕ) → begin.from ≡ from → Begins begin input old → Prompt (start_of begin) input old.asks new.asks)
-        → ReadsAtMost most old.input new.input → Served from most status old new
-    served exact unread prompt bytes = record {
+        → ((begin : Begin) (input : List ℕ) → begin.from ≡ from → Begins begin input old → status ≡ NoMemory
+        → here ⊎ StarvedAtRecord from begin.held old.sent new.sent ⊎ engine.Starved (start_of begin) (bodies_of (take most input)) new)
+        → ReadsAtMost most old.input new.input → Served here from most status old new
+    served exact unread prompt starved bytes = record {
       moments = moments;
       settled = λ begin input same begins settled. widened (moments begin input same begins) _ (settle old begins settled (bodies_of (take most input)));
       at_return = ends;
@@ -157,6 +171,7 @@ module _ (from : Option ℕ) (most : ℕ) (status : Status) (old new : Outside)
       unread = unread;
       part = part;
       prompt = prompt;
+      starved = starved;
       no_journal = λ is. (why NoJournal is tt).1;
       no_header = λ disk known none. ((headless disk known none).no_header disk known none).0;
       unsent = λ is. (unserved (subst IsUnserved (sym is) tt)).unsent is;
@@ -166,12 +181,14 @@ module _ (from : Option ℕ) (most : ℕ) (status : Status) (old new : Outside)
       damaged = stops;
       undamaged = undamaged;
       damage_is_told = λ capacity at before disk known damage has.
-          hinders_damage _ _ status old new at (damaged known damage).hinders (λ missing. has (missing disk known))
+          hinders_damage _ _ _ status old new at (damaged known damage).hinders (λ missing. has (missing disk known))
           (λ other there. let first = there disk known in one_damage first.0 capacity other at first.1 before disk first.2 damage);
       damage_is_left = λ capacity at before disk known damage. (damaged known damage).keeps.disk;
       damage_is_unserved = λ capacity at before disk known damage. (damaged known damage).keeps.input;
       damage_part = damage_part;
       damage_moments = λ capacity at before disk known damage. (damaged known damage).damage_moments capacity at before disk known damage;
+      damage_starved = λ capacity at before disk known damage is.
+          starved_among from before old new known (covers_damaged capacity at before disk damage) (why_at _ _ _ old new NoMemory is (damaged known damage).hinders).1;
       untouched = λ un. (unserved un).keeps.disk;
       input_is_left = λ un. (unserved un).keeps.input;
       bytes = bytes;
@@ -187,13 +204,16 @@ module _ (from : Option ℕ) (most : ℕ) (status : Status) (old new : Outside)
     }
 
   -- A session that did not begin.
-  pub unread_served : IsUnread from status old new → Served from most status old new
+  pub unread_served : IsUnread here from status old new → Served here from most status old new
   unread_served u =
       served (λ begin input same begins. widened (u.moments begin input same begins) _ (first_stops old begin (bodies_of (take most input))))
-      u.keeps.continues (hinders_told _ _ status old new u.hinders) (λ un. u) (λ disk known un. u)
-      (λ begin input same begins end. absurd (hinders_no_end _ _ status old new u.hinders end))
-      (λ begin input same begins is. absurd (why_at _ _ old new ReadFault is u.hinders))
-      (λ begin input same begins. no_ask (start_of begin) input u.keeps.asks) (takes_none most old.input new.input u.keeps.input)
+      u.keeps.continues (hinders_told _ _ _ status old new u.hinders) (λ un. u) (λ disk known un. u)
+      (λ begin input same begins end. absurd (hinders_no_end _ _ _ status old new u.hinders end))
+      (λ begin input same begins is. absurd (why_at _ _ _ old new ReadFault is u.hinders))
+      (λ begin input same begins. no_ask (start_of begin) input u.keeps.asks)
+      (λ begin input same begins is.
+      or_else _ (starved_among from begin.held old new begins.disk_known (covers_held begins.disk begin.capacity begin.held begins.holds) (why_at _ _ _ old new NoMemory is u.hinders).1))
+      (takes_none most old.input new.input u.keeps.input)
 
   -- A session that answered.
   module _ {mid : Outside} (serving : Serving) (journal : JournalState) (r : IsRestored from serving old mid)
@@ -219,7 +239,7 @@ module _ (from : Option ℕ) (most : ℕ) (status : Status) (old new : Outside)
       all_answered : (count : ℕ) → engine.Answered (λ records now. IsAtRest journal records now) (start_of begin) input count new → Answered begin input count new
       all_answered count answered = record { input_left = answered.input_left; there = answered.there; sent = answered.sent; held = kept answered.held }
 
-    pub answered_served : Served from most status old new
+    pub answered_served : Served here from most status old new
     answered_served =
         served
         (λ begin input same begins.
@@ -233,8 +253,9 @@ module _ (from : Option ℕ) (most : ℕ) (status : Status) (old new : Outside)
         let all = a.unread (start_of begin) input refl (reads begin input same begins) is in
         (all.0, all.1, all_answered begin input same begins all.0 all.2))
         (λ begin input same begins. more_asks (start_of begin) input (no_ask (start_of begin) input r.keeps.asks) (a.prompt (start_of begin) input refl (reads begin input same begins)))
+        (λ begin input same begins is. inr (inr (a.starved (start_of begin) input refl (reads begin input same begins) is)))
         (takes_between most old.input mid.input new.input new.input r.keeps.input refl a.bytes)
 
 -- memory ran out before anything happened
-pub roomless : (from : Option ℕ) (now : Outside) → ((image bytes : List ℕ) → now.leaves now.moment image bytes → Agrees now.sent bytes) → IsUnread from NoMemory now now
-roomless from now sent_now = unbegun from NoMemory (reads_nothing now sent_now) (inr (inr refl)) (no_fault now)
+pub roomless : (here : Type 0) → here → (from : Option ℕ) (now : Outside) → ((image bytes : List ℕ) → now.leaves now.moment image bytes → Agrees now.sent bytes) → IsUnread here from NoMemory now now
+roomless here before from now sent_now = unbegun here from NoMemory (reads_nothing now sent_now) (inr (inr refl)) (no_fault now, before)

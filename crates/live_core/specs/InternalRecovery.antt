@@ -10,9 +10,10 @@ use Rattle.rulebook.specs.Admission.{IsLawful}
 use Rattle.wire_out.specs.Spelling.{spelling}
 use Rattle.rulebook.specs.Sent.{hello, sent_again, spelled}
 use Rattle.engine_core.specs.declared.engine.Engine.{Engine}
-use Rattle.engine_core.specs.EngineState.{Represents}
+use Rattle.engine_core.specs.EngineState.{Represents, IsRoomy}
 use Rattle.engine_core.specs.Pending.{Expects, SendsPrefix}
 use Rattle.live_core.specs.Damage.{IsDamagedAt}
+use Rattle.live_core.specs.Starved.{StarvedAtRecord}
 use Rattle.live_core.specs.declared.recovery.Recovery.{Recovery}
 
 -- the messages of these records that are asked for again, spelled
@@ -57,12 +58,17 @@ Covers disk all = (capacity : ℕ) (records : List Record) → StandsFirst capac
 abbrev pub SendsAgain : Option ℕ → Option (List ℕ) → List ℕ → Outside → Outside → Type 0
 SendsAgain from begin disk old new = (all : List Record) → Covers disk all → Elapses old new (SendsPrefix begin (again from all) old)
 
--- the scan is of this disk, where it is known, and has counted so many records more than the engine has
+-- each list that covers the disk has a record at which memory was short
+abbrev pub StarvesAgain : Option ℕ → Option (List ℕ) → List ℕ → Outside → Type 0
+StarvesAgain from begin disk new = (all : List Record) → Covers disk all → StarvedAtRecord from all begin new.sent
+
+-- the scan is of this disk, where it is known, and has counted so many records more than the engine has, which has room
 pub record IsReading (scan : ScanState) (engine : Engine) (waiting : ℕ) (known : Option (List ℕ)) : Type 0 where
   pub of_disk : IsScanOf scan known
   pub capacity : scan.capacity ≡ engine.admission.capacity
   pub count : scan.count ≡ engine.admission.count + waiting
   pub small : IsSmall engine
+  pub roomy : IsRoomy engine
 
 -- nothing is pending on this disk
 pub record Rests (disk : List ℕ) (now : Outside) : Type 0 where
@@ -97,11 +103,11 @@ abbrev pub HasDamage : ℕ → List ℕ → Type 0
 HasDamage at disk = (capacity : ℕ) × (before : List Record) × IsDamagedAt capacity at before disk
 
 -- Why a journal was not read to its end: a fault whose count rose, or another reason, and then no count rose. Damage there
--- and the want of a journal say this of the disk.
-abbrev pub Hinders : (ℕ → Type 0) → Type 0 → Status → Outside → Outside → Type 0
-Hinders damaged missing SendFault old new = Rose old.send_faults new.send_faults
-Hinders damaged missing DiskFault old new = Rose old.disk_faults new.disk_faults
-Hinders damaged missing NoMemory old new = NoFault old new
-Hinders damaged missing NoJournal old new = NoFault old new × missing
-Hinders damaged missing (Damaged at) old new = NoFault old new × damaged at
-Hinders damaged missing status old new = ⊥
+-- and the want of a journal say this of the disk, and want of memory says this.
+abbrev pub Hinders : (ℕ → Type 0) → Type 0 → Type 0 → Status → Outside → Outside → Type 0
+Hinders damaged missing starved SendFault old new = Rose old.send_faults new.send_faults
+Hinders damaged missing starved DiskFault old new = Rose old.disk_faults new.disk_faults
+Hinders damaged missing starved NoMemory old new = NoFault old new × starved
+Hinders damaged missing starved NoJournal old new = NoFault old new × missing
+Hinders damaged missing starved (Damaged at) old new = NoFault old new × damaged at
+Hinders damaged missing starved status old new = ⊥

@@ -1,7 +1,7 @@
 -- A session whose journal was read to its end, and one whose journal was not.
-use Rattle.std.specs.Prelude.{◌≡◌, ℕ, ◌<◌, List, [], length, min, take, true, Option, Some}
+use Rattle.std.specs.Prelude.{◌≡◌, ◌⊎◌, ℕ, ◌<◌, List, [], length, min, take, true, Option, Some}
 use Rattle.host_core.specs.declared.status.Status.{Status}
-use Rattle.host_core.specs.declared.status.Status.TheVariants.{ReadFault, NoJournal}
+use Rattle.host_core.specs.declared.status.Status.TheVariants.{ReadFault, NoJournal, NoMemory}
 use Rattle.host_core.specs.Outside.{Outside, Elapses, NoFault, Continues}
 use Rattle.wire_in.specs.Cutting.{bodies_of}
 use Rattle.wire_in.specs.declared.record.Record.{Record}
@@ -14,14 +14,14 @@ use Rattle.engine_core.specs.declared.session.Session.{Session}
 use Rattle.engine_core.specs.Ends.{IsEnd, ReadsAtMost, Told, end_of}
 use Rattle.engine_core.specs.Pending.{SendsPrefix}
 use Rattle.engine_core.specs.Serving.{Reads, IsReady}
-use Rattle.engine_core.specs.Sessions.{Start, Answered, IsSafe, Prompt}
+use Rattle.engine_core.specs.Sessions.{Start, Answered, IsSafe, Prompt, Starved}
 use Rattle.live_core.specs.declared.recovery.Recovery.{Recovery}
 use Rattle.live_core.specs.declared.recovery.Serving.{Serving}
 use Rattle.live_core.specs.Safe.{Begin, Begins, start_of, IsSafeOrPending}
 use Rattle.live_core.specs.Damage.{IsDamagedAt}
 use Rattle.live_core.specs.Ends.{IsUnserved, TellsNoJournal}
 use Rattle.live_core.specs.InternalKeeping.{HasRoom}
-use Rattle.live_core.specs.InternalRecovery.{again, HasDamage, IsReading, OnlyRecovers, Hinders}
+use Rattle.live_core.specs.InternalRecovery.{again, HasDamage, StarvesAgain, IsReading, OnlyRecovers, Hinders}
 
 -- a session over what a journal was read into
 pub record IsFinished (recovery : Recovery) (serving : Serving) : Type 0 where
@@ -51,14 +51,15 @@ pub record IsRestored (from : Option ℕ) (serving : Serving) (old new : Outside
   pub none : NoFault old new
 
 -- no session begins, for this reason
-pub record IsUnread (from : Option ℕ) (status : Status) (old new : Outside) : Type 0 where
+pub record IsUnread (unbegun : Type 0) (from : Option ℕ) (status : Status) (old new : Outside) : Type 0 where
   pub moments : (begin : Begin) (input : List ℕ) → begin.from ≡ from → Begins begin input old → Elapses old new (IsSafeOrPending old begin [])
   pub damage_moments : (capacity at : ℕ) (before : List Record) (disk : List ℕ) → old.disk ≡ Some disk → IsDamagedAt capacity at before disk
       → Elapses old new (SendsPrefix old.sent (again from before) old)
   pub no_header : (disk : List ℕ) → old.disk ≡ Some disk → HasNoHeader disk → TellsNoJournal status × (new.sent ≡ old.sent)
   pub unsent : status ≡ NoJournal → new.sent ≡ old.sent
   pub keeps : OnlyRecovers old new
-  pub hinders : Hinders (λ at. (disk : List ℕ) → old.disk ≡ Some disk → HasDamage at disk) ((disk : List ℕ) → old.disk ≡ Some disk → HasNoHeader disk) status old new
+  pub hinders : Hinders (λ at. (disk : List ℕ) → old.disk ≡ Some disk → HasDamage at disk) ((disk : List ℕ) → old.disk ≡ Some disk → HasNoHeader disk)
+      (unbegun ⊎ ((disk : List ℕ) → old.disk ≡ Some disk → StarvesAgain from old.sent disk new)) status old new
 
 -- the input was answered, up to so many bytes
 pub record IsAnswered (most : ℕ) (before after : JournalState) (session : Session) (status : Status) (old new : Outside) : Type 0 where
@@ -70,6 +71,8 @@ pub record IsAnswered (most : ℕ) (before after : JournalState) (session : Sess
       → Elapses old new (IsSafe (λ records image. Holds image before.capacity records) start (bodies_of (take most input)))
   pub prompt : (start : Start) (input : List ℕ) → start.acknowledges ≡ true → Reads (λ records now. IsAtRest before records now) start input 0 session old
       → Prompt start input old.asks new.asks
+  pub starved : (start : Start) (input : List ℕ) → start.acknowledges ≡ true → Reads (λ records now. IsAtRest before records now) start input 0 session old
+      → status ≡ NoMemory → Starved start (bodies_of (take most input)) new
   pub bytes : ReadsAtMost most old.input new.input
   pub continues : Continues old new
   pub served : ¬ IsUnserved status

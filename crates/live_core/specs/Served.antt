@@ -1,5 +1,5 @@
 -- What a session did, whatever its answer.
-use Rattle.std.specs.Prelude.{◌≡◌, ◌≢◌, ℕ, ◌<◌, List, length, min, take, Option, Some}
+use Rattle.std.specs.Prelude.{◌≡◌, ◌≢◌, ◌⊎◌, ℕ, ◌<◌, List, length, min, take, Option, Some}
 use Rattle.host_core.specs.declared.status.Status.{Status}
 use Rattle.host_core.specs.declared.status.Status.TheVariants.{ReadFault, SendFault, DiskFault, Damaged, NoJournal, NoMemory}
 use Rattle.host_core.specs.Outside.{Outside, Elapses, Ends, IsSettled, Rose, NoFault, Continues}
@@ -9,13 +9,14 @@ use Rattle.journal_core.specs.Scan.{HasNoHeader}
 use Rattle.rulebook.specs.Sent.{sent_again, spelled}
 use Rattle.engine_core.specs.Ends.{IsEnd, ReadsAtMost, end_of}
 use Rattle.engine_core.specs.Pending.{SendsPrefix, SentPrefix}
-use Rattle.engine_core.specs.Sessions.{Prompt, expected}
+use Rattle.engine_core.specs.Sessions.{Prompt, Starved, expected}
 use Rattle.live_core.specs.Safe.{Begin, Begins, start_of, IsSafe, IsSafeOrPending}
 use Rattle.live_core.specs.Damage.{IsDamagedAt, StopsAtDamage}
+use Rattle.live_core.specs.Starved.{StarvedAtRecord}
 use Rattle.live_core.specs.Ends.{Answered, IsAnswer, IsUnserved, TellsNoJournal, TellsDamage, IsLeftAlone}
 
--- a session was served, from that message on, up to so many bytes
-pub record Served (from : Option ℕ) (most : ℕ) (status : Status) (old new : Outside) : Type 0 where
+-- a session was served, from that message on, up to so many bytes; what says that no call of the host was made is given
+pub record Served (unbegun : Type 0) (from : Option ℕ) (most : ℕ) (status : Status) (old new : Outside) : Type 0 where
   -- Whenever the run is stopped, the image holds the records from before and those of some of the first frames, and a
   -- prefix of what is expected for them was sent. Or nothing was sent, and a stop at the start might have left the image.
   pub moments : (begin : Begin) (input : List ℕ) → begin.from ≡ from → Begins begin input old → Elapses old new (IsSafeOrPending old begin (bodies_of (take most input)))
@@ -31,6 +32,10 @@ pub record Served (from : Option ℕ) (most : ℕ) (status : Status) (old new : 
   pub part : (begin : Begin) (input : List ℕ) → begin.from ≡ from → Begins begin input old → SentPrefix old.sent new.sent (expected (start_of begin) (bodies_of (take most input)))
   -- whenever the input was read, all that is expected for the whole frames read before had been sent
   pub prompt : (begin : Begin) (input : List ℕ) → begin.from ≡ from → Begins begin input old → Prompt (start_of begin) input old.asks new.asks
+  -- memory is short only before the first call of the host, at a Listing or a Trade of the journal, or at one of the input,
+  -- with all sent that is expected before it
+  pub starved : (begin : Begin) (input : List ℕ) → begin.from ≡ from → Begins begin input old → status ≡ NoMemory
+      → unbegun ⊎ StarvedAtRecord from begin.held old.sent new.sent ⊎ Starved (start_of begin) (bodies_of (take most input)) new
   -- where no header stands it is told, unless the disk fails or memory is short, and nothing is read, sent or written
   pub no_journal : status ≡ NoJournal → (disk : List ℕ) → old.disk ≡ Some disk → HasNoHeader disk
   pub no_header : (disk : List ℕ) → old.disk ≡ Some disk → HasNoHeader disk → TellsNoJournal status
@@ -51,6 +56,9 @@ pub record Served (from : Option ℕ) (most : ℕ) (status : Status) (old new : 
   -- and whenever it is stopped, it leaves an image as before
   pub damage_moments : (capacity at : ℕ) (before : List Record) (disk : List ℕ) → old.disk ≡ Some disk → IsDamagedAt capacity at before disk
       → Elapses old new (SendsPrefix old.sent (spelled (sent_again from before)) old)
+  -- and memory is short only before the first call of the host, or at a Listing or a Trade before the damage
+  pub damage_starved : (capacity at : ℕ) (before : List Record) (disk : List ℕ) → old.disk ≡ Some disk → IsDamagedAt capacity at before disk → status ≡ NoMemory
+      → unbegun ⊎ StarvedAtRecord from before old.sent new.sent
   -- where there is no journal or a damaged one, nothing is written, and nothing of the input is read
   pub untouched : IsUnserved status → new.disk ≡ old.disk
   pub input_is_left : IsUnserved status → new.input ≡ old.input

@@ -1,6 +1,7 @@
 //! The records of a journal, evaluated again from the first to the last.
 
 ghost use Rattle.std.specs.Prelude.{◌≡◌, ◌≢◌, ◌+◌, ◌<◌, ◌≤◌, ◌^◌, ◌++◌, ◌∷◌, [], ℕ, List, Option, Some, None, Err, OnOk, IfOk, IfErr, IsTrue, length, drop};
+ghost use Rattle.std.specs.Io.KnownBytes.{append_known};
 ghost use Rattle.host_core.specs.Outside.{Outside, NoFault, Elapses};
 ghost use Rattle.host_core.specs.Frames.{OnlySends};
 ghost use Rattle.host_core.specs.Faults.{Causes};
@@ -9,13 +10,14 @@ ghost use Rattle.rulebook.specs.Admission.{verdict};
 ghost use Rattle.rulebook.specs.Sent.{spelled, numbered, hello, passed_over};
 ghost use Rattle.wire_out.specs.Spelling.{spelling};
 ghost use Rattle.market_core.specs.AdmissionState.{refusal_of};
+ghost use Rattle.market_core.specs.Kinds.{TakesMemory};
 ghost use Rattle.engine_core.specs.EngineState as engines;
 ghost use Rattle.engine_core.specs.Pending.{Expects, SendsPrefix};
 ghost use Rattle.live_core.specs.InternalServing.{IsRestored, IsUnread};
 ghost use Rattle.live_core.specs.InternalRecovery.{again, IsSmall, Resumes};
 
 use crate::keeper::JournalKeeper;
-use engine_core::{Engine, Outbox, Round, Session, append_messages};
+use engine_core::{Engine, Outbox, Round, Session, append_messages, evaluate};
 use host_core::{Fault, Host, Status};
 use journal_core::{Batch, Scan};
 use std::alloc::Global;
@@ -53,7 +55,7 @@ fn append_again<H: Host>(
         Elapses (H.outside host.old) (H.outside host.new) (SendsPrefix begin (text ++ spelled (numbered (before + skipped) (drop skipped messages.now))) (H.outside host.old)) }
     ensures keeps { OnlySends (H.outside host.old) (H.outside host.new) }
     ensures causes { Causes result (H.outside host.old) (H.outside host.new) }
-    ensures unread { result ≢ Err Fault.Read }
+    ensures fault { IfErr result (λ fault. fault ≡ Fault.Send) }
 {
     let skipped = passed_over(from, before, messages.len());
     append_messages(outbox, host, before + skipped as u64, &messages[skipped..])
@@ -68,21 +70,25 @@ fn resume_record<H: Host>(
     x: &Record,
 ) -> Result<(), Fault>
     requires small { IsSmall engine.old }
+    requires roomy { engines.IsRoomy engine.old }
     requires admissible { refusal_of engine.old.admission x.now ≡ None }
     ensures resumes { (capacity : ℕ) (held : List Record) (begin : Option (List ℕ)) → Resumes (again from) capacity held begin engine.old outbox.old (H.outside host.old)
         → verdict capacity held x.now ≡ None → OnOk result (Resumes (again from) capacity (x.now ∷ held) begin engine.new outbox.new (H.outside host.new)) }
     ensures moments { (capacity : ℕ) (held : List Record) (begin : Option (List ℕ)) → Resumes (again from) capacity held begin engine.old outbox.old (H.outside host.old)
         → verdict capacity held x.now ≡ None → Elapses (H.outside host.old) (H.outside host.new) (SendsPrefix begin (again from (x.now ∷ held)) (H.outside host.old)) }
     ensures small { OnOk result (IsSmall engine.new) }
+    ensures roomy { OnOk result (engines.IsRoomy engine.new) }
     ensures count { OnOk result (engine.new.admission.count ≡ engine.old.admission.count + 1) }
     ensures capacity { engine.new.admission.capacity ≡ engine.old.admission.capacity }
     ensures keeps { OnlySends (H.outside host.old) (H.outside host.new) }
     ensures causes { Causes result (H.outside host.old) (H.outside host.new) }
     ensures unread { result ≢ Err Fault.Read }
+    ensures starved { (capacity : ℕ) (held : List Record) (begin : Option (List ℕ)) → Resumes (again from) capacity held begin engine.old outbox.old (H.outside host.old)
+        → result ≡ Err Fault.Memory → TakesMemory x.now × ((H.outside host.new).sent ≡ append_known begin (again from held)) }
 {
     let before = engine.published;
-    engine.admit(x)?;
-    engine.evaluate(x)?;
+    engine.admit(x);
+    evaluate(engine, outbox, host, x)?;
     append_again(outbox, host, from, before, &engine.messages)
 }
 
@@ -94,22 +100,11 @@ pub struct Recovery {
     pub outbox: Outbox,
 }
 
-/// An engine of no records, under the capacity of a journal.
-fn begin_engine(alloc: Global, capacity: u64) -> Result<Engine, Fault>
-    requires { capacity ≤ 2000000000 }
-    ensures represents { IfOk result (λ engine. engines.Represents engine capacity [] []) }
-    ensures none { IfOk result (λ engine. engine.admission.count ≡ 0) }
-    ensures small { IfOk result IsSmall }
-    ensures memory { IfErr result (λ fault. fault ≡ Fault.Memory) }
-{
-    Ok(Engine::new(alloc, capacity)?)
-}
-
 impl Recovery {
     ghost use Rattle.host_core.specs.Frames.{OnlyReadsDisk};
     ghost use Rattle.journal_core.specs.Scan.{HasNoHeader};
     ghost use Rattle.live_core.specs.Ends.{TellsNoJournal};
-    ghost use Rattle.live_core.specs.InternalRecovery.{opening, SendsAgain, HasDamage, IsReading, Recovers, Resuming, OnlyRecovers, Hinders};
+    ghost use Rattle.live_core.specs.InternalRecovery.{opening, SendsAgain, HasDamage, StarvesAgain, IsReading, Recovers, Resuming, OnlyRecovers, Hinders};
     ghost use Rattle.live_core.specs.InternalServing.{IsFinished};
 
     /// Evaluates the records of the batch that was read last, one after the other, up to the first that may not follow.
@@ -129,7 +124,8 @@ impl Recovery {
         ensures keeps { OnlySends (H.outside host.old) (H.outside host.new) }
         ensures none { OnOk result (NoFault (H.outside host.old) (H.outside host.new)) }
         ensures hindered { IfErr result (λ status. Hinders (λ at. (begin : Option (List ℕ)) (disk : List ℕ) → Resuming from begin disk records.now 0 self.old (H.outside host.old) → HasDamage at disk)
-            ⊥ status (H.outside host.old) (H.outside host.new)) }
+            ⊥ ((begin : Option (List ℕ)) (disk : List ℕ) → Resuming from begin disk records.now 0 self.old (H.outside host.old) → StarvesAgain from begin disk (H.outside host.new))
+            status (H.outside host.old) (H.outside host.new)) }
     {
         for x in records {
             if self.engine.admission.verdict(x).is_some() {
@@ -157,7 +153,8 @@ impl Recovery {
         ensures keeps { OnlyRecovers (H.outside host.old) (H.outside host.new) }
         ensures none { OnOk result (NoFault (H.outside host.old) (H.outside host.new)) }
         ensures hindered { IfErr result (λ status. Hinders (λ at. (begin : Option (List ℕ)) (disk : List ℕ) → Recovers (again from) begin disk self.old (H.outside host.old) → HasDamage at disk)
-            ⊥ status (H.outside host.old) (H.outside host.new)) }
+            ⊥ ((begin : Option (List ℕ)) (disk : List ℕ) → Recovers (again from) begin disk self.old (H.outside host.old) → StarvesAgain from begin disk (H.outside host.new))
+            status (H.outside host.old) (H.outside host.new)) }
     {
         'batches: loop {
             let more = self.scan.next(host, batch)?;
@@ -180,10 +177,13 @@ impl Recovery {
         ensures keeps { OnlyReadsDisk (H.outside host.old) (H.outside host.new) }
         ensures none { OnOk result (NoFault (H.outside host.old) (H.outside host.new)) }
         ensures hindered { IfErr result (λ status. Hinders (λ _. ⊥) ((disk : List ℕ) → (H.outside host.new).disk ≡ Some disk → HasNoHeader disk)
-            status (H.outside host.old) (H.outside host.new)) }
+            (host.new ≡ host.old) status (H.outside host.old) (H.outside host.new)) }
     {
+        let Ok(mut engine) = Engine::new(alloc, 0) else {
+            return Err(Status::NoMemory);
+        };
         let scan = Scan::begin(alloc, host)?;
-        let engine = begin_engine(alloc, scan.limit())?;
+        engine.limit(scan.limit());
         Ok(Recovery {
             scan,
             engine,
@@ -222,7 +222,7 @@ fn greet<H: Host>(engine: &Engine, outbox: &mut Outbox, host: &mut H) -> Result<
         → Elapses (H.outside host.old) (H.outside host.new) (SendsPrefix begin text (H.outside host.old)) }
     ensures keeps { OnlySends (H.outside host.old) (H.outside host.new) }
     ensures causes { Causes result (H.outside host.old) (H.outside host.new) }
-    ensures unread { result ≢ Err Fault.Read }
+    ensures fault { IfErr result (λ fault. fault ≡ Fault.Send) }
 {
     let hello = Frame::Hello {
         inputs: engine.evaluated,
@@ -243,7 +243,7 @@ pub fn restore<H: Host>(
     requires outbox { outbox ≡ [] }
     requires round { round ≡ [] }
     ensures restored { IfOk result (λ serving. IsRestored from serving (H.outside host.old) (H.outside host.new)) }
-    ensures unread { IfErr result (λ status. IsUnread from status (H.outside host.old) (H.outside host.new)) }
+    ensures unread { IfErr result (λ status. IsUnread (host.new ≡ host.old) from status (H.outside host.old) (H.outside host.new)) }
 {
     let mut recovery = Recovery::begin(alloc, host, outbox)?;
     recovery.recover(host, from, batch)?;

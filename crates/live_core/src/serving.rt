@@ -86,7 +86,7 @@ fn serve_in<H: Host>(
     requires round { round ≡ [] }
     requires buffer { 0 < length buffer.old }
     requires bytes { options.now.bytes ≤ BYTES_MAX }
-    ensures served { Served options.now.from options.now.bytes result (H.outside host.old) (H.outside host.new) }
+    ensures served { Served (host.new ≡ host.old) options.now.from options.now.bytes result (H.outside host.old) (H.outside host.new) }
 {
     match restore(alloc, host, outbox, batch, round, options.from) {
         Ok(mut serving) => answer(&mut serving, host, buffer, options.bytes),
@@ -104,7 +104,7 @@ pub fn serve<Rt: Threads + Sync, H: Host>(
     options: &ServeOptions,
 ) -> Status
     requires bytes { options.now.bytes ≤ BYTES_MAX }
-    ensures served { Served options.now.from options.now.bytes result (H.outside host.old) (H.outside host.new) }
+    ensures served { Served (host.new ≡ host.old) options.now.from options.now.bytes result (H.outside host.old) (H.outside host.new) }
 {
     let _ = rt;
     match Room::new(alloc) {

@@ -2,7 +2,7 @@ ghost use Rattle.std.specs.Prelude.{◌≡◌, ◌≢◌, ◌↔◌, ◌+◌, �
 ghost use Rattle.std.specs.Str.{bytes_eq};
 ghost use Rattle.session_core.specs.Dates.{Civil};
 ghost use Rattle.wire_in.specs.declared.record.Record.{Record};
-ghost use Rattle.wire_in.specs.Records.{name_of, symbol_of};
+ghost use Rattle.wire_in.specs.Records.{symbol_of};
 ghost use Rattle.rulebook.specs.Admission.{verdict};
 ghost use Rattle.market_core.specs.Dated.{is_on};
 ghost use Rattle.market_core.specs.AdmissionState.{AdmissionState, Represents, refusal_of, is_before_day, is_date_early, is_out_of_order, names_unlisted, is_listed_id, name_refusal_of, is_full_for, added, dates_listed, day_after, directory_after, dates_after, admitted_with};
@@ -27,7 +27,8 @@ pub struct Admission {
 }
 
 impl Model for Admission {
-    ghost use Rattle.std.specs.Prelude.{◌≡◌, length, unwrap_or, vec_len};
+    ghost use Rattle.std.specs.Prelude.{◌≡◌, ◌≤◌, length, unwrap_or, vec_len, vec_capacity};
+    ghost use Rattle.rulebook.specs.Admission.{most_names};
     ghost use Rattle.market_core.specs.AdmissionState.{AdmissionState};
 
     ghost Value = { AdmissionState };
@@ -41,7 +42,7 @@ impl Model for Admission {
       dates = a.listed_on.items;
     } };
 
-    ghost invariant = { λ a. vec_len a.listed_on ≡ length a.directory };
+    ghost invariant = { λ a. (vec_len a.listed_on ≡ length a.directory) × (most_names ≤ vec_capacity a.listed_on) };
 }
 
 /// Whether a date is that of the day.
@@ -105,9 +106,9 @@ fn names_unlisted(day: Option<Day>, dates: &[Date], x: &Record) -> bool
 }
 
 impl Admission {
-    /// An admission of no records, under a capacity of records. It takes no memory yet, and so it always succeeds.
+    /// An admission of no records, under a capacity of records. It takes the room for all names, and so no record that is
+    /// admitted takes memory.
     pub fn new(alloc: Global, capacity: u64) -> Result<Admission, NoMemory>
-        ensures succeeds { IsOk result }
         ensures stands { IfOk result (λ a. Represents a []) }
         ensures capacity { IfOk result (λ a. a.capacity ≡ capacity) }
     {
@@ -116,9 +117,16 @@ impl Admission {
             count: 0,
             day: None,
             last: None,
-            directory: Directory::new(alloc),
-            listed_on: Vec::new(alloc),
+            directory: Directory::new(alloc)?,
+            listed_on: Vec::with_capacity(alloc, MOST_NAMES)?,
         })
+    }
+
+    /// Puts another capacity of records in.
+    pub fn limit(&mut self, capacity: u64)
+        ensures { self.new ≡ record self.old { capacity = capacity } }
+    {
+        self.capacity = capacity;
     }
 
     /// How many records were admitted.
@@ -186,57 +194,48 @@ impl Admission {
     }
 
     /// Lists a name on a day.
-    fn list(&mut self, name: [u8; 8], day: &Day) -> Result<(), NoMemory>
+    fn list(&mut self, name: [u8; 8], day: &Day)
         requires { is_full_for self.old.directory name ≡ false }
-        ensures ok { OnOk result (self.new ≡ record self.old {
+        ensures { self.new ≡ record self.old {
           directory = added self.old.directory (position (bytes_eq name) self.old.directory) name;
           dates = dates_listed day.now self.old.dates (position (bytes_eq name) self.old.directory);
-        }) }
-        ensures err { OnErr result (self.new ≡ self.old) }
+        } }
     {
         match self.directory.id(name) {
             Some(id) => self.listed_on[id as usize] = day.date,
             None => {
-                self.listed_on.reserve(1)?;
-                self.directory.push(name)?;
+                self.directory.push(name);
                 self.listed_on.push(day.date).unwrap();
             }
         }
-        Ok(())
     }
 
     /// Takes a record's day, name and date in.
-    fn take_in(&mut self, x: &Record) -> Result<(), NoMemory>
+    fn take_in(&mut self, x: &Record)
         requires { refusal_of self.old x.now ≡ None }
-        ensures ok { OnOk result (self.new ≡ record self.old {
+        ensures { self.new ≡ record self.old {
           day = day_after self.old.day x.now;
           directory = directory_after self.old.directory x.now;
           dates = dates_after self.old x.now;
-        }) }
-        ensures err { OnErr result (self.new ≡ self.old) }
-        ensures succeeds { name_of x.now ≡ None → IsOk result }
+        } }
     {
         match (*x, self.day) {
-            (Record::Day { day, .. }, _) => {
-                self.day = Some(day);
-                Ok(())
-            }
+            (Record::Day { day, .. }, _) => self.day = Some(day),
             (Record::Listing { name, .. }, Some(day)) => self.list(name, &day),
-            _ => Ok(()),
+            _ => {}
         }
     }
 
-    /// Admits a record that no refusal applies to. An error leaves the admission as it was; it comes only for a
-    /// Listing.
+    /// Admits a record that no refusal applies to. It takes no memory, and so it always succeeds.
     pub fn admit(&mut self, x: &Record) -> Result<(), NoMemory>
         requires { refusal_of self.old x.now ≡ None }
         ensures stands { (admitted : List Record) → Represents self.old admitted → OnOk result (Represents self.new (x.now ∷ admitted)) }
         ensures capacity { self.new.capacity ≡ self.old.capacity }
         ensures count { OnOk result (self.new.count ≡ self.old.count + 1) }
         ensures err { OnErr result (self.new ≡ self.old) }
-        ensures succeeds { name_of x.now ≡ None → IsOk result }
+        ensures succeeds { IsOk result }
     {
-        self.take_in(x)?;
+        self.take_in(x);
         self.last = Some(x.moment());
         self.count += 1;
         Ok(())

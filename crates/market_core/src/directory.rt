@@ -1,37 +1,40 @@
-ghost use Rattle.std.specs.Prelude.{◌≡◌, ◌<◌, ◌≤◌, ◌∷◌, ◌++◌, [], None, length, position, OnOk, OnErr, IfOk};
+ghost use Rattle.std.specs.Prelude.{◌≡◌, ◌<◌, ◌≤◌, ◌∷◌, ◌++◌, [], None, length, position, IfOk};
 ghost use Rattle.std.specs.Str.{bytes_eq};
 ghost use Rattle.rulebook.specs.Admission.{most_names};
 
 use indexmap::IndexSet;
 use price_core::NoMemory;
+use rulebook::MOST_NAMES;
 use std::alloc::Global;
 use std::marker::Model;
 
-/// The names that were ever listed, in order of their first listing: the index of a name is its id.
+/// The names that were ever listed, in order of their first listing: the index of a name is its id. Its room is taken when
+/// it is made.
 #[derive(Drop)]
 pub struct Directory {
     names: IndexSet<[u8; 8]>,
 }
 
 impl Model for Directory {
-    ghost use Rattle.std.specs.Prelude.{ℕ, ◌≤◌, List, length};
+    ghost use Rattle.std.specs.Prelude.{ℕ, ◌+◌, ◌≤◌, List, length};
+    ghost use Rattle.indexmap.specs.IndexSet.{spare};
     ghost use Rattle.rulebook.specs.Admission.{most_names};
 
     ghost Value = { List (List ℕ) };
 
     ghost view = { λ directory. directory.names.keys };
 
-    ghost invariant = { λ directory. length directory.names.keys ≤ most_names };
+    ghost invariant = { λ directory. (length directory.names.keys ≤ most_names) × (most_names ≤ length directory.names.keys + spare directory.names) };
 }
 
 impl Directory {
-    /// No names.
-    pub fn new(alloc: Global) -> Directory
-        ensures { result ≡ [] }
+    /// No names, with room for 16,384.
+    pub fn new(alloc: Global) -> Result<Directory, NoMemory>
+        ensures { IfOk result (λ directory. directory ≡ []) }
     {
-        Directory {
-            names: IndexSet::new(alloc),
-        }
+        Ok(Directory {
+            names: IndexSet::with_capacity(alloc, MOST_NAMES)?,
+        })
     }
 
     /// How many names there are.
@@ -49,15 +52,14 @@ impl Directory {
         self.names.get_index_of(&name).map(|id| id as u16)
     }
 
-    /// Lists a new name, and answers its id. An error leaves the names as they were.
-    pub fn push(&mut self, name: [u8; 8]) -> Result<u16, NoMemory>
+    /// Lists a new name, and answers its id.
+    pub fn push(&mut self, name: [u8; 8]) -> u16
         requires new { position (bytes_eq name) self.old ≡ None }
         requires room { length self.old < most_names }
-        ensures id { IfOk result (λ id. id ≡ length self.old) }
-        ensures names { OnOk result (self.new ≡ self.old ++ name ∷ []) }
-        ensures err { OnErr result (self.new ≡ self.old) }
+        ensures id { result ≡ length self.old }
+        ensures names { self.new ≡ self.old ++ name ∷ [] }
     {
-        let (id, _) = self.names.insert_full(name)?;
-        Ok(id as u16)
+        let (id, _) = self.names.insert_full(name).unwrap();
+        id as u16
     }
 }

@@ -14,4 +14,4 @@ mod tests;
 pub use admission::Admission;
 pub use directory::Directory;
 pub use law::a_symbol_is_isolated;
-pub use market::{MOST_MESSAGES, Market, Today};
+pub use market::{MOST_MESSAGES, Market, Today, most_messages_of};

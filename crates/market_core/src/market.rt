@@ -9,6 +9,7 @@ ghost use Rattle.rulebook.specs.Market.{breaks};
 ghost use Rattle.rulebook.specs.Book.{newest_messages};
 ghost use Rattle.symbol_core.specs.Evaluates.{most_of_symbol};
 ghost use Rattle.market_core.specs.Kinds.{is_trade};
+ghost use Rattle.market_core.specs.MarketState.{most_of_names};
 ghost use Rattle.market_core.specs.Isolation.{newest_isolated};
 ghost use Rattle.market_core.specs.AdmissionState.{is_full_for, lacks_room, added};
 
@@ -34,6 +35,13 @@ pub struct Today {
 
 /// The most messages of one record: two of the market, and those of each symbol.
 pub const MOST_MESSAGES: usize = 2 + MOST_OF_SYMBOL * MOST_NAMES;
+
+/// The most messages of a record, where so many names were ever listed.
+pub fn most_messages_of(names: u32) -> usize
+    ensures { result ≡ most_of_names names }
+{
+    2 + MOST_OF_SYMBOL * names as usize
+}
 
 /// One market: the names ever listed, the day and its breakers, and the symbol of each name.
 #[derive(Drop)]
@@ -123,7 +131,7 @@ impl Today {
 }
 
 impl Market {
-    ghost use Rattle.market_core.specs.MarketState.{Represents, most_messages, most_of_names};
+    ghost use Rattle.market_core.specs.MarketState.{Represents, most_messages};
     ghost use Rattle.market_core.specs.Applied.{EachEvaluated, OneEvaluated, Finds, Lists, OnToday, Ticks, Evaluated, Applies};
 
     /// A market with no names and no day.
@@ -132,10 +140,18 @@ impl Market {
     {
         Ok(Market {
             alloc,
-            directory: Directory::new(alloc),
+            directory: Directory::new(alloc)?,
             today: None,
             section: Section::new(alloc)?,
         })
+    }
+
+    /// How many names were ever listed.
+    pub fn names(&self) -> u32
+        ensures names { result ≡ length self.now.directory }
+        ensures bound { result ≤ most_names }
+    {
+        self.directory.len() as u32
     }
 
     /// Begins a day.
@@ -151,6 +167,7 @@ impl Market {
         ensures len { vec_len out.new ≤ vec_len out.old + most_of_symbol * length self.old.directory }
         ensures room { vec_len out.old + most_of_symbol * length self.old.directory ≤ vec_capacity out.old → IsOk result }
         ensures keeps_room { vec_capacity out.old ≤ vec_capacity out.new }
+        ensures names { self.new.directory ≡ self.old.directory }
     {
         // For the proof: it says of the record what the condition says.
         let _day = x.is_day();
@@ -169,6 +186,7 @@ impl Market {
         ensures len { vec_len out.new ≤ vec_len out.old + most_of_names (length self.old.directory) }
         ensures room { vec_len out.old + most_of_names (length self.old.directory) ≤ vec_capacity out.old → IsOk result }
         ensures keeps_room { vec_capacity out.old ≤ vec_capacity out.new }
+        ensures names { self.new.directory ≡ self.old.directory }
     {
         out.reserve(2 + MOST_OF_SYMBOL * self.directory.len())?;
         if let Some(today) = &mut self.today {
@@ -187,6 +205,7 @@ impl Market {
         ensures room { is_trade x.now ≡ false → vec_len out.old + most_of_symbol ≤ vec_capacity out.old → IsOk result }
         ensures room_for_all { is_trade x.now ≡ false → vec_len out.old + most_of_symbol * length self.old.directory ≤ vec_capacity out.old → IsOk result }
         ensures keeps_room { vec_capacity out.old ≤ vec_capacity out.new }
+        ensures names { self.new.directory ≡ self.old.directory }
     {
         let Some(today) = &self.today else {
             return Ok(());
@@ -206,10 +225,11 @@ impl Market {
         requires room { length self.old.directory < most_names }
         ensures ok { IfOk result (λ id. Finds name id self.old self.new) }
         ensures err { OnErr result (self.new ≡ self.old) }
+        ensures names { length self.new.directory ≤ length self.old.directory + 1 }
     {
         self.section.reserve()?;
         let symbol = Symbol::new(self.alloc, self.directory.len() as u16)?;
-        let id = self.directory.push(name)?;
+        let id = self.directory.push(name);
         self.section.push(symbol);
         Ok(id)
     }
@@ -219,6 +239,7 @@ impl Market {
     fn find(&mut self, name: [u8; 8]) -> Result<Option<u16>, NoMemory>
         ensures ok { is_full_for self.old.directory name ≡ false → IfOk result (λ found. IsSomeAnd found (λ id. Finds name id self.old self.new)) }
         ensures err { OnErr result (self.new ≡ self.old) }
+        ensures names { length self.new.directory ≤ length self.old.directory + 1 }
     {
         // For the proof: it has the invariant, that there are as many symbols as names.
         let _symbols = self.section.len();
@@ -237,6 +258,7 @@ impl Market {
         ensures err { OnErr result ((self.new ≡ self.old) × (out.new.items ≡ out.old.items)) }
         ensures len { vec_len out.new ≤ vec_len out.old + most_of_symbol }
         ensures keeps_room { vec_capacity out.old ≤ vec_capacity out.new }
+        ensures names { length self.new.directory ≤ length self.old.directory + 1 }
     {
         out.reserve(MOST_OF_SYMBOL)?;
         let Some(id) = self.find(name)? else {
@@ -254,6 +276,8 @@ impl Market {
         ensures len { vec_len out.new ≤ vec_len out.old + most_messages }
         ensures room { name_of x.now ≡ None → is_trade x.now ≡ false → vec_len out.old + most_of_names (length self.old.directory) ≤ vec_capacity out.old → IsOk result }
         ensures keeps_room { vec_capacity out.old ≤ vec_capacity out.new }
+        ensures names { name_of x.now ≡ None → length self.new.directory ≡ length self.old.directory }
+        ensures one_more { length self.new.directory ≤ length self.old.directory + 1 }
     {
         // For the proof: it has the invariant, that the names are few enough.
         let _names = self.directory.len();
@@ -277,7 +301,7 @@ impl Market {
     /// Applies a record that is admissible after the applied ones, and appends the messages of its step. What it appends
     /// of one symbol is what that symbol says alone, over its own records and the market-wide ones. An error
     /// leaves market and list as they were. It takes no memory where the record is neither a Listing nor a Trade and
-    /// the list has room for two messages and 16 for each name. The list keeps its room.
+    /// the list has room for two messages and 16 for each name. The list keeps its room. A Listing alone may add a name.
     pub fn apply(&mut self, x: &Record, out: &mut Vec<Stamped>) -> Result<(), NoMemory>
         ensures given { (capacity : ℕ) (applied : List Record) → Represents self.old applied → verdict capacity applied x.now ≡ None
             → OnOk result (out.new.items ≡ out.old.items ++ newest_messages (x.now ∷ applied)) }
@@ -290,6 +314,8 @@ impl Market {
         ensures room { name_of x.now ≡ None → is_trade x.now ≡ false
             → vec_len out.old + most_of_names (length self.old.directory) ≤ vec_capacity out.old → IsOk result }
         ensures keeps_room { vec_capacity out.old ≤ vec_capacity out.new }
+        ensures names { name_of x.now ≡ None → length self.new.directory ≡ length self.old.directory }
+        ensures one_more { length self.new.directory ≤ length self.old.directory + 1 }
     {
         self.keep(x, out)
     }

@@ -1,5 +1,5 @@
 -- A replay, from its start to its end.
-use Rattle.std.proofs.Common.{◌≡◌, ◌≢◌, ℕ, ◌<◌, List, [], length, take, refl, sym, ap, subst, ◌∙◌, arith}
+use Rattle.std.proofs.Common.{◌≡◌, ◌≢◌, ◌⊎◌, ℕ, ◌<◌, List, [], length, take, refl, sym, ap, subst, ◌∙◌, arith}
 use Rattle.std.specs.Prelude.{min, Option, Some, Result, Ok, Err, IfOk}
 use Rattle.std.specs.Io.KnownBytes.{append_known}
 use Rattle.host_core.specs.declared.fault.Fault.{Fault}
@@ -15,12 +15,12 @@ use Rattle.engine_core.specs.declared.session.Session.{Session}
 use Rattle.engine_core.specs.Ends.{IsEnd, ReadsAtMost, Told, answer_of, end_of}
 use Rattle.engine_core.specs.Pending.{SendsPrefix, SentPrefix}
 use Rattle.engine_core.specs.Sessions as engine
-use Rattle.engine_core.specs.Sessions.{expected, Prompt}
+use Rattle.engine_core.specs.Sessions.{expected, Prompt, Starved}
 use Rattle.engine_core.specs.Serving.{Reads}
 use Rattle.engine_core.proofs.Pending.{expects_nothing, prefix_sent}
 use Rattle.engine_core.proofs.Expecting.{safe_prefix}
 use Rattle.engine_core.proofs.Beginning.{begins}
-use Rattle.engine_core.proofs.Statuses.{at_an_end, at_a_read, told_of}
+use Rattle.engine_core.proofs.Statuses.{at_an_end, at_a_read, at_no_memory, told_of}
 use Rattle.replay_core.specs.InternalSession.{IsFresh}
 use Rattle.replay_core.specs.Replayed.{replay_start, replay_text, Answered, LeavesDisk, IsAnswer, Replayed}
 
@@ -67,7 +67,7 @@ answers (Err f) end unkept = grind arith
 completes : (s : Status) (old new : Outside) → IsAnswer s → Told s old new → s ≢ NoMemory → ¬ (Rose old.read_faults new.read_faults) → ¬ (Rose old.send_faults new.send_faults) → IsEnd s
 completes s old new answer told memory no_reads no_sends = grind arith
 
-module _ (most : ℕ) (old new : Outside) (result : Result Status Fault)
+module _ (unbegun : Type 0) (most : ℕ) (old new : Outside) (result : Result Status Fault)
     (moments : (input : List ℕ) → old.input ≡ Some input → Elapses old new (SendsPrefix old.sent (replay_text (take most input)) old))
     (prompt : (input : List ℕ) → old.input ≡ Some input → Prompt (replay_start old.sent) input old.asks new.asks)
     (bytes : ReadsAtMost most old.input new.input) (leaves : LeavesDisk old new) (continues : Continues old new)
@@ -90,13 +90,15 @@ module _ (most : ℕ) (old new : Outside) (result : Result Status Fault)
 
   pub replayed : ((input : List ℕ) → old.input ≡ Some input → IfOk result (λ status. (status ≡ end_of most input) × Answered old.sent input (min most (length input)) new))
       → ((input : List ℕ) → old.input ≡ Some input → result ≡ Err fault.Read → (count : ℕ) × (count < most) × Answered old.sent input count new)
-      → Replayed most (answer_of result) old new
-  replayed exact unread = record {
+      → ((input : List ℕ) → old.input ≡ Some input → result ≡ Err fault.Memory → unbegun ⊎ Starved (replay_start old.sent) (bodies_of (take most input)) new)
+      → Replayed unbegun most (answer_of result) old new
+  replayed exact unread starved = record {
     moments = moments;
     exact = λ input is. at_an_end result _ (exact input is);
     unread = λ input is failed. unread input is (at_a_read result end failed);
     part = sent_part;
     prompt = prompt;
+    starved = λ input is failed. starved input is (at_no_memory result end failed);
     bytes = bytes;
     complete = completes (answer_of result) old new (answers result end unkept) told;
     read_cause = told_at ReadFault;

@@ -1,7 +1,7 @@
 -- A session of a replay at its start.
 use Rattle.std.specs.Prelude.{◌≡◌, []}
 use Rattle.engine_core.specs.declared.session.Session.{Session}
-use Rattle.engine_core.specs.EngineState.{Represents}
+use Rattle.engine_core.specs.EngineState.{Represents, IsRoomy}
 use Rattle.replay_core.specs.Replayed.{capacity}
 
 -- it has read, accepted and judged nothing, and nothing waits
@@ -13,4 +13,5 @@ pub record IsFresh (session : Session) : Type 0 where
   pub none : session.engine.admission.count ≡ 0
   pub evaluated : session.engine.evaluated ≡ 0
   pub published : session.engine.published ≡ 0
+  pub roomy : IsRoomy session.engine
   pub outbox : session.outbox ≡ []

@@ -1,5 +1,5 @@
 -- What a replay did, whatever its answer.
-use Rattle.std.specs.Prelude.{◌≡◌, ◌≢◌, ℕ, ◌<◌, ◌≤◌, List, [], length, min, take, drop, false, Option, Some}
+use Rattle.std.specs.Prelude.{◌≡◌, ◌≢◌, ◌⊎◌, ℕ, ◌<◌, ◌≤◌, List, [], length, min, take, drop, false, Option, Some}
 use Rattle.std.specs.Io.KnownBytes.{append_known}
 use Rattle.host_core.specs.declared.status.Status.{Status}
 use Rattle.host_core.specs.declared.status.Status.TheVariants.{Usage, ReadFault, SendFault, DiskFault, Damaged, NoJournal, NoMemory, BadText}
@@ -7,7 +7,7 @@ use Rattle.host_core.specs.Outside.{Outside, Elapses, Rose, NoFault, Continues}
 use Rattle.wire_in.specs.Cutting.{bodies_of}
 use Rattle.engine_core.specs.Ends.{IsEnd, ReadsAtMost, end_of}
 use Rattle.engine_core.specs.Pending.{SendsPrefix, SentPrefix}
-use Rattle.engine_core.specs.Sessions.{Start, Prompt, expected}
+use Rattle.engine_core.specs.Sessions.{Start, Prompt, Starved, expected}
 
 -- more records than any input has: a replay has no capacity of its own
 abbrev pub capacity : ℕ
@@ -41,8 +41,9 @@ IsAnswer NoJournal = ⊥
 IsAnswer (BadText line) = ⊥
 IsAnswer _ = Unit {0}
 
--- the input was replayed, up to so many bytes, and the disk was not touched
-pub record Replayed (most : ℕ) (status : Status) (old new : Outside) : Type 0 where
+-- the input was replayed, up to so many bytes, and the disk was not touched; what says that no call of the host was made is
+-- given
+pub record Replayed (unbegun : Type 0) (most : ℕ) (status : Status) (old new : Outside) : Type 0 where
   -- whenever it is stopped, a prefix of what is expected was sent, and the disk has an image from before
   pub moments : (input : List ℕ) → old.input ≡ Some input → Elapses old new (SendsPrefix old.sent (replay_text (take most input)) old)
   -- where the end was read, all was sent, and the status is that of the end
@@ -53,6 +54,9 @@ pub record Replayed (most : ℕ) (status : Status) (old new : Outside) : Type 0 
   pub part : (input : List ℕ) → old.input ≡ Some input → SentPrefix old.sent new.sent (replay_text (take most input))
   -- whenever the input was read, all that is expected for the whole frames read before had been sent
   pub prompt : (input : List ℕ) → old.input ≡ Some input → Prompt (replay_start old.sent) input old.asks new.asks
+  -- memory is short only before the first call of the host, or at a Listing or a Trade, with all sent that is expected for
+  -- the frames before it
+  pub starved : (input : List ℕ) → old.input ≡ Some input → status ≡ NoMemory → unbegun ⊎ Starved (replay_start old.sent) (bodies_of (take most input)) new
   -- no more bytes than asked for are read, whatever the answer
   pub bytes : ReadsAtMost most old.input new.input
   -- with enough memory and no faults, the input is read to its end or to the most bytes

@@ -1,10 +1,11 @@
 //! A replay over a host: reads, evaluates and sends, up to the end of the input or to so many bytes.
 
-ghost use Rattle.std.specs.Prelude.{◌≡◌, ◌≢◌, ◌<◌, ◌≤◌, ℕ, List, Some, IfOk, Err, length, min, take};
+ghost use Rattle.std.specs.Prelude.{◌≡◌, ◌≢◌, ◌⊎◌, ◌<◌, ◌≤◌, ℕ, List, Some, IfOk, Err, length, min, take};
 ghost use Rattle.host_core.specs.Outside.{Elapses, Continues};
 ghost use Rattle.host_core.specs.Faults.{Causes};
 ghost use Rattle.engine_core.specs.Pending.{SendsPrefix};
-ghost use Rattle.engine_core.specs.Sessions.{Prompt};
+ghost use Rattle.wire_in.specs.Cutting.{bodies_of};
+ghost use Rattle.engine_core.specs.Sessions.{Prompt, Starved};
 ghost use Rattle.engine_core.specs.Ends.{IsEnd, ReadsAtMost, end_of};
 ghost use Rattle.replay_core.specs.InternalSession.{IsFresh};
 ghost use Rattle.replay_core.specs.Replayed.{replay_text, replay_start, Answered, LeavesDisk, Replayed};
@@ -51,6 +52,8 @@ fn answer_input<H: Host>(alloc: Global, host: &mut H, bytes: u64) -> Result<Stat
         → Elapses (H.outside host.old) (H.outside host.new) (SendsPrefix (H.outside host.old).sent (replay_text (take bytes input)) (H.outside host.old)) }
     ensures prompt { (input : List ℕ) → (H.outside host.old).input ≡ Some input
         → Prompt (replay_start (H.outside host.old).sent) input (H.outside host.old).asks (H.outside host.new).asks }
+    ensures starved { (input : List ℕ) → (H.outside host.old).input ≡ Some input → result ≡ Err Fault.Memory
+        → (host.new ≡ host.old) ⊎ Starved (replay_start (H.outside host.old).sent) (bodies_of (take bytes input)) (H.outside host.new) }
     ensures bytes { ReadsAtMost bytes (H.outside host.old).input (H.outside host.new).input }
     ensures unkept { result ≢ Err Fault.Disk }
     ensures disk { LeavesDisk (H.outside host.old) (H.outside host.new) }
@@ -78,7 +81,7 @@ pub fn replay<Rt: Threads + Sync, H: Host>(
     options: &ReplayOptions,
 ) -> Status
     requires bytes { options.now.bytes ≤ BYTES_MAX }
-    ensures replayed { Replayed options.now.bytes result (H.outside host.old) (H.outside host.new) }
+    ensures replayed { Replayed (host.new ≡ host.old) options.now.bytes result (H.outside host.old) (H.outside host.new) }
 {
     let _ = rt;
     answer_of(answer_input(alloc, host, options.bytes))

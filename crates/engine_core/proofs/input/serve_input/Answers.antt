@@ -3,7 +3,7 @@ use Rattle.std.specs.Prelude.{Err}
 use Rattle.std.proofs.lemmas.Bool.Decides.{nat_tests}
 use Rattle.std.proofs.lemmas.List.{length-take}
 use Rattle.std.specs.Io.KnownBytes.{append_known}
-use Rattle.host_core.specs.declared.fault.Fault.TheVariants.{Read}
+use Rattle.host_core.specs.declared.fault.Fault.TheVariants.{Read, Memory}
 use Rattle.host_core.proofs.Moments.{unchanged, further}
 use Rattle.host_core.proofs.Causes.{no_fault, faultless}
 use Rattle.wire_in.specs.Cutting.{bodies_of}
@@ -13,6 +13,7 @@ use Rattle.engine_core.proofs.Keeping.{idles, runs_on}
 use Rattle.engine_core.proofs.Reading.{up_to, expects_all, serves_sent, safe_sent, answered_by, piece_begins, reads_more, none_left}
 use Rattle.engine_core.proofs.Asking.{no_ask, more_asks}
 use Rattle.engine_core.proofs.Ending.{ends}
+use Rattle.engine_core.proofs.Expecting.{starved_further}
 use Rattle.engine_core.proofs.input.serve_input.Goals as goal
 
 pub loop-open-init : goal.loop-open-init
@@ -147,3 +148,19 @@ returns-clause-moments g c = λ start input same reads. (c.loop-open.invariant.p
 
 pub returns-clause-prompt : goal.returns-clause-prompt
 returns-clause-prompt g c = λ start input same reads. (c.loop-open.invariant.polls start input same reads).prompt
+
+-- memory was short
+pub returns-in_err-count-clause-starved : goal.returns-in_err-count-clause-starved
+returns-in_err-count-clause-starved g c = λ start input same reads is.
+    let short : c.exchange.result ≡ Err Memory = search rules in
+    absurd (c.exchange.ensures.unstarved short)
+
+pub returns-in_err-feed-clause-starved : goal.returns-in_err-feed-clause-starved
+returns-in_err-feed-clause-starved g c = λ start input same reads is.
+    let was = c.loop-open.invariant.polls start input same reads in
+    let expects = expects_all was.reads c.loop-open.invariant.empty in
+    let held = g.K.Keeper.still_held c.loop-open.keeper _ _ _ was.reads.serves.held c.exchange.ensures.keeps.disk c.exchange.ensures.keeps.left in
+    let mid = serves_sent was.reads c.loop-open.invariant.empty c.exchange.new.outbox (g.H.Host.outside c.exchange.new.host) held c.in_ok-count.ensures.empty (c.in_ok-count.ensures.sent start.sent _ expects) in
+    let short : c.feed.result ≡ Err Memory = search rules in
+    starved_further (piece_begins was.reads c.in_ok-count.ensures.taken c.args.most (omega (arith, c.loop-open.invariant.within, c.in_ok-count.ensures.taken.within, c.min-room.ensures)))
+    (c.feed.ensures.starved start _ same mid short)

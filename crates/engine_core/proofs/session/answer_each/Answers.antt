@@ -1,11 +1,13 @@
-use Rattle.std.proofs.Common.{◌≡◌, ◌+◌, length, refl, sym, ap, ◌∙◌, arith}
+use Rattle.std.proofs.Common.{◌≡◌, ◌+◌, length, refl, sym, ap, ◌∙◌, arith, rules}
+use Rattle.std.specs.Prelude.{Err}
+use Rattle.host_core.specs.declared.fault.Fault.TheVariants.{Memory}
 use Rattle.std.proofs.lemmas.List.{drop_all}
 use Rattle.host_core.proofs.Chains.{onward, sends_nothing}
 use Rattle.host_core.proofs.Causes.{no_fault, faultless}
 use Rattle.engine_core.specs.Sessions.{expected}
 use Rattle.engine_core.proofs.Sending.{sends_none, sends_longer}
 use Rattle.engine_core.proofs.Expecting.{added, expected-more}
-use Rattle.engine_core.proofs.Answering.{drop_one, admissible, answers_next, sends_next, sound_next}
+use Rattle.engine_core.proofs.Answering.{drop_one, admissible, answers_next, sends_next, sound_next, starved_at}
 use Rattle.engine_core.proofs.session.answer_each.Goals as goal
 
 pub loop-outcome-init : goal.loop-outcome-init
@@ -36,7 +38,8 @@ loop-outcome-preserved g c =
           sends_next now (c.loop-outcome.invariant.moments start all same answers)
           (rw same at (c.answer.ensures.moments start.capacity _ _ start.sent _ now.waits.engine_is (admissible now) now.pending_is));
       admission = c.answer.ensures.admission ∙ c.loop-outcome.invariant.admission;
-      sound = sound_next c.answer.new.engine (rw front at c.loop-outcome.invariant.sound) c.answer.ensures.admission c.in_ok-answer.ensures.evaluated c.in_ok-answer.ensures.published;
+      sound = sound_next c.answer.new.engine (rw front at c.loop-outcome.invariant.sound) c.answer.ensures.admission c.in_ok-answer.ensures.evaluated c.in_ok-answer.ensures.published
+          (c.in_ok-answer.ensures.roomy c.loop-outcome.invariant.sound.roomy);
       keeps = onward c.loop-outcome.invariant.keeps c.answer.ensures.keeps;
       none = faultless c.loop-outcome.invariant.none c.in_ok-answer.ensures.causes;
     }
@@ -57,3 +60,10 @@ pub returns-clause-sound : goal.returns-clause-sound
 returns-clause-sound g c =
     let number : c.loop-outcome.number ≡ c.args.answered + length c.args.outcomes.now = omega (arith, c.loop-outcome.invariant.number, c.loop-outcome-test.false, c.loop-outcome.auto.outcome-index-end) in
     rw (number, drop_all c.loop-outcome.outcome-index c.args.outcomes.now c.loop-outcome-test.false) at c.loop-outcome.invariant.sound
+
+pub returns-in_err-answer-clause-starved : goal.returns-in_err-answer-clause-starved
+returns-in_err-answer-clause-starved g c = λ start all same answers is.
+    let front = drop_one c.args.outcomes.now c.loop-outcome.outcome-index c.outcome-item.result c.loop-outcome-test.true c.outcome-item.is in
+    let now = rw front at (c.loop-outcome.invariant.answers start all same answers) in
+    let short : c.answer.result ≡ Err Memory = search rules in
+    starved_at now _ (c.answer.ensures.starved start.sent _ c.loop-outcome.invariant.sound.roomy now.pending_is short)

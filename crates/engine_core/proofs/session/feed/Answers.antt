@@ -1,8 +1,10 @@
-use Rattle.std.proofs.Common.{ℕ, ◌++◌, List, take, drop, refl, sym, ap, ◌∙◌, append_assoc, arith}
+use Rattle.std.proofs.Common.{◌≡◌, ℕ, ◌++◌, List, take, drop, refl, sym, ap, ◌∙◌, append_assoc, arith, rules}
+use Rattle.std.specs.Prelude.{Err}
+use Rattle.host_core.specs.declared.fault.Fault.TheVariants.{Memory}
 use Rattle.std.proofs.lemmas.List.{append-nil, take_all, take-append-drop}
 use Rattle.host_core.proofs.Causes.{no_fault, faultless}
 use Rattle.host_core.proofs.Chains.{sends_nothing}
-use Rattle.engine_core.proofs.Expecting.{Begins}
+use Rattle.engine_core.proofs.Expecting.{Begins, starved_further}
 use Rattle.engine_core.proofs.Keeping.{serves_as, serves_further, idles, runs_on, answers_sends, answers_on}
 use Rattle.engine_core.proofs.session.feed.Goals as goal
 
@@ -27,18 +29,18 @@ loop-at-init g c = record {
 
 pub loop-at-preserved : goal.loop-at-preserved
 loop-at-preserved g c = record {
-  within = c.in_ok-at.ensures.place.1;
+  within = c.fill-at.ensures.place.1;
   empty = c.in_ok-settle.ensures.empty;
-  few = omega (arith, c.loop-at.invariant.few, c.in_ok-settle.ensures.answered, c.in_ok-at.ensures.few, c.fill.ensures.answered);
-  still = λ none. absurd (omega (arith, none, c.in_ok-at.ensures.place.0));
+  few = omega (arith, c.loop-at.invariant.few, c.in_ok-settle.ensures.answered, c.fill-at.ensures.few, c.fill-at.ensures.answered);
+  still = λ none. absurd (omega (arith, none, c.fill-at.ensures.place.0));
   ready = c.in_ok-settle.ensures.ready;
   serves = λ start read same serves.
       let now = c.loop-at.invariant.serves start read same serves in
-      c.in_ok-settle.ensures.serves start _ same (serves_further now _ _ (c.in_ok-at.ensures.judges start _ read now.judges) c.fill.ensures.outbox);
+      c.in_ok-settle.ensures.serves start _ same (serves_further now _ _ (c.fill-at.ensures.judges start _ read now.judges) c.fill-at.ensures.outbox);
   moments = λ start read same serves.
       let now = c.loop-at.invariant.serves start read same serves in
-      runs_on (begins read c.args.piece.now c.in_ok-at.at) c.loop-at.invariant.before (c.loop-at.invariant.moments start read same serves)
-      (c.settle.ensures.moments start _ same (serves_further now _ _ (c.in_ok-at.ensures.judges start _ read now.judges) c.fill.ensures.outbox));
+      runs_on (begins read c.args.piece.now c.fill-at.result) c.loop-at.invariant.before (c.loop-at.invariant.moments start read same serves)
+      (c.settle.ensures.moments start _ same (serves_further now _ _ (c.fill-at.ensures.judges start _ read now.judges) c.fill-at.ensures.outbox));
   before = λ records image recovered. c.loop-at.invariant.before records image (c.in_ok-settle.ensures.before records image recovered);
   keeps = answers_on _ g.K.Keeper.touches_both c.loop-at.invariant.keeps c.settle.ensures.keeps;
   none = faultless c.loop-at.invariant.none c.in_ok-settle.ensures.causes;
@@ -47,8 +49,8 @@ loop-at-preserved g c = record {
 pub returns-in_err-settle-clause-moments : goal.returns-in_err-settle-clause-moments
 returns-in_err-settle-clause-moments g c = λ start read same serves.
     let now = c.loop-at.invariant.serves start read same serves in
-    runs_on (begins read c.args.piece.now c.in_ok-at.at) c.loop-at.invariant.before (c.loop-at.invariant.moments start read same serves)
-    (c.settle.ensures.moments start _ same (serves_further now _ _ (c.in_ok-at.ensures.judges start _ read now.judges) c.fill.ensures.outbox))
+    runs_on (begins read c.args.piece.now c.fill-at.result) c.loop-at.invariant.before (c.loop-at.invariant.moments start read same serves)
+    (c.settle.ensures.moments start _ same (serves_further now _ _ (c.fill-at.ensures.judges start _ read now.judges) c.fill-at.ensures.outbox))
 
 pub returns-in_err-settle-clause-keeps : goal.returns-in_err-settle-clause-keeps
 returns-in_err-settle-clause-keeps g c = answers_on _ g.K.Keeper.touches_both c.loop-at.invariant.keeps c.settle.ensures.keeps
@@ -56,3 +58,10 @@ returns-in_err-settle-clause-keeps g c = answers_on _ g.K.Keeper.touches_both c.
 pub returns-clause-serves : goal.returns-clause-serves
 returns-clause-serves g c = λ start read same serves.
     serves_as (ap (λ (b : List ℕ). read ++ b) (take_all c.loop-at.at c.args.piece.now c.loop-at-test.false)) (c.loop-at.invariant.serves start read same serves)
+
+pub returns-in_err-settle-clause-starved : goal.returns-in_err-settle-clause-starved
+returns-in_err-settle-clause-starved g c = λ start read same serves is.
+    let now = c.loop-at.invariant.serves start read same serves in
+    let short : c.settle.result ≡ Err Memory = search rules in
+    starved_further (begins read c.args.piece.now c.fill-at.result)
+    (c.settle.ensures.starved start _ same (serves_further now _ _ (c.fill-at.ensures.judges start _ read now.judges) c.fill-at.ensures.outbox) short)

@@ -1,5 +1,6 @@
-use Rattle.std.proofs.Common.{ℕ, ◌-◌, List, length, sym, ap, subst, ◌∙◌, arith}
-use Rattle.std.specs.Prelude.{Option}
+use Rattle.std.proofs.Common.{◌≡◌, ℕ, ◌-◌, List, length, sym, ap, subst, ◌∙◌, arith, rules}
+use Rattle.std.specs.Prelude.{Option, Err}
+use Rattle.host_core.specs.declared.fault.Fault.TheVariants.{Memory}
 use Rattle.host_core.proofs.Moments.{widened, goes_on}
 use Rattle.wire_in.specs.declared.record.Record.{Record}
 use Rattle.wire_in.specs.Cutting.{bodies_of}
@@ -67,3 +68,12 @@ returns-clause-keeps g c =
 
 pub returns-in_err-keep_round-clause-keeps : goal.returns-in_err-keep_round-clause-keeps
 returns-in_err-keep_round-clause-keeps g c = answers_writes _ c.keep_round.ensures.keeps c.keep_round.ensures.touches
+
+pub returns-in_err-keep_round-clause-starved : goal.returns-in_err-keep_round-clause-starved
+returns-in_err-keep_round-clause-starved g c = λ start read same serves is.
+    let short : c.keep_round.result ≡ Err Memory = search rules in
+    absurd (c.keep_round.ensures.unstarved short)
+
+pub returns-clause-starved : goal.returns-clause-starved
+returns-clause-starved g c = λ start read same serves is.
+    c.answer_round.ensures.starved start _ (c.acknowledges.ensures ∙ sym same) (answers_of serves _ c.keep_round.ensures.keeps.sent) is

@@ -5,13 +5,13 @@ use Rattle.live_core.proofs.recovery.restore.Goals as goal
 pub returns-in_err-recovery-clause-unread : goal.returns-in_err-recovery-clause-unread
 returns-in_err-recovery-clause-unread g c =
     answered_on _ c.from_residual.result c.from_residual.ensures.1
-    (unbegun c.args.from _ c.begin.ensures.keeps c.in_err-recovery.ensures.kind c.in_err-recovery.ensures.hindered)
+    (unbegun _ c.args.from _ c.begin.ensures.keeps c.in_err-recovery.ensures.kind c.in_err-recovery.ensures.hindered)
 
 pub returns-in_err-recover-clause-unread : goal.returns-in_err-recover-clause-unread
 returns-in_err-recover-clause-unread g c =
     answered_on _ c.from_residual-in_err-recover.result c.from_residual-in_err-recover.ensures.1
     (unread c.args.from c.begin.ensures.keeps c.in_ok-recovery.ensures.none c.in_ok-recovery.ensures.recovers c.recover.ensures.keeps c.recover.ensures.moments
-    _ c.in_ok-recovery.ensures.header c.in_err-recover.ensures.hindered)
+    _ _ c.in_ok-recovery.ensures.header c.in_err-recover.ensures.hindered)
 
 pub returns-clause-restored : goal.returns-clause-restored
 returns-clause-restored g c =

@@ -1,4 +1,4 @@
-use Rattle.engine_core.proofs.Statuses.{at_an_end, at_a_read, told_of}
+use Rattle.engine_core.proofs.Statuses.{at_an_end, at_a_read, at_no_memory, told_of}
 use Rattle.live_core.proofs.Served.{answered_as, no_end_unserved}
 use Rattle.live_core.proofs.serving.answer.Goals as goal
 
@@ -8,6 +8,7 @@ returns g c = answered_as c.answer_of.ensures (record {
   unread = λ start input same reads is. c.serve_input.ensures.unread start input same reads (at_a_read c.serve_input.result c.serve_input.ensures.end is);
   moments = c.serve_input.ensures.moments;
   prompt = c.serve_input.ensures.prompt;
+  starved = λ start input same reads is. c.serve_input.ensures.starved start input same reads (at_no_memory c.serve_input.result c.serve_input.ensures.end is);
   bytes = c.serve_input.ensures.bytes;
   continues = c.serve_input.ensures.continues;
   served = no_end_unserved c.serve_input.result c.serve_input.ensures.end;

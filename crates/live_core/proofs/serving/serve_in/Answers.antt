@@ -5,7 +5,7 @@ use Rattle.live_core.proofs.serving.serve_in.Goals as goal
 pub returns-in-Ok : goal.returns-in-Ok
 returns-in-Ok g c = record {
   served =
-      answered_served c.args.options.now.from c.args.options.now.bytes _ _ _
+      answered_served _ c.args.options.now.from c.args.options.now.bytes _ _ _
       (g.met.H.Host.sent_now c.answer.new.host) (g.met.H.Host.read_passes c.answer.new.host) (g.met.H.Host.stops_now c.answer.new.host)
       c.in-Ok.serving c.answer.new.serving.keeper.journal c.in-Ok.ensures.restored c.answer.ensures;
 }
@@ -14,6 +14,6 @@ returns-in-Ok g c = record {
 pub returns-in-Err : goal.returns-in-Err
 returns-in-Err g c = record {
   served =
-      unread_served c.args.options.now.from c.args.options.now.bytes c.in-Err.status _ _
+      unread_served _ c.args.options.now.from c.args.options.now.bytes c.in-Err.status _ _
       (g.met.H.Host.sent_now c.restore.new.host) (g.met.H.Host.read_passes c.restore.new.host) (g.met.H.Host.stops_now c.restore.new.host) c.in-Err.ensures.unread;
 }

@@ -1,4 +1,4 @@
-use Rattle.std.proofs.Common.{refl}
+use Rattle.std.proofs.Common.{inl, inr, refl}
 use Rattle.host_core.proofs.Moments.{nothing, widened}
 use Rattle.engine_core.proofs.Pending.{sends_none}
 use Rattle.replay_core.specs.Replayed.{replay_start}
@@ -26,3 +26,12 @@ returns-clause-moments g c input is =
 
 pub returns-clause-prompt : goal.returns-clause-prompt
 returns-clause-prompt g c input is = c.serve_input.ensures.prompt (replay_start _) input refl (reads_none input _ _ c.in_ok-session.ensures is)
+
+pub returns-in_err-session-clause-starved : goal.returns-in_err-session-clause-starved
+returns-in_err-session-clause-starved g c input is short = inl refl
+
+pub returns-in_err-buffer-clause-starved : goal.returns-in_err-buffer-clause-starved
+returns-in_err-buffer-clause-starved g c input is short = inl refl
+
+pub returns-clause-starved : goal.returns-clause-starved
+returns-clause-starved g c input is short = inr (c.serve_input.ensures.starved (replay_start _) input refl (reads_none input _ _ c.in_ok-session.ensures is) short)

@@ -12,7 +12,7 @@ one_frame read taken held body true on is none body_is =
 
 pub returns-clause-judges : goal.returns-clause-judges
 returns-clause-judges c = λ start answered read judges.
-    let found = c.in_ok-judge.ensures.waits in
+    let found = c.judge.ensures.waits in
     let on = c.take-cut.ensures.goes_on read judges.cutter in
     let after = c.judge.new.self in
     record {

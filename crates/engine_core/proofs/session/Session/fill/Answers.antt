@@ -8,18 +8,18 @@ pub loop-at-preserved : goal.loop-at-preserved
 loop-at-preserved c =
     let piece = c.args.piece.now in
     let at = c.loop-at.at in
-    let n = c.in_ok-at.field-0 in
+    let n = c.advance-at.result in
     let left = ap length (take_rest piece at) ∙ length-drop at piece in
     record {
-      within = omega (arith, c.in_ok-at.ensures.used.0, left, c.loop-at.invariant.within);
-      few = omega (arith, c.loop-at.invariant.few, c.in_ok-at.ensures.more, c.in_ok-at.ensures.used.1, left, c.loop-at-test.true);
+      within = omega (arith, c.advance-at.ensures.used.0, left, c.loop-at.invariant.within);
+      few = omega (arith, c.loop-at.invariant.few, c.advance-at.ensures.more, c.advance-at.ensures.used.1, left, c.loop-at-test.true);
       judges = λ start answered read judges.
-          subst (λ (b : List ℕ). Judges start answered b c.advance.new.self)
+          subst (λ (b : List ℕ). Judges start answered b c.advance-at.new.self)
           (ap (λ (b : List ℕ). (read ++ take at piece) ++ take n b) (take_rest piece at) ∙ append_assoc read (take at piece) (take n (drop at piece)) ∙ ap (λ (b : List ℕ). read ++ b) (sym (take-add at n piece)))
-          (c.in_ok-at.ensures.judges start answered (read ++ take at piece) (c.loop-at.invariant.judges start answered read judges));
-      sound = λ sound. c.in_ok-at.ensures.sound (c.loop-at.invariant.sound sound);
-      capacity = c.advance.ensures.capacity ∙ c.loop-at.invariant.capacity;
-      evaluated = c.advance.ensures.evaluated ∙ c.loop-at.invariant.evaluated;
-      outbox = c.advance.ensures.outbox ∙ c.loop-at.invariant.outbox;
-      answered = c.advance.ensures.answered ∙ c.loop-at.invariant.answered;
+          (c.advance-at.ensures.judges start answered (read ++ take at piece) (c.loop-at.invariant.judges start answered read judges));
+      sound = λ sound. c.advance-at.ensures.sound (c.loop-at.invariant.sound sound);
+      capacity = c.advance-at.ensures.capacity ∙ c.loop-at.invariant.capacity;
+      evaluated = c.advance-at.ensures.evaluated ∙ c.loop-at.invariant.evaluated;
+      outbox = c.advance-at.ensures.outbox ∙ c.loop-at.invariant.outbox;
+      answered = c.advance-at.ensures.answered ∙ c.loop-at.invariant.answered;
     }

@@ -1,4 +1,5 @@
 use Rattle.std.proofs.Common.{◌≡◌, ℕ, ◌∷◌, [], List, length, ap, ◌∙◌, length-append, arith}
+use Rattle.std.specs.Prelude.{vec_capacity}
 use Rattle.rulebook.specs.Sent.{judged}
 use Rattle.engine_core.specs.declared.engine.Engine.{Engine}
 use Rattle.engine_core.specs.Rounds.{Outcome, records_in}
@@ -15,7 +16,7 @@ returns-clause-waits c = (
       let held = held_after start all in
       let is : c.judge-outcome.result ≡ judged start.capacity held c.body.result.now =
       c.judge-outcome.ensures.exact held waits.engine_is.admission ∙ ap (λ (n : ℕ). judged n held c.body.result.now) waits.engine_is.within in
-      waits_more waits c.body.result.now _ _ _ is c.push.ensures (c.in_ok-admit.ensures.represents start.capacity held _ waits.engine_is),
+      waits_more waits c.body.result.now _ _ _ is c.push.ensures (c.admit.ensures.represents start.capacity held _ waits.engine_is),
 )
 
 pub returns-clause-sound : goal.returns-clause-sound
@@ -25,8 +26,9 @@ returns-clause-sound c = λ sound.
     ∙ length-append (records_in c.args.self.now.round) (records_in (c.judge-outcome.result ∷ [])) in
     let evaluated = ap (λ (e : Engine). e.evaluated) c.admit.ensures.rest in
     record {
-      within = c.in_ok-admit.ensures.within sound.within;
-      count = omega (arith, sound.count, c.in_ok-admit.ensures.count, more, evaluated);
+      within = c.admit.ensures.within sound.within;
+      count = omega (arith, sound.count, c.admit.ensures.count, more, evaluated);
       few = omega (arith, sound.few, ap (λ (e : Engine). e.published) c.admit.ensures.rest, evaluated);
       small = omega (arith, sound.small, evaluated);
+      roomy = omega (arith, sound.roomy, ap (λ (e : Engine). length e.market.directory) c.admit.ensures.rest, ap (λ (e : Engine). vec_capacity e.messages) c.admit.ensures.rest);
     }

@@ -1,12 +1,17 @@
-use Rattle.std.proofs.Common.{ℕ, [], sym, subst, ◌∙◌, arith}
-use Rattle.engine_core.specs.EngineState.{Represents}
-use Rattle.live_core.proofs.Recovering.{answered_on, scan_hinders, nothing_again}
+use Rattle.std.proofs.Common.{ℕ, [], sym, ap, subst, ◌∙◌, arith}
+use Rattle.host_core.proofs.Chains.{reads_nothing}
+use Rattle.engine_core.specs.declared.engine.Engine.{Engine}
+use Rattle.engine_core.specs.EngineState.{Represents, IsRoomy}
+use Rattle.live_core.proofs.Recovering.{answered_on, scan_hinders, limited, nothing_again}
 use Rattle.live_core.proofs.recovery.Recovery.begin.Goals as goal
+
+pub returns-in_default-clause-keeps : goal.returns-in_default-clause-keeps
+returns-in_default-clause-keeps g c = reads_nothing (g.H.Host.outside c.args.host.now) (g.met.H.Host.sent_now c.args.host.now)
 
 pub returns-in_err-scan-clause-hindered : goal.returns-in_err-scan-clause-hindered
 returns-in_err-scan-clause-hindered g c =
     answered_on _ c.from_residual.result c.from_residual.ensures.1
-    (scan_hinders _ _ c.begin.result _ c.in_err-scan.was c.begin.ensures.keeps c.begin.ensures.faultless c.begin.ensures.cause c.begin.ensures.no_journal c.begin.ensures.not_damaged)
+    (scan_hinders _ _ _ c.begin.result _ c.in_err-scan.was c.begin.ensures.keeps c.begin.ensures.faultless c.begin.ensures.cause c.begin.ensures.no_journal c.begin.ensures.unbegun c.begin.ensures.not_damaged)
 
 pub returns-clause-recovers : goal.returns-clause-recovers
 returns-clause-recovers g c = λ from disk known. record {
@@ -14,16 +19,27 @@ returns-clause-recovers g c = λ from disk known. record {
   batches = [];
   read = c.in_ok-scan.ensures.read disk known;
   resumes = record {
-    engine_is = subst (λ (l : ℕ). Represents c.in_ok-engine.engine l [] []) c.limit.ensures.capacity c.in_ok-engine.ensures.represents;
+    engine_is = subst (λ (l : ℕ). Represents c.limit-2.new.self l [] []) c.limit.ensures.capacity (limited c.limit.result c.limit-2.new.self c.limit-2.ensures (c.in-Ok.ensures).represents);
     lawful = tt;
     pending_is = nothing_again from (g.H.Host.outside c.begin.new.host).sent c.args.outbox c.requires;
   };
 }
 
 pub returns-clause-reading : goal.returns-clause-reading
-returns-clause-reading g c = record {
-  of_disk = c.in_ok-scan.ensures.of_disk;
-  capacity = sym (c.in_ok-engine.ensures.represents.within ∙ c.limit.ensures.capacity);
-  count = omega (arith, c.in_ok-scan.ensures.begun, c.in_ok-engine.ensures.none);
-  small = c.in_ok-engine.ensures.small;
-}
+returns-clause-reading g c =
+    let capacity = ap (λ (e : Engine). e.admission.capacity) c.limit-2.ensures in
+    let count = ap (λ (e : Engine). e.admission.count) c.limit-2.ensures in
+    let evaluated = ap (λ (e : Engine). e.evaluated) c.limit-2.ensures in
+    let published = ap (λ (e : Engine). e.published) c.limit-2.ensures in
+    record {
+      of_disk = c.in_ok-scan.ensures.of_disk;
+      capacity = sym (capacity ∙ c.limit.ensures.capacity);
+      count = omega (arith, c.in_ok-scan.ensures.begun, (c.in-Ok.ensures).none, count);
+      small = record {
+        range = omega (arith, capacity, c.limit.ensures.range);
+        within = omega (arith, (c.in-Ok.ensures).none, count);
+        evaluated = omega (arith, (c.in-Ok.ensures).none, (c.in-Ok.ensures).evaluated, count, evaluated);
+        few = omega (arith, (c.in-Ok.ensures).published, published);
+      };
+      roomy = subst IsRoomy (sym c.limit-2.ensures) (c.in-Ok.ensures).roomy;
+    }

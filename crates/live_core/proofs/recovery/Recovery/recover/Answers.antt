@@ -2,6 +2,7 @@ use Rattle.std.proofs.Common.{◌≡◌, ◌≢◌, Bool, true, false, ap, ◌�
 use Rattle.std.specs.Prelude.{Result, Ok}
 use Rattle.host_core.proofs.Causes.{no_fault, faultless}
 use Rattle.host_core.proofs.Chains.{reads_nothing, reads_faultless}
+use Rattle.engine_core.proofs.Starving.{not_read, not_short}
 use Rattle.live_core.proofs.Again.{sends_then}
 use Rattle.live_core.proofs.Recovering.{sends_read, greeted, reads_again, has_next, has_end, bad_form_there, only_read, only_sent, recovers_on, answered_on, fault_hinders, hinders_on, scan_hinders, no_error}
 use Rattle.live_core.proofs.recovery.Recovery.recover.Goals as goal
@@ -25,8 +26,8 @@ returns-in_err-more-clause-moments g c = λ begin disk first all covers.
 pub returns-in_err-more-clause-hindered : goal.returns-in_err-more-clause-hindered
 returns-in_err-more-clause-hindered g c =
     answered_on _ c.from_residual.result c.from_residual.ensures.1
-    (hinders_on _ _ _ _ _ _ _ _ c.batches.invariant.none (λ at there. there) (λ missing. missing)
-    (scan_hinders _ _ c.next.result _ c.in_err-more.was c.next.ensures.keeps c.next.ensures.faultless c.next.ensures.cause c.next.ensures.no_journal
+    (hinders_on _ _ _ _ _ _ _ _ _ _ c.batches.invariant.none (λ at there. there) (λ missing. missing) (λ hungry. hungry)
+    (scan_hinders _ _ _ c.next.result _ c.in_err-more.was c.next.ensures.keeps c.next.ensures.faultless c.next.ensures.cause c.next.ensures.no_journal (λ short. absurd (c.next.ensures.no_memory short))
     (λ at is begin disk first.
     bad_form_there c.args.from (c.batches.invariant.recovers begin disk first) c.next.ensures.keeps at (c.next.ensures.at_damage at is) (c.next.ensures.damaged at is))))
 
@@ -41,7 +42,7 @@ returns-in_err-greet-clause-moments g c = λ begin disk first all covers.
 pub returns-in_err-greet-clause-hindered : goal.returns-in_err-greet-clause-hindered
 returns-in_err-greet-clause-hindered g c =
     answered_on _ c.from_residual-in_err-greet.result c.from_residual-in_err-greet.ensures.1
-    (fault_hinders _ _ _ c.in_err-greet.was c.greet.ensures.unread
+    (fault_hinders _ _ _ _ c.in_err-greet.was (not_read c.greet.result c.greet.ensures.fault) (λ short. absurd (not_short c.greet.result c.greet.ensures.fault short))
     (faultless c.batches.invariant.none (reads_faultless c.next.ensures.keeps (c.next.ensures.faultless (no_error c.in_ok-more.was)))) c.in_err-greet.ensures.causes)
 
 pub returns-then-not-more-clause-moments : goal.returns-then-not-more-clause-moments
@@ -69,12 +70,17 @@ returns-in_err-resume-clause-moments g c = λ begin disk first all covers.
 pub returns-in_err-resume-clause-hindered : goal.returns-in_err-resume-clause-hindered
 returns-in_err-resume-clause-hindered g c =
     answered_on _ c.from_residual-in_err-resume.result c.from_residual-in_err-resume.ensures.1
-    (hinders_on _ _ _ _ _ _ _ _ (faultless c.batches.invariant.none (reads_faultless c.next.ensures.keeps (c.next.ensures.faultless (no_error c.in_ok-more.was))))
+    (hinders_on _ _ _ _ _ _ _ _ _ _ (faultless c.batches.invariant.none (reads_faultless c.next.ensures.keeps (c.next.ensures.faultless (no_error c.in_ok-more.was))))
     (λ at there begin disk first.
     let so_far = c.batches.invariant.recovers begin disk first in
     let more = c.in_ok-more.was ∙ ap (λ b. Ok b) c.if-not-more.false in
     there begin disk (has_next c.args.from so_far c.next.ensures.keeps c.next.new.self c.list.result.now c.list.ensures.records (c.next.ensures.at_batch more) c.next.ensures.capacity (c.next.ensures.batch more)))
-    (λ missing. missing) c.in_err-resume.ensures.hindered)
+    (λ missing. missing)
+    (λ hungry begin disk first.
+    let so_far = c.batches.invariant.recovers begin disk first in
+    let more = c.in_ok-more.was ∙ ap (λ b. Ok b) c.if-not-more.false in
+    hungry begin disk (has_next c.args.from so_far c.next.ensures.keeps c.next.new.self c.list.result.now c.list.ensures.records (c.next.ensures.at_batch more) c.next.ensures.capacity (c.next.ensures.batch more)))
+    c.in_err-resume.ensures.hindered)
 
 pub batches-preserved : goal.batches-preserved
 batches-preserved g c =

@@ -4,12 +4,13 @@ use Rattle.host_core.proofs.Chains.{sends_nothing, onward}
 use Rattle.host_core.proofs.Causes.{no_fault, faultless}
 use Rattle.live_core.specs.InternalRecovery.{HasDamage}
 use Rattle.live_core.proofs.Again.{sends_then}
-use Rattle.live_core.proofs.Recovering.{waits_there, sends_next, resumed_next, bad_there, all_resumed, answered_on, fault_hinders}
+use Rattle.live_core.proofs.Recovering.{waits_there, sends_next, resumed_next, bad_there, starves_there, all_resumed, answered_on, fault_hinders}
 use Rattle.live_core.proofs.recovery.Recovery.resume.Goals as goal
 
 pub loop-x-init : goal.loop-x-init
 loop-x-init g c = record {
   small = c.requires.small;
+  roomy = c.requires.roomy;
   count = omega arith;
   capacity = refl;
   scan = refl;
@@ -24,6 +25,7 @@ loop-x-preserved g c =
     let found : c.verdict.result ≡ None = search rules in
     record {
       small = c.in_ok-resume_record.ensures.small;
+      roomy = c.in_ok-resume_record.ensures.roomy;
       count = omega (arith, c.in_ok-resume_record.ensures.count, c.loop-x.invariant.count);
       capacity = c.resume_record.ensures.capacity ∙ c.loop-x.invariant.capacity;
       scan = c.loop-x.invariant.scan;
@@ -51,7 +53,13 @@ returns-in_err-resume_record-clause-moments g c = λ begin disk first all covers
 pub returns-in_err-resume_record-clause-hindered : goal.returns-in_err-resume_record-clause-hindered
 returns-in_err-resume_record-clause-hindered g c =
     answered_on _ c.from_residual.result c.from_residual.ensures.1
-    (fault_hinders _ _ _ c.in_err-resume_record.was c.resume_record.ensures.unread c.loop-x.invariant.none c.in_err-resume_record.ensures.causes)
+    (fault_hinders _ _ _ _ c.in_err-resume_record.was c.resume_record.ensures.unread
+    (λ short begin disk first.
+    let found : c.verdict.result ≡ None = search rules in
+    let s = c.loop-x.invariant.resuming begin disk first in
+    starves_there s c.x-item.result c.loop-x-test.true c.x-item.is c.verdict.result c.verdict.ensures.exact found (g.H.Host.outside c.resume_record.new.host)
+    (c.resume_record.ensures.starved c.loop-x.self.scan.capacity _ begin s.resumes short))
+    c.loop-x.invariant.none c.in_err-resume_record.ensures.causes)
 
 pub returns-then-is_some-clause-hindered : goal.returns-then-is_some-clause-hindered
 returns-then-is_some-clause-hindered g c = (

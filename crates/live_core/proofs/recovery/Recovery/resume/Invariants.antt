@@ -2,12 +2,14 @@ use Rattle.std.proofs.Common.{◌≡◌, ◌+◌, ℕ, List}
 use Rattle.std.specs.Prelude.{Option}
 use Rattle.host_core.specs.Outside.{NoFault}
 use Rattle.host_core.specs.Frames.{OnlySends}
+use Rattle.engine_core.specs.EngineState.{IsRoomy}
 use Rattle.live_core.specs.InternalRecovery.{IsSmall, Resuming, SendsAgain}
 use Rattle.live_core.proofs.recovery.Recovery.resume.Given as goal
 
 abbrev pub invariant-loop-x : goal.invariant-loop-x
 invariant-loop-x g l = record {
   small : IsSmall l.self.engine;
+  roomy : IsRoomy l.self.engine;
   count : l.self.engine.admission.count ≡ l.initial.self.engine.admission.count + l.x-index;
   capacity : l.self.engine.admission.capacity ≡ l.initial.self.engine.admission.capacity;
   scan : l.self.scan ≡ l.initial.self.scan;

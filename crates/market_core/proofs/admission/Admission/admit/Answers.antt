@@ -14,4 +14,4 @@ returns-clause-stands c = λ admitted s.
       directory = c.self.inside.directory;
       dates = c.self.inside.listed_on.items;
     } in
-    counted_stands kept c.args.self.now c.moment.result admitted c.args.x.now s c.requires (c.self.view_is ∙ (c.in_ok-take_in.ensures).ok) c.moment.ensures
+    counted_stands kept c.args.self.now c.moment.result admitted c.args.x.now s c.requires (c.self.view_is ∙ c.take_in.ensures) c.moment.ensures
