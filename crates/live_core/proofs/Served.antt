@@ -26,10 +26,13 @@ use Rattle.engine_core.proofs.Asking.{no_ask, more_asks}
 use Rattle.engine_core.proofs.Expecting.{safe_of, safe_more, added, expected-more}
 use Rattle.engine_core.proofs.Pending.{prefix_sent}
 use Rattle.engine_core.proofs.Taken.{takes_none, takes_between}
+use Rattle.engine_core.proofs.Unwritten.{still_nothing}
+use Rattle.journal_core.proofs.Extending.{extends_same, extends_on}
 use Rattle.live_core.specs.declared.recovery.Serving.{Serving}
 use Rattle.live_core.specs.Safe.{Begin, Begins, start_of, IsSafe, IsSafeOrPending}
 use Rattle.live_core.specs.Damage.{IsDamagedAt, StopsAtDamage}
 use Rattle.live_core.specs.Ends.{Answered, IsKept, IsUnserved, TellsDamage}
+use Rattle.live_core.specs.Written.{Written}
 use Rattle.live_core.specs.Served.{Served}
 use Rattle.live_core.specs.InternalKeeping.{held_now}
 use Rattle.live_core.specs.InternalRecovery.{again, HasDamage, Hinders}
@@ -148,8 +151,8 @@ module _ (from : Option ℕ) (most : ℕ) (status : Status) (old new : Outside)
     pub served : ((begin : Begin) (input : List ℕ) → begin.from ≡ from → Begins begin input old → IsEnd status → (status ≡ end_of most input) × Answered begin input (min most (length input)) new)
         → ((begin : Begin) (input : List ℕ) → begin.from ≡ from → Begins begin input old → status ≡ ReadFault → (count : ℕ) × (count < most) × Answered begin input count new)
         → ((begin : Begin) (input : List ℕ) → begin.from ≡ from → Begins begin input old → Prompt (start_of begin) input old.asks new.asks)
-        → ReadsAtMost most old.input new.input → Served from most status old new
-    served exact unread prompt bytes = record {
+        → Written from most old new → ReadsAtMost most old.input new.input → Served from most status old new
+    served exact unread prompt written bytes = record {
       moments = moments;
       settled = λ begin input same begins settled. widened (moments begin input same begins) _ (settle old begins settled (bodies_of (take most input)));
       at_return = ends;
@@ -174,6 +177,7 @@ module _ (from : Option ℕ) (most : ℕ) (status : Status) (old new : Outside)
       damage_moments = λ capacity at before disk known damage. (damaged known damage).damage_moments capacity at before disk known damage;
       untouched = λ un. (unserved un).keeps.disk;
       input_is_left = λ un. (unserved un).keeps.input;
+      written = written;
       bytes = bytes;
       complete = λ begin input begins memory.
           completes status old new told memory
@@ -193,7 +197,9 @@ module _ (from : Option ℕ) (most : ℕ) (status : Status) (old new : Outside)
       u.keeps.continues (hinders_told _ _ status old new u.hinders) (λ un. u) (λ disk known un. u)
       (λ begin input same begins end. absurd (hinders_no_end _ _ status old new u.hinders end))
       (λ begin input same begins is. absurd (why_at _ _ old new ReadFault is u.hinders))
-      (λ begin input same begins. no_ask (start_of begin) input u.keeps.asks) (takes_none most old.input new.input u.keeps.input)
+      (λ begin input same begins. no_ask (start_of begin) input u.keeps.asks)
+      (record { extends = extends_same u.keeps.disk u.keeps.continues.storing; unwritten = λ begin input same begins none. u.nothing begin input same begins })
+      (takes_none most old.input new.input u.keeps.input)
 
   -- A session that answered.
   module _ {mid : Outside} (serving : Serving) (journal : JournalState) (r : IsRestored from serving old mid)
@@ -233,6 +239,11 @@ module _ (from : Option ℕ) (most : ℕ) (status : Status) (old new : Outside)
         let all = a.unread (start_of begin) input refl (reads begin input same begins) is in
         (all.0, all.1, all_answered begin input same begins all.0 all.2))
         (λ begin input same begins. more_asks (start_of begin) input (no_ask (start_of begin) input r.keeps.asks) (a.prompt (start_of begin) input refl (reads begin input same begins)))
+        (record {
+          extends = extends_on old mid new (extends_same r.keeps.disk r.keeps.continues.storing) a.extends;
+          unwritten = λ begin input same begins none.
+              still_nothing (r.nothing begin input same begins) (a.nothing (start_of begin) input refl (reads begin input same begins) none);
+        })
         (takes_between most old.input mid.input new.input new.input r.keeps.input refl a.bytes)
 
 -- memory ran out before anything happened

@@ -9,6 +9,7 @@ use Rattle.engine_core.specs.Sessions.{held_after}
 use Rattle.engine_core.proofs.Pending.{on_ok2, whenever_ok}
 use Rattle.engine_core.proofs.Expecting.{safe_sends}
 use Rattle.engine_core.proofs.Keeping.{kept_is, answers_of, settled, safe_keeps, answers_writes, answers_sends, answers_on}
+use Rattle.engine_core.proofs.Unwritten.{still_nothing, sending}
 use Rattle.engine_core.proofs.session.settle.Goals as goal
 
 pub keep_round-requires : goal.keep_round-requires
@@ -67,3 +68,11 @@ returns-clause-keeps g c =
 
 pub returns-in_err-keep_round-clause-keeps : goal.returns-in_err-keep_round-clause-keeps
 returns-in_err-keep_round-clause-keeps g c = answers_writes _ c.keep_round.ensures.keeps c.keep_round.ensures.touches
+
+pub returns-in_err-keep_round-clause-nothing : goal.returns-in_err-keep_round-clause-nothing
+returns-in_err-keep_round-clause-nothing g c = λ start read same serves none. c.keep_round.ensures.nothing none
+
+pub returns-clause-nothing : goal.returns-clause-nothing
+returns-clause-nothing g c = λ start read same serves none.
+    still_nothing (c.keep_round.ensures.nothing none)
+    (sending (c.answer_round.ensures.moments start _ (c.acknowledges.ensures ∙ sym same) (answers_of serves _ c.keep_round.ensures.keeps.sent)) c.answer_round.ensures.keeps.disk)
