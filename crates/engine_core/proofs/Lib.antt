@@ -6,6 +6,7 @@ pub mod Rounds
 pub mod Expecting
 pub mod Answering
 pub mod Keeping
+pub mod Unwritten
 pub mod Reading
 pub mod Asking
 pub mod Ending

@@ -4,4 +4,5 @@ pub mod Rounds
 pub mod Sessions
 pub mod Answering
 pub mod Serving
+pub mod Unwritten
 pub mod Ends

@@ -10,6 +10,7 @@ ghost use Rattle.wire_in.specs.Cutting.{pending, bodies_of, rest_of};
 ghost use Rattle.engine_core.specs.Ends.{IsEnd, ReadsAtMost, end_of};
 ghost use Rattle.engine_core.specs.Pending.{Expects, SendsPrefix};
 ghost use Rattle.engine_core.specs.Sessions.{Start, IsSafe, Answered, Prompt, Starved, expected};
+ghost use Rattle.engine_core.specs.Unwritten.{WritesNothing, AcceptsNone};
 ghost use Rattle.engine_core.specs.Serving.{Reads, IsReady, TakesPiece, OnlyExchanges};
 
 use crate::keeper::Keeper;
@@ -107,6 +108,8 @@ pub fn serve_input<K: Keeper, H: Host>(
         → result ≡ Err Fault.Read → (count : ℕ) × (count < most) × Answered (K.holds keeper.new) start input count (H.outside host.new) }
     ensures moments { (start : Start) (input : List ℕ) → start.acknowledges ≡ K.acknowledges → Reads (K.holds keeper.old) start input 0 session.old (H.outside host.old)
         → Elapses (H.outside host.old) (H.outside host.new) (IsSafe (K.recovers keeper.old (H.outside host.old)) start (bodies_of (take most input))) }
+    ensures nothing { (start : Start) (input : List ℕ) → start.acknowledges ≡ K.acknowledges → Reads (K.holds keeper.old) start input 0 session.old (H.outside host.old)
+        → AcceptsNone start (bodies_of (take most input)) → WritesNothing (H.outside host.old) (H.outside host.new) }
     ensures prompt { (start : Start) (input : List ℕ) → start.acknowledges ≡ K.acknowledges → Reads (K.holds keeper.old) start input 0 session.old (H.outside host.old)
         → Prompt start input (H.outside host.old).asks (H.outside host.new).asks }
     ensures starved { (start : Start) (input : List ℕ) → start.acknowledges ≡ K.acknowledges → Reads (K.holds keeper.old) start input 0 session.old (H.outside host.old)

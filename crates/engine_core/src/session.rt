@@ -16,6 +16,7 @@ ghost use Rattle.engine_core.specs.EngineState.{Represents};
 ghost use Rattle.engine_core.specs.Rounds.{Outcome, records_in};
 ghost use Rattle.engine_core.specs.Sessions.{Start, IsSafe, Starved, expected};
 ghost use Rattle.engine_core.specs.Answering.{Answers};
+ghost use Rattle.engine_core.specs.Unwritten.{WritesNothing, AcceptsNone};
 ghost use Rattle.engine_core.specs.Serving.{Serves, IsSound, IsReady, Keeps, OnlyAnswers};
 
 use crate::engine::{Engine, judge};
@@ -145,6 +146,7 @@ fn keep_round<K: Keeper, H: Host>(
         → K.recovers keeper.old (H.outside host.old) records image) }
     ensures room { OnOk result ((more : ℕ) → K.has_room keeper.old (H.outside host.old).disk (length (records_in session.now.round) + more)
         → K.has_room keeper.new (H.outside host.new).disk more) }
+    ensures nothing { records_in session.now.round ≡ [] → WritesNothing (H.outside host.old) (H.outside host.new) }
     ensures touches { K.touches (H.outside host.old) (H.outside host.new) }
     ensures keeps { OnlyWrites (H.outside host.old) (H.outside host.new) }
     ensures causes { Causes result (H.outside host.old) (H.outside host.new) }
@@ -174,6 +176,8 @@ fn settle<K: Keeper, H: Host>(
         → Elapses (H.outside host.old) (H.outside host.new) (IsSafe (K.recovers keeper.old (H.outside host.old)) start (bodies_of read)) }
     ensures before { OnOk result ((records : List Record) (image : List ℕ) → K.recovers keeper.new (H.outside host.new) records image
         → K.recovers keeper.old (H.outside host.old) records image) }
+    ensures nothing { (start : Start) (read : List ℕ) → start.acknowledges ≡ K.acknowledges → Serves (K.holds keeper.old) start read session.old (H.outside host.old)
+        → records_in session.old.round ≡ [] → WritesNothing (H.outside host.old) (H.outside host.new) }
     ensures ready { OnOk result (IsReady (K.has_room keeper.new (H.outside host.new).disk) session.new) }
     ensures answered { OnOk result (session.new.answered ≡ session.old.answered + length session.old.round) }
     ensures keeps { OnlyAnswers K.touches (H.outside host.old) (H.outside host.new) }
@@ -288,6 +292,8 @@ pub fn feed<K: Keeper, H: Host>(
         → Elapses (H.outside host.old) (H.outside host.new) (IsSafe (K.recovers keeper.old (H.outside host.old)) start (bodies_of (read ++ piece.now))) }
     ensures before { OnOk result ((records : List Record) (image : List ℕ) → K.recovers keeper.new (H.outside host.new) records image
         → K.recovers keeper.old (H.outside host.old) records image) }
+    ensures nothing { (start : Start) (read : List ℕ) → start.acknowledges ≡ K.acknowledges → Serves (K.holds keeper.old) start read session.old (H.outside host.old)
+        → AcceptsNone start (bodies_of (read ++ piece.now)) → WritesNothing (H.outside host.old) (H.outside host.new) }
     ensures still { length piece.now ≡ 0 → OnOk result ((H.outside host.new).sent ≡ (H.outside host.old).sent) }
     ensures empty { OnOk result (session.new.round ≡ []) }
     ensures ready { OnOk result (IsReady (K.has_room keeper.new (H.outside host.new).disk) session.new) }

@@ -6,7 +6,7 @@ use Rattle.host_core.specs.Outside.{Outside, MayLeave, Stays, Changes, IsSettled
 use Rattle.host_core.proofs.Known.{mapped}
 use Rattle.wire_in.specs.declared.record.Record.{Record}
 use Rattle.journal_core.specs.Layout.{IsBatch, LeadsTo, HoldsTo, frames_of, content, with_batch}
-use Rattle.journal_core.specs.Journal.{JournalState, Represents, IsOfDisk, IsAtRest, IsGateOf, IsSettledAt, Appends, Grown}
+use Rattle.journal_core.specs.Journal.{JournalState, Represents, IsOfDisk, IsAtRest, IsSettledAt, Appends, Grown}
 use Rattle.journal_core.proofs.Images.{closed, torn_behind, written_behind, torn_gate, written_gate, grown, either}
 
 -- what an append writes behind a gate
@@ -53,11 +53,6 @@ settled_at {now} {records} journal gate is rest = record {
   settled = rest.settled;
   holds = λ disk known. subst (λ (g : ℕ). HoldsTo journal.capacity g records disk) (sym is) (rest.keeps disk known).held;
 }
-
-pub gate_of_disk : (journal : JournalState) (gate : ℕ) (known : Option (List ℕ)) → gate ≡ journal.gate → IsOfDisk journal known → IsGateOf gate known
-gate_of_disk journal gate known is of_disk disk is_known =
-    let kept = of_disk disk is_known in
-    (journal.capacity, kept.0, subst (λ (g : ℕ). HoldsTo journal.capacity g kept.0 disk) (sym is) kept.1.held)
 
 pub grown_by : {gate next : ℕ} {list batch : List Record} {old : Option (List ℕ)} {disk : List ℕ} → list ≡ batch → Grown gate next list old disk → Grown gate next batch old disk
 grown_by {gate} {next} {old = old} {disk = disk} is grows = subst (λ (b : List Record). Grown gate next b old disk) is grows

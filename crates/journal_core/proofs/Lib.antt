@@ -1,7 +1,9 @@
 mod FrameLemmas
 pub mod Images
 pub mod OneList
+pub mod Places
 mod Appended
+pub mod Extending
 mod AtGateLemmas
 mod AheadLemmas
 mod ScanLemmas

@@ -32,9 +32,9 @@ pub record IsAtRest (journal : JournalState) (records : List Record) (now : Outs
   pub settled : IsSettled now
   pub keeps : (disk : List ℕ) → now.disk ≡ Some disk → Represents journal records disk
 
--- a closed gate stands at this place of the disk, where it is known
-abbrev pub IsGateOf : ℕ → Option (List ℕ) → Type 0
-IsGateOf gate known = (disk : List ℕ) → known ≡ Some disk → (capacity : ℕ) × (records : List Record) × HoldsTo capacity gate records disk
+-- the disk, where it is known, has at least so many bytes
+abbrev pub HasBytes : ℕ → Option (List ℕ) → Type 0
+HasBytes count known = (disk : List ℕ) → known ≡ Some disk → count ≤ length disk
 
 -- nothing is pending, and the disk, where it is known, holds these records up to a gate
 pub record IsSettledAt (capacity gate : ℕ) (records : List Record) (now : Outside) : Type 0 where

@@ -39,6 +39,10 @@ pub record IsBatch (records : List Record) : Type 0 where
 abbrev pub content : List Record → List ℕ
 content batch = to_be_bytes w32 (length (frames_of batch)) ++ frames_of batch
 
+-- a batch as it is written: an open gate, its content, and the closed gate behind it
+abbrev pub stored_batch : List Record → List ℕ
+stored_batch batch = 1 ∷ (content batch ++ 0 ∷ [])
+
 -- the bytes begin with a batch behind an open gate, and this follows it
 pub record Opens (batch : List Record) (bytes rest : List ℕ) : Type 0 where
   pub gate : ℕ

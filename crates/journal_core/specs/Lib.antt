@@ -3,6 +3,7 @@ pub mod Batch
 pub mod Layout
 pub mod AtGate
 pub mod Journal
+pub mod Extended
 pub mod Scan
 pub mod Laws
 pub mod Formatted

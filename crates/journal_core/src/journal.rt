@@ -1,10 +1,10 @@
-ghost use Rattle.std.specs.Prelude.{◌≡◌, ◌≤◌, ◌<◌, ◌+◌, ◌*◌, ◌∷◌, ◌++◌, [], ◌^◌, ◌↔◌, ◌≢◌, ◌⊎◌, ℕ, true, List, All, length, Some, IsTrue, IfOk, OnOk, OnErr, IfErr};
-ghost use Rattle.host_core.specs.Outside.{Outside, MayLeave, Rose, Elapses, Changes, Torn, IsSettled};
+ghost use Rattle.std.specs.Prelude.{◌≡◌, ◌≤◌, ◌<◌, ◌+◌, ◌*◌, ◌∷◌, ◌++◌, [], ◌^◌, ◌↔◌, ◌≢◌, ◌⊎◌, ℕ, true, List, All, length, Some, option_map, IsTrue, IfOk, OnOk, OnErr, IfErr};
+ghost use Rattle.host_core.specs.Outside.{Outside, MayLeave, Rose, Elapses, Changes, Torn, IsSettled, written};
 ghost use Rattle.host_core.specs.Frames.{OnlyWrites};
 ghost use Rattle.wire_in.specs.declared.record.Record.{Record};
 ghost use Rattle.wire_in.specs.Spelling.{InRange};
-ghost use Rattle.journal_core.specs.Layout.{IsLimit, Holds, header, with_batch};
-ghost use Rattle.journal_core.specs.Journal.{IsGateOf, IsSettledAt, Appends, Grown};
+ghost use Rattle.journal_core.specs.Layout.{IsLimit, IsBatch, Holds, frames_of, header, stored_batch, with_batch};
+ghost use Rattle.journal_core.specs.Journal.{HasBytes, IsSettledAt, Appends, Grown};
 
 use crate::batch::{BATCH_MAX, Batch};
 use crate::error::{AppendError, FormatError};
@@ -51,16 +51,20 @@ fn fresh(capacity: u64) -> [u8; 17]
 /// Adds a batch at a gate: it writes what stands behind the gate and syncs, and then opens the gate and syncs. Answers
 /// the place of the next gate.
 fn add<H: Host>(host: &mut H, gate: u64, batch: &[Record]) -> Result<u64, Failed>
-    requires of_disk { IsGateOf gate (H.outside host.old).disk }
+    requires gate { HasBytes (gate + 1) (H.outside host.old).disk }
     requires fits { gate + 1 + BATCH_BYTES < 2 ^ 64 }
     requires least { 0 < length batch.now }
     requires most { length batch.now ≤ BATCH_MAX }
     requires ranges { All InRange batch.now }
     ensures moments { (capacity : ℕ) (records : List Record) → IsSettledAt capacity gate records (H.outside host.old)
         → Elapses (H.outside host.old) (H.outside host.new) (Appends capacity records batch.now (H.outside host.old)) }
+    ensures within { Elapses (H.outside host.old) (H.outside host.new) (Changes (Torn gate (length (stored_batch batch.now))) (H.outside host.old)) }
+    ensures written { OnOk result ((H.outside host.new).disk ≡ option_map (written gate (stored_batch batch.now)) (H.outside host.old).disk) }
     ensures grown { IfOk result (λ next. (disk : List ℕ) → (H.outside host.new).disk ≡ Some disk
         → Grown gate next batch.now (H.outside host.old).disk disk) }
     ensures settled { OnOk result (IsSettled (H.outside host.new)) }
+    ensures valid { OnOk result (IsBatch batch.now) }
+    ensures place { IfOk result (λ next. next ≡ gate + (length (frames_of batch.now) + 5)) }
     ensures next { IfOk result (λ next. (gate ≤ next) × (next ≤ gate + RECORD_BYTES * length batch.now)) }
     ensures keeps { OnlyWrites (H.outside host.old) (H.outside host.new) }
     ensures cause { OnErr result (Rose (H.outside host.old).disk_faults (H.outside host.new).disk_faults) }
@@ -137,7 +141,7 @@ impl Journal {
     pub fn append<H: Host>(&mut self, host: &mut H, batch: &Batch) -> Result<(), AppendError>
         requires whole { IsTrue self.old.whole }
         requires some { 0 < length batch.now }
-        requires of_disk { IsOfDisk self.old (H.outside host.old).disk }
+        requires gate { HasBytes (self.old.gate + 1) (H.outside host.old).disk }
 
         // Whenever the call is stopped, and whatever it answered.
         ensures moments { (records : List Record) → IsAtRest self.old records (H.outside host.old)
@@ -146,7 +150,14 @@ impl Journal {
             → Holds image self.old.capacity records ⊎ Holds image self.old.capacity (with_batch records batch.now) }
         ensures stored { OnOk result ((records : List Record) → IsAtRest self.old records (H.outside host.old)
             → IsAtRest self.new (with_batch records batch.now) (H.outside host.new)) }
-        ensures of_disk { OnOk result (IsOfDisk self.new (H.outside host.new).disk) }
+        ensures of_disk { OnOk result (IsOfDisk self.old (H.outside host.old).disk → IsOfDisk self.new (H.outside host.new).disk) }
+        ensures gate { OnOk result (HasBytes (self.new.gate + 1) (H.outside host.new).disk) }
+
+        // The batch is written in its place, and outside of it nothing changes, whatever the answer.
+        ensures written { OnOk result ((H.outside host.new).disk ≡ option_map (written self.old.gate (stored_batch batch.now)) (H.outside host.old).disk) }
+        ensures valid { OnOk result (IsBatch batch.now) }
+        ensures within { Elapses (H.outside host.old) (H.outside host.new) (Changes (Torn self.old.gate (length (stored_batch batch.now))) (H.outside host.old)) }
+        ensures settled { OnOk result (IsSettled (H.outside host.new)) }
 
         ensures count { OnOk result (self.new.count ≡ self.old.count + length batch.now) }
         ensures capacity { self.new.capacity ≡ self.old.capacity }

@@ -41,7 +41,7 @@ impl Model for Scan {
 
 impl Scan {
     ghost use Rattle.journal_core.specs.AtGate.{IsDamaged};
-    ghost use Rattle.journal_core.specs.Journal.{Represents, IsOfDisk};
+    ghost use Rattle.journal_core.specs.Journal.{Represents, IsOfDisk, HasBytes};
     ghost use Rattle.journal_core.specs.Scan.{HasRead, IsScanOf, IsBegun, HasHeader, HasNoHeader};
 
     /// Begins at the header of a journal, after a sync of the disk. It takes a buffer. `NoJournal` comes exactly where the
@@ -99,7 +99,7 @@ impl Scan {
     /// Reads the next batch. True: the batch holds it. False: the next gate is closed. `Damaged` comes exactly where the
     /// gate at that place stands before no batch, or none stands there. After any answer but true the batch is empty.
     pub fn next<H: Host>(&mut self, host: &mut H, into: &mut Batch) -> Result<bool, ScanError>
-        requires { IsScanOf self.old (H.outside host.old).disk }
+        requires { HasBytes self.old.size (H.outside host.old).disk }
 
         // On a disk of which it has handed out some batches.
         ensures batch { result ≡ Ok true → (batches : List (List Record)) (disk : List ℕ) → (H.outside host.old).disk ≡ Some disk
@@ -108,7 +108,7 @@ impl Scan {
             → HasRead self.old batches disk → HasRead self.new batches disk }
         ensures damaged { (at : ℕ) → result ≡ Err (ScanError.Damaged at) → (batches : List (List Record)) (disk : List ℕ) → (H.outside host.old).disk ≡ Some disk
             → HasRead self.old batches disk → IsDamaged (drop at disk) }
-        ensures of_disk { IsScanOf self.new (H.outside host.new).disk }
+        ensures of_disk { IsScanOf self.old (H.outside host.old).disk → IsScanOf self.new (H.outside host.new).disk }
 
         ensures valid { result ≡ Ok true → IsBatch into.new }
         ensures empty { result ≢ Ok true → into.new ≡ [] }
@@ -163,7 +163,7 @@ impl Scan {
 
     /// Reads on where a batch may not be there as a whole.
     fn fill<H: Host>(&mut self, host: &mut H) -> Result<(), Failed>
-        requires of_disk { IsScanOf self.old (H.outside host.old).disk }
+        requires size { HasBytes self.old.size (H.outside host.old).disk }
         ensures rest { self.new ≡ record self.old { ahead = self.new.ahead } }
         ensures within { self.new.gate ≤ self.new.size }
         ensures enough { OnOk result ((self.new.gate + length self.new.ahead ≡ self.new.size) ⊎ (BATCH_BYTES ≤ length self.new.ahead)) }

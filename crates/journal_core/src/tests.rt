@@ -1,6 +1,6 @@
-ghost use Rattle.std.specs.Prelude.{◌<◌, ◌≤◌, IfOk, IsTrue, length};
+ghost use Rattle.std.specs.Prelude.{◌<◌, ◌≤◌, ◌+◌, IfOk, IsTrue, length};
 ghost use Rattle.memory_host.specs.Memory.{known};
-ghost use Rattle.journal_core.specs.Journal.{IsOfDisk};
+ghost use Rattle.journal_core.specs.Journal.{HasBytes};
 
 use super::*;
 use host_core::{Host, JournalFile, RealHost};
@@ -57,7 +57,7 @@ fn quotes(alloc: Global, count: usize) -> Result<Batch, Fail>
 /// Reads a journal to its end.
 fn open<H: Host>(alloc: Global, host: &mut H) -> Result<Journal, ScanError>
     ensures whole { IfOk result (λ journal. IsTrue journal.whole) }
-    ensures of_disk { IfOk result (λ journal. IsOfDisk journal (H.outside host.new).disk) }
+    ensures gate { IfOk result (λ journal. HasBytes (journal.gate + 1) (H.outside host.new).disk) }
 {
     let mut scan = Scan::begin(alloc, host)?;
     let mut batch = Batch::new(alloc)?;
@@ -184,7 +184,7 @@ fn fill(
 ) -> Result<(), AppendError>
     requires whole { IsTrue journal.old.whole }
     requires some { 0 < length batch.now }
-    requires of_disk { IsOfDisk journal.old (known host.old).disk }
+    requires gate { HasBytes (journal.old.gate + 1) (known host.old).disk }
 {
     while journal.count() < count {
         journal.append(host, batch)?;

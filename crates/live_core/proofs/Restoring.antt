@@ -20,6 +20,8 @@ use Rattle.engine_core.specs.Serving.{Reads}
 use Rattle.engine_core.proofs.Pending.{sends_none}
 use Rattle.engine_core.proofs.Expecting.{expected-none, safe_of}
 use Rattle.engine_core.proofs.Beginning as engine
+use Rattle.engine_core.specs.Unwritten.{WritesNothing}
+use Rattle.engine_core.proofs.Unwritten.{sending, still_nothing}
 use Rattle.live_core.specs.declared.recovery.Recovery.{Recovery}
 use Rattle.live_core.specs.declared.recovery.Serving.{Serving}
 use Rattle.live_core.specs.Safe.{Begin, Begins, start_of, IsSafeOrPending}
@@ -56,11 +58,15 @@ module _ (begin : Begin) {input : List ℕ} {old : Outside} (begins : Begins beg
 none_sent : {old mid : Outside} → OnlyReadsDisk old mid → (text : List ℕ) → Elapses old mid (SendsPrefix old.sent text old)
 none_sent {old} reads text = widened reads.moments (SendsPrefix old.sent text old) (sends_none text old)
 
+reads_only : {old mid : Outside} → OnlyReadsDisk old mid → WritesNothing old mid
+reads_only reads = record { disk = reads.disk; moments = widened reads.moments _ (λ image bytes stays. stays.was) }
+
 -- no journal was begun
 pub unbegun : (here : Type 0) (from : Option ℕ) (status : Status) {old mid : Outside} → OnlyReadsDisk old mid → TellsNoJournal status
     → Hinders (λ at. ⊥) ((disk : List ℕ) → mid.disk ≡ Some disk → HasNoHeader disk) here status old mid → IsUnread here from status old mid
 unbegun here from status {old} {mid} reads tells why = record {
   moments = λ begin input same begins. pending_still begin begins reads.moments;
+  nothing = λ begin input same begins. reads_only reads;
   damage_moments = λ capacity at before disk known damaged. none_sent reads (again from before);
   no_header = λ disk known none. (tells, reads.sent);
   unsent = λ is. reads.sent;
@@ -84,12 +90,17 @@ module _ (from : Option ℕ) {old mid new : Outside} {recovery : Recovery} (read
       (moments (Some begin.sent) begins.disk (started begins) begin.held (covers_held begins.disk begin.capacity begin.held begins.holds))
       (safe_opening begin begins from same reads.disk (started begins).rests.settled)
 
+  start_nothing : (begin : Begin) (input : List ℕ) → begin.from ≡ from → Begins begin input old → WritesNothing old new
+  start_nothing begin input same begins =
+      still_nothing (reads_only reads) (sending (moments (Some begin.sent) begins.disk (started begins) begin.held (covers_held begins.disk begin.capacity begin.held begins.holds)) keeps.disk)
+
   -- but not to its end
   pub unread : (here : Type 0) (status : Status) → ((disk : List ℕ) → mid.disk ≡ Some disk → ¬ HasNoHeader disk)
       → Hinders (λ at. (begin : Option (List ℕ)) (disk : List ℕ) → Recovers (again from) begin disk recovery mid → HasDamage at disk) ⊥
       ((begin : Option (List ℕ)) (disk : List ℕ) → Recovers (again from) begin disk recovery mid → StarvesAgain from begin disk new) status mid new → IsUnread here from status old new
   unread here status header why = record {
     moments = start_moments;
+    nothing = start_nothing;
     damage_moments = λ capacity at before disk known damaged.
         sends_then (none_sent reads (again from before)) (moments old.sent disk (begun_at disk known) before (covers_damaged capacity at before disk damaged));
     no_header = λ disk known missing. absurd (header disk (reads.disk ∙ known) missing);
@@ -139,6 +150,7 @@ module _ (from : Option ℕ) {old mid new : Outside} {recovery : Recovery} (read
     pub restored : IsReading after.scan after.engine 0 new.disk → NoFault mid new → IsRestored from serving old new
     restored reading more = record {
       moments = start_moments;
+      nothing = start_nothing;
       reads = session_reads;
       capacity = capacity_is;
       sound = sound;

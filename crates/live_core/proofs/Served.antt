@@ -26,11 +26,14 @@ use Rattle.engine_core.proofs.Asking.{no_ask, more_asks}
 use Rattle.engine_core.proofs.Expecting.{safe_of, safe_more, added, expected-more}
 use Rattle.engine_core.proofs.Pending.{prefix_sent}
 use Rattle.engine_core.proofs.Taken.{takes_none, takes_between}
+use Rattle.engine_core.proofs.Unwritten.{still_nothing}
+use Rattle.journal_core.proofs.Extending.{extends_same, extends_on}
 use Rattle.live_core.specs.declared.recovery.Serving.{Serving}
 use Rattle.live_core.specs.Safe.{Begin, Begins, start_of, IsSafe, IsSafeOrPending}
 use Rattle.live_core.specs.Damage.{IsDamagedAt, StopsAtDamage}
 use Rattle.live_core.specs.Ends.{Answered, IsKept, IsUnserved, TellsDamage}
 use Rattle.live_core.specs.Starved.{StarvedAtRecord}
+use Rattle.live_core.specs.Written.{Written}
 use Rattle.live_core.specs.Served.{Served}
 use Rattle.live_core.specs.InternalKeeping.{held_now}
 use Rattle.live_core.specs.InternalRecovery.{again, Covers, StarvesAgain, HasDamage, Hinders}
@@ -162,8 +165,9 @@ module _ (here : Type 0) (from : Option ℕ) (most : ℕ) (status : Status) (old
         → ((begin : Begin) (input : List ℕ) → begin.from ≡ from → Begins begin input old → Prompt (start_of begin) input old.asks new.asks)
         → ((begin : Begin) (input : List ℕ) → begin.from ≡ from → Begins begin input old → status ≡ NoMemory
         → here ⊎ StarvedAtRecord from begin.held old.sent new.sent ⊎ engine.Starved (start_of begin) (bodies_of (take most input)) new)
+        → Written from most old new
         → ReadsAtMost most old.input new.input → Served here from most status old new
-    served exact unread prompt starved bytes = record {
+    served exact unread prompt starved written bytes = record {
       moments = moments;
       settled = λ begin input same begins settled. widened (moments begin input same begins) _ (settle old begins settled (bodies_of (take most input)));
       at_return = ends;
@@ -191,6 +195,7 @@ module _ (here : Type 0) (from : Option ℕ) (most : ℕ) (status : Status) (old
           starved_among from before old new known (covers_damaged capacity at before disk damage) (why_at _ _ _ old new NoMemory is (damaged known damage).hinders).1;
       untouched = λ un. (unserved un).keeps.disk;
       input_is_left = λ un. (unserved un).keeps.input;
+      written = written;
       bytes = bytes;
       complete = λ begin input begins memory.
           completes status old new told memory
@@ -213,6 +218,7 @@ module _ (here : Type 0) (from : Option ℕ) (most : ℕ) (status : Status) (old
       (λ begin input same begins. no_ask (start_of begin) input u.keeps.asks)
       (λ begin input same begins is.
       or_else _ (starved_among from begin.held old new begins.disk_known (covers_held begins.disk begin.capacity begin.held begins.holds) (why_at _ _ _ old new NoMemory is u.hinders).1))
+      (record { extends = extends_same u.keeps.disk u.keeps.continues.storing; unwritten = λ begin input same begins none. u.nothing begin input same begins })
       (takes_none most old.input new.input u.keeps.input)
 
   -- A session that answered.
@@ -254,6 +260,11 @@ module _ (here : Type 0) (from : Option ℕ) (most : ℕ) (status : Status) (old
         (all.0, all.1, all_answered begin input same begins all.0 all.2))
         (λ begin input same begins. more_asks (start_of begin) input (no_ask (start_of begin) input r.keeps.asks) (a.prompt (start_of begin) input refl (reads begin input same begins)))
         (λ begin input same begins is. inr (inr (a.starved (start_of begin) input refl (reads begin input same begins) is)))
+        (record {
+          extends = extends_on old mid new (extends_same r.keeps.disk r.keeps.continues.storing) a.extends;
+          unwritten = λ begin input same begins none.
+              still_nothing (r.nothing begin input same begins) (a.nothing (start_of begin) input refl (reads begin input same begins) none);
+        })
         (takes_between most old.input mid.input new.input new.input r.keeps.input refl a.bytes)
 
 -- memory ran out before anything happened

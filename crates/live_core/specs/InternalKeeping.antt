@@ -1,11 +1,13 @@
 -- A journal that keeps what a session accepts.
 use Rattle.std.specs.Prelude.{◌≡◌, ℕ, ◌+◌, ◌≤◌, IsTrue, List, Option}
-use Rattle.std.proofs.Common.{sym, ◌∙◌}
-use Rattle.std.proofs.Math.Nat.{le_trans}
+use Rattle.std.proofs.Common.{sym, subst, ◌∙◌}
+use Rattle.std.proofs.Math.Nat.{le_refl, le_trans}
 use Rattle.host_core.specs.Outside.{Outside, MayLeave}
 use Rattle.wire_in.specs.declared.record.Record.{Record}
 use Rattle.journal_core.specs.Layout.{Holds}
 use Rattle.journal_core.specs.Journal.{JournalState, IsOfDisk, IsAtRest}
+use Rattle.journal_core.specs.Extended.{Extends}
+use Rattle.journal_core.proofs.Extending.{extends_same, extends_on}
 
 -- the journal may be written, is of this disk, where it is known, and takes up to so many records more
 pub record HasRoom (journal : JournalState) (known : Option (List ℕ)) (more : ℕ) : Type 0 where
@@ -28,3 +30,10 @@ rests_still journal records old new rest same left = record {
 pub held_now : (journal : JournalState) (records : List Record) (now : Outside) (image : List ℕ) → IsAtRest journal records now → MayLeave now image
     → Holds image journal.capacity records
 held_now journal records now image rest left = record { gate = journal.gate; held = (rest.keeps image (rest.settled.only image left)).held }
+
+-- what is done to the file where nothing is written, and by one run after another
+pub extends_still : (old new : Outside) → new.disk ≡ old.disk → new.disk_faults ≡ old.disk_faults → Extends old new
+extends_still old new same faults = extends_same same (subst (λ (n : ℕ). old.disk_faults ≤ n) (sym faults) (le_refl old.disk_faults))
+
+pub extends_both : (old mid new : Outside) → Extends old mid → Extends mid new → Extends old new
+extends_both = extends_on

@@ -15,6 +15,8 @@ use Rattle.engine_core.specs.Ends.{IsEnd, ReadsAtMost, Told, end_of}
 use Rattle.engine_core.specs.Pending.{SendsPrefix}
 use Rattle.engine_core.specs.Serving.{Reads, IsReady}
 use Rattle.engine_core.specs.Sessions.{Start, Answered, IsSafe, Prompt, Starved}
+use Rattle.engine_core.specs.Unwritten.{WritesNothing, AcceptsNone}
+use Rattle.journal_core.specs.Extended.{Extends}
 use Rattle.live_core.specs.declared.recovery.Recovery.{Recovery}
 use Rattle.live_core.specs.declared.recovery.Serving.{Serving}
 use Rattle.live_core.specs.Safe.{Begin, Begins, start_of, IsSafeOrPending}
@@ -42,6 +44,7 @@ pub record IsRestored (from : Option ℕ) (serving : Serving) (old new : Outside
   pub moments : (begin : Begin) (input : List ℕ) → begin.from ≡ from → Begins begin input old → Elapses old new (IsSafeOrPending old begin [])
   pub reads : (begin : Begin) (input : List ℕ) → begin.from ≡ from → Begins begin input old
       → Reads (λ records now. IsAtRest serving.keeper.journal records now) (start_of begin) input 0 serving.session new
+  pub nothing : (begin : Begin) (input : List ℕ) → begin.from ≡ from → Begins begin input old → WritesNothing old new
   pub capacity : (begin : Begin) (input : List ℕ) → begin.from ≡ from → Begins begin input old → serving.keeper.journal.capacity ≡ begin.capacity
   pub sound : (disk : List ℕ) → old.disk ≡ Some disk → IsSound disk
   pub ready : IsReady (HasRoom serving.keeper.journal new.disk) serving.session
@@ -53,6 +56,7 @@ pub record IsRestored (from : Option ℕ) (serving : Serving) (old new : Outside
 -- no session begins, for this reason
 pub record IsUnread (unbegun : Type 0) (from : Option ℕ) (status : Status) (old new : Outside) : Type 0 where
   pub moments : (begin : Begin) (input : List ℕ) → begin.from ≡ from → Begins begin input old → Elapses old new (IsSafeOrPending old begin [])
+  pub nothing : (begin : Begin) (input : List ℕ) → begin.from ≡ from → Begins begin input old → WritesNothing old new
   pub damage_moments : (capacity at : ℕ) (before : List Record) (disk : List ℕ) → old.disk ≡ Some disk → IsDamagedAt capacity at before disk
       → Elapses old new (SendsPrefix old.sent (again from before) old)
   pub no_header : (disk : List ℕ) → old.disk ≡ Some disk → HasNoHeader disk → TellsNoJournal status × (new.sent ≡ old.sent)
@@ -69,6 +73,9 @@ pub record IsAnswered (most : ℕ) (before after : JournalState) (session : Sess
       → status ≡ ReadFault → (count : ℕ) × (count < most) × Answered (λ records now. IsAtRest after records now) start input count new
   pub moments : (start : Start) (input : List ℕ) → start.acknowledges ≡ true → Reads (λ records now. IsAtRest before records now) start input 0 session old
       → Elapses old new (IsSafe (λ records image. Holds image before.capacity records) start (bodies_of (take most input)))
+  pub nothing : (start : Start) (input : List ℕ) → start.acknowledges ≡ true → Reads (λ records now. IsAtRest before records now) start input 0 session old
+      → AcceptsNone start (bodies_of (take most input)) → WritesNothing old new
+  pub extends : Extends old new
   pub prompt : (start : Start) (input : List ℕ) → start.acknowledges ≡ true → Reads (λ records now. IsAtRest before records now) start input 0 session old
       → Prompt start input old.asks new.asks
   pub starved : (start : Start) (input : List ℕ) → start.acknowledges ≡ true → Reads (λ records now. IsAtRest before records now) start input 0 session old

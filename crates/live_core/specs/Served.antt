@@ -13,6 +13,7 @@ use Rattle.engine_core.specs.Sessions.{Prompt, Starved, expected}
 use Rattle.live_core.specs.Safe.{Begin, Begins, start_of, IsSafe, IsSafeOrPending}
 use Rattle.live_core.specs.Damage.{IsDamagedAt, StopsAtDamage}
 use Rattle.live_core.specs.Starved.{StarvedAtRecord}
+use Rattle.live_core.specs.Written.{Written}
 use Rattle.live_core.specs.Ends.{Answered, IsAnswer, IsUnserved, TellsNoJournal, TellsDamage, IsLeftAlone}
 
 -- a session was served, from that message on, up to so many bytes; what says that no call of the host was made is given
@@ -62,6 +63,8 @@ pub record Served (unbegun : Type 0) (from : Option ℕ) (most : ℕ) (status : 
   -- where there is no journal or a damaged one, nothing is written, and nothing of the input is read
   pub untouched : IsUnserved status → new.disk ≡ old.disk
   pub input_is_left : IsUnserved status → new.input ≡ old.input
+  -- what is written to the journal's file
+  pub written : Written from most old new
   -- no more bytes than asked for are read, whatever the answer
   pub bytes : ReadsAtMost most old.input new.input
   -- with enough memory and no faults, the input is read to its end or to the most bytes

@@ -8,7 +8,8 @@ ghost use Rattle.wire_in.specs.declared.record.Record.{Record};
 ghost use Rattle.journal_core.specs.Layout.{Holds, with_batch};
 ghost use Rattle.journal_core.specs.Journal.{IsAtRest};
 ghost use Rattle.engine_core.specs.Serving.{Keeps};
-ghost use Rattle.live_core.specs.InternalKeeping.{HasRoom, rests_still, held_now, room_for_fewer};
+ghost use Rattle.journal_core.specs.Extended.{Extends};
+ghost use Rattle.live_core.specs.InternalKeeping.{HasRoom, rests_still, held_now, room_for_fewer, extends_still, extends_both};
 
 use engine_core::Keeper;
 use host_core::{Fault, Host};
@@ -31,7 +32,7 @@ impl Keeper for JournalKeeper {
 
     ghost fails = { Unit {0} };
 
-    ghost touches = { λ _ _. Unit {0} };
+    ghost touches = { λ old new. Extends old new };
 
     ghost still_held = { λ keeper records old new rest same left. rests_still keeper.journal records old new rest same left };
 
@@ -41,9 +42,9 @@ impl Keeper for JournalKeeper {
 
     ghost room_for_fewer = { λ keeper known fewer more le has. room_for_fewer keeper.journal known fewer more le has };
 
-    ghost untouched = { λ _ _ _ _. tt };
+    ghost untouched = { λ old new same faults. extends_still old new same faults };
 
-    ghost touches_both = { λ _ _ _ _ _. tt };
+    ghost touches_both = { λ old mid new first second. extends_both old mid new first second };
 
     fn acknowledges(&self) -> bool {
         true

@@ -14,6 +14,7 @@ use Rattle.engine_core.proofs.Reading.{up_to, expects_all, serves_sent, safe_sen
 use Rattle.engine_core.proofs.Asking.{no_ask, more_asks}
 use Rattle.engine_core.proofs.Ending.{ends}
 use Rattle.engine_core.proofs.Expecting.{starved_further}
+use Rattle.engine_core.proofs.Unwritten.{idle, sending, still_nothing, none_before}
 use Rattle.engine_core.proofs.input.serve_input.Goals as goal
 
 pub loop-open-init : goal.loop-open-init
@@ -29,6 +30,7 @@ loop-open-init g c = record {
     prompt = no_ask start input refl;
     end = λ closed. absurd (true≢false closed);
   };
+  nothing = λ start input same reads none. idle _ (g.met.H.Host.sent_now c.args.host.now);
   before = λ records image recovered. recovered;
   taken = takes_none 0 _ _ refl;
   touches = g.K.Keeper.untouched _ _ refl refl;
@@ -70,6 +72,14 @@ loop-open-preserved g c =
                       (λ records held. held),
                 );
           };
+      nothing = λ start input same reads none.
+          let was = c.loop-open.invariant.polls start input same reads in
+          let expects = expects_all was.reads empty in
+          let held = g.K.Keeper.still_held c.loop-open.keeper _ _ _ was.reads.serves.held c.exchange.ensures.keeps.disk c.exchange.ensures.keeps.left in
+          let mid = serves_sent was.reads empty c.exchange.new.outbox (g.H.Host.outside c.exchange.new.host) held c.in_ok-count.ensures.empty (c.in_ok-count.ensures.sent start.sent _ expects) in
+          still_nothing (still_nothing (c.loop-open.invariant.nothing start input same reads none) (sending (c.exchange.ensures.moments start.sent _ expects) c.exchange.ensures.keeps.disk))
+          (c.feed.ensures.nothing start _ same mid
+          (none_before start (piece_begins was.reads took c.args.most (omega (arith, c.loop-open.invariant.within, took.within, c.min-room.ensures))) none));
       before = λ records image recovered.
           c.loop-open.invariant.before records image (g.K.Keeper.recovered_before c.loop-open.keeper records image _ _ c.exchange.ensures.keeps.left (c.in_ok-feed.ensures.before records image recovered));
       taken = takes_on c.loop-open.read n _ _ _ _ (omega arith) c.loop-open.invariant.taken (record { count = n; within = omega arith; left = c.feed.ensures.keeps.input ∙ took.left });
@@ -164,3 +174,19 @@ returns-in_err-feed-clause-starved g c = λ start input same reads is.
     let short : c.feed.result ≡ Err Memory = search rules in
     starved_further (piece_begins was.reads c.in_ok-count.ensures.taken c.args.most (omega (arith, c.loop-open.invariant.within, c.in_ok-count.ensures.taken.within, c.min-room.ensures)))
     (c.feed.ensures.starved start _ same mid short)
+
+pub returns-in_err-count-clause-nothing : goal.returns-in_err-count-clause-nothing
+returns-in_err-count-clause-nothing g c = λ start input same reads none.
+    let was = c.loop-open.invariant.polls start input same reads in
+    still_nothing (c.loop-open.invariant.nothing start input same reads none)
+    (sending (c.exchange.ensures.moments start.sent _ (expects_all was.reads c.loop-open.invariant.empty)) c.exchange.ensures.keeps.disk)
+
+pub returns-in_err-feed-clause-nothing : goal.returns-in_err-feed-clause-nothing
+returns-in_err-feed-clause-nothing g c = λ start input same reads none.
+    let was = c.loop-open.invariant.polls start input same reads in
+    let expects = expects_all was.reads c.loop-open.invariant.empty in
+    let held = g.K.Keeper.still_held c.loop-open.keeper _ _ _ was.reads.serves.held c.exchange.ensures.keeps.disk c.exchange.ensures.keeps.left in
+    let mid = serves_sent was.reads c.loop-open.invariant.empty c.exchange.new.outbox (g.H.Host.outside c.exchange.new.host) held c.in_ok-count.ensures.empty (c.in_ok-count.ensures.sent start.sent _ expects) in
+    let begins = piece_begins was.reads c.in_ok-count.ensures.taken c.args.most (omega (arith, c.loop-open.invariant.within, c.in_ok-count.ensures.taken.within, c.min-room.ensures)) in
+    still_nothing (still_nothing (c.loop-open.invariant.nothing start input same reads none) (sending (c.exchange.ensures.moments start.sent _ expects) c.exchange.ensures.keeps.disk))
+    (c.feed.ensures.nothing start _ same mid (none_before start begins none))

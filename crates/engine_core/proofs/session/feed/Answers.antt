@@ -6,6 +6,7 @@ use Rattle.host_core.proofs.Causes.{no_fault, faultless}
 use Rattle.host_core.proofs.Chains.{sends_nothing}
 use Rattle.engine_core.proofs.Expecting.{Begins, starved_further}
 use Rattle.engine_core.proofs.Keeping.{serves_as, serves_further, idles, runs_on, answers_sends, answers_on}
+use Rattle.engine_core.proofs.Unwritten.{idle, still_nothing, no_records}
 use Rattle.engine_core.proofs.session.feed.Goals as goal
 
 -- the bytes of a piece that were taken, and those that are left
@@ -22,6 +23,7 @@ loop-at-init g c = record {
   serves = λ start read same serves. serves_as (sym (append-nil read)) serves;
   moments = λ start read same serves.
       idles serves _ (record { more = c.args.piece.now; whole = refl }) (g.met.H.Host.sent_now c.args.host.now) (λ image left. g.K.Keeper.recovers_now c.args.keeper.now _ _ image serves.held left);
+  nothing = λ start read same serves none. idle _ (g.met.H.Host.sent_now c.args.host.now);
   before = λ records image recovered. recovered;
   keeps = answers_sends _ (sends_nothing _) (g.K.Keeper.untouched _ _ refl refl);
   none = no_fault _;
@@ -41,6 +43,11 @@ loop-at-preserved g c = record {
       let now = c.loop-at.invariant.serves start read same serves in
       runs_on (begins read c.args.piece.now c.fill-at.result) c.loop-at.invariant.before (c.loop-at.invariant.moments start read same serves)
       (c.settle.ensures.moments start _ same (serves_further now _ _ (c.fill-at.ensures.judges start _ read now.judges) c.fill-at.ensures.outbox));
+  nothing = λ start read same serves none.
+      let now = c.loop-at.invariant.serves start read same serves in
+      let next = serves_further now _ _ (c.fill-at.ensures.judges start _ read now.judges) c.fill-at.ensures.outbox in
+      still_nothing (c.loop-at.invariant.nothing start read same serves none)
+      (c.settle.ensures.nothing start _ same next (no_records next (begins read c.args.piece.now c.fill-at.result) none));
   before = λ records image recovered. c.loop-at.invariant.before records image (c.in_ok-settle.ensures.before records image recovered);
   keeps = answers_on _ g.K.Keeper.touches_both c.loop-at.invariant.keeps c.settle.ensures.keeps;
   none = faultless c.loop-at.invariant.none c.in_ok-settle.ensures.causes;
@@ -65,3 +72,10 @@ returns-in_err-settle-clause-starved g c = λ start read same serves is.
     let short : c.settle.result ≡ Err Memory = search rules in
     starved_further (begins read c.args.piece.now c.fill-at.result)
     (c.settle.ensures.starved start _ same (serves_further now _ _ (c.fill-at.ensures.judges start _ read now.judges) c.fill-at.ensures.outbox) short)
+
+pub returns-in_err-settle-clause-nothing : goal.returns-in_err-settle-clause-nothing
+returns-in_err-settle-clause-nothing g c = λ start read same serves none.
+    let now = c.loop-at.invariant.serves start read same serves in
+    let next = serves_further now _ _ (c.fill-at.ensures.judges start _ read now.judges) c.fill-at.ensures.outbox in
+    still_nothing (c.loop-at.invariant.nothing start read same serves none)
+    (c.settle.ensures.nothing start _ same next (no_records next (begins read c.args.piece.now c.fill-at.result) none))

@@ -4,6 +4,7 @@ use Rattle.wire_in.specs.declared.record.Record.{Record}
 use Rattle.wire_in.specs.Cutting.{bodies_of}
 use Rattle.engine_core.specs.Sessions.{Start, IsSafe}
 use Rattle.engine_core.specs.Serving.{Serves, IsReady, OnlyAnswers}
+use Rattle.engine_core.specs.Unwritten.{WritesNothing, AcceptsNone}
 use Rattle.engine_core.proofs.session.feed.Given as goal
 
 abbrev pub invariant-loop-at : goal.invariant-loop-at
@@ -17,6 +18,8 @@ invariant-loop-at g l = record {
       → Serves (g.K.Keeper.holds l.keeper) start (read ++ take l.at l.piece) l.session (g.H.Host.outside l.host);
   moments : (start : Start) (read : List ℕ) → start.acknowledges ≡ g.K.Keeper.acknowledges → Serves (g.K.Keeper.holds l.initial.keeper) start read l.initial.session (g.H.Host.outside l.initial.host)
       → Elapses (g.H.Host.outside l.initial.host) (g.H.Host.outside l.host) (IsSafe (g.K.Keeper.recovers l.initial.keeper (g.H.Host.outside l.initial.host)) start (bodies_of (read ++ l.piece)));
+  nothing : (start : Start) (read : List ℕ) → start.acknowledges ≡ g.K.Keeper.acknowledges → Serves (g.K.Keeper.holds l.initial.keeper) start read l.initial.session (g.H.Host.outside l.initial.host)
+      → AcceptsNone start (bodies_of (read ++ l.piece)) → WritesNothing (g.H.Host.outside l.initial.host) (g.H.Host.outside l.host);
   before : (records : List Record) (image : List ℕ) → g.K.Keeper.recovers l.keeper (g.H.Host.outside l.host) records image
       → g.K.Keeper.recovers l.initial.keeper (g.H.Host.outside l.initial.host) records image;
   keeps : OnlyAnswers g.K.Keeper.touches (g.H.Host.outside l.initial.host) (g.H.Host.outside l.host);

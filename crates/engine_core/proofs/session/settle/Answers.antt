@@ -10,6 +10,7 @@ use Rattle.engine_core.specs.Sessions.{held_after}
 use Rattle.engine_core.proofs.Pending.{on_ok2, whenever_ok}
 use Rattle.engine_core.proofs.Expecting.{safe_sends}
 use Rattle.engine_core.proofs.Keeping.{kept_is, answers_of, settled, safe_keeps, answers_writes, answers_sends, answers_on}
+use Rattle.engine_core.proofs.Unwritten.{still_nothing, sending}
 use Rattle.engine_core.proofs.session.settle.Goals as goal
 
 pub keep_round-requires : goal.keep_round-requires
@@ -77,3 +78,11 @@ returns-in_err-keep_round-clause-starved g c = λ start read same serves is.
 pub returns-clause-starved : goal.returns-clause-starved
 returns-clause-starved g c = λ start read same serves is.
     c.answer_round.ensures.starved start _ (c.acknowledges.ensures ∙ sym same) (answers_of serves _ c.keep_round.ensures.keeps.sent) is
+
+pub returns-in_err-keep_round-clause-nothing : goal.returns-in_err-keep_round-clause-nothing
+returns-in_err-keep_round-clause-nothing g c = λ start read same serves none. c.keep_round.ensures.nothing none
+
+pub returns-clause-nothing : goal.returns-clause-nothing
+returns-clause-nothing g c = λ start read same serves none.
+    still_nothing (c.keep_round.ensures.nothing none)
+    (sending (c.answer_round.ensures.moments start _ (c.acknowledges.ensures ∙ sym same) (answers_of serves _ c.keep_round.ensures.keeps.sent)) c.answer_round.ensures.keeps.disk)

@@ -4,6 +4,7 @@ use Rattle.host_core.proofs.Chains.{writes_on}
 use Rattle.journal_core.specs.Layout.{IsBatch}
 use Rattle.journal_core.proofs.Appended.{first_step, second_step, grown_with}
 use Rattle.journal_core.proofs.FrameLemmas.{frames_most}
+use Rattle.journal_core.proofs.Places.{first_within, second_within, still_reaches, written_whole}
 use Rattle.journal_core.proofs.journal.add.Goals as goal
 
 pub returns-in_err-store-clause-moments : goal.returns-in_err-store-clause-moments
@@ -45,3 +46,30 @@ returns-in_err-store-2-clause-keeps g c = writes_on c.store.ensures.keeps c.stor
 
 pub returns-clause-keeps : goal.returns-clause-keeps
 returns-clause-keeps g c = writes_on c.store.ensures.keeps c.store-2.ensures.keeps
+
+pub store-requires-2-clause-within : goal.store-requires-2-clause-within
+store-requires-2-clause-within g c = still_reaches _ _ c.args.gate c.args.batch.now c.requires.gate (rw c.put_content-end.ensures.bytes at c.in_ok-store.ensures.written)
+
+pub returns-in_err-store-clause-within : goal.returns-in_err-store-clause-within
+returns-in_err-store-clause-within g c =
+    let moments = rw c.put_content-end.ensures.bytes at c.store.ensures.moments in
+    widened moments _ (first_within _ c.args.gate c.args.batch.now)
+
+pub returns-in_err-store-2-clause-within : goal.returns-in_err-store-2-clause-within
+returns-in_err-store-2-clause-within g c =
+    let moments = rw c.put_content-end.ensures.bytes at c.store.ensures.moments in
+    let first = widened moments _ (first_within _ c.args.gate c.args.batch.now) in
+    goes_on first c.store-2.ensures.moments (second_within c.args.gate c.args.batch.now first c.store.ensures.keeps.sent)
+
+pub returns-clause-within : goal.returns-clause-within
+returns-clause-within g c =
+    let moments = rw c.put_content-end.ensures.bytes at c.store.ensures.moments in
+    let first = widened moments _ (first_within _ c.args.gate c.args.batch.now) in
+    goes_on first c.store-2.ensures.moments (second_within c.args.gate c.args.batch.now first c.store.ensures.keeps.sent)
+
+pub returns-clause-written : goal.returns-clause-written
+returns-clause-written g c =
+    written_whole _ _ c.args.gate c.args.batch.now c.requires.gate (rw c.put_content-end.ensures.bytes at c.in_ok-store.ensures.written) _ c.in_ok-store-2.ensures.written
+
+pub returns-clause-valid : goal.returns-clause-valid
+returns-clause-valid g c = record { least = c.requires.least; most = c.requires.most; sound = c.put_content-end.ensures.sound }

@@ -3,6 +3,7 @@ use Rattle.host_core.proofs.Moments.{nothing, widened, ended}
 use Rattle.host_core.proofs.Chains.{writes_nothing}
 use Rattle.journal_core.specs.Journal.{JournalState}
 use Rattle.journal_core.proofs.Appended.{settled_at, grown_by, rest_with, of_disk_with, before_steps}
+use Rattle.journal_core.proofs.Places.{none_within, next_reaches}
 use Rattle.journal_core.proofs.journal.Journal.append.Goals as goal
 
 pub returns-then-len-saturating_sub-clause-moments :
@@ -28,11 +29,11 @@ returns-clause-stored g c =
     (g.H.Host.outside c.args.host.now) (g.H.Host.outside c.add.new.host) (λ disk known. grown_by c.list.ensures.records (c.in_ok-self-inside.ensures.grown disk known)) c.in_ok-self-inside.ensures.settled
 
 pub returns-clause-of_disk : goal.returns-clause-of_disk
-returns-clause-of_disk g c =
+returns-clause-of_disk g c of_disk =
     let batch = c.args.batch.now in
     let counts : c.self.inside.count + c.len-2.result ≡ c.args.self.now.count + length batch = omega (arith, ap (λ (k : JournalState). k.count) c.self.view_is, c.len-2.ensures.len) in
     of_disk_with c.args.self.now _ batch c.self.inside.gate (ap (λ (k : JournalState). k.gate) c.self.view_is) (ap (λ (k : JournalState). k.capacity) c.self.view_is) counts
-    (g.H.Host.outside c.args.host.now) (g.H.Host.outside c.add.new.host) (λ disk known. grown_by c.list.ensures.records (c.in_ok-self-inside.ensures.grown disk known)) c.requires.of_disk
+    (g.H.Host.outside c.args.host.now) (g.H.Host.outside c.add.new.host) (λ disk known. grown_by c.list.ensures.records (c.in_ok-self-inside.ensures.grown disk known)) of_disk
 
 pub returns-then-len-saturating_sub-clause-left : goal.returns-then-len-saturating_sub-clause-left
 returns-then-len-saturating_sub-clause-left g c records image rest left = (ended (returns-then-len-saturating_sub-clause-moments g c records rest) left).holds
@@ -45,3 +46,18 @@ returns-clause-left g c records image rest left = (ended (returns-clause-moments
 
 pub returns-then-len-saturating_sub-clause-keeps : goal.returns-then-len-saturating_sub-clause-keeps
 returns-then-len-saturating_sub-clause-keeps g c = writes_nothing (g.H.Host.outside c.args.host.now)
+
+pub returns-then-len-saturating_sub-clause-within : goal.returns-then-len-saturating_sub-clause-within
+returns-then-len-saturating_sub-clause-within g c = widened (nothing (g.H.Host.outside c.args.host.now) (g.met.H.Host.sent_now c.args.host.now)) _ (none_within _ _ _)
+
+pub returns-in_err-self-inside-clause-within : goal.returns-in_err-self-inside-clause-within
+returns-in_err-self-inside-clause-within g c =
+    rw (← c.list.ensures.records, ← ap (λ (k : JournalState). k.gate) c.self.view_is) c.add.ensures.within
+
+pub returns-clause-within : goal.returns-clause-within
+returns-clause-within g c =
+    rw (← c.list.ensures.records, ← ap (λ (k : JournalState). k.gate) c.self.view_is) c.add.ensures.within
+
+pub returns-clause-gate : goal.returns-clause-gate
+returns-clause-gate g c =
+    next_reaches _ _ c.self.inside.gate _ c.list.result.now (rw (ap (λ (k : JournalState). k.gate) c.self.view_is) c.requires.gate) c.in_ok-self-inside.ensures.written c.in_ok-self-inside.ensures.place

@@ -24,8 +24,8 @@ returns-clause-damaged g c at is batches disk known read =
     rw damage.0 (damaged_disk c.fill.new.self batches disk (c.fill.ensures.reads batches disk known read) c.in_ok-fill.ensures.enough damage.2)
 
 pub returns-clause-of_disk : goal.returns-clause-of_disk
-returns-clause-of_disk g c disk known =
-    let before = c.requires disk (sym c.fill.ensures.keeps.disk ∙ known) in
+returns-clause-of_disk g c of_disk disk known =
+    let before = of_disk disk (sym c.fill.ensures.keeps.disk ∙ known) in
     let read = c.fill.ensures.reads before.0 disk (sym c.fill.ensures.keeps.disk ∙ known) before.1 in
     ⊎_elim (λ is.
     let took = c.take_at_gate.ensures.batch is in

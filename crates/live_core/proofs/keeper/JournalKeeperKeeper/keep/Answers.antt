@@ -1,4 +1,7 @@
+use Rattle.std.proofs.Common.{length, arith}
 use Rattle.host_core.proofs.Moments.{widened}
+use Rattle.journal_core.proofs.Places.{gate_reaches}
+use Rattle.journal_core.proofs.Extending.{extends_by, extends_failed, only_disk}
 use Rattle.live_core.proofs.keeper.JournalKeeperKeeper.keep.Goals as goal
 
 pub returns-in_err-append-clause-moments : goal.returns-in_err-append-clause-moments
@@ -8,3 +11,16 @@ returns-in_err-append-clause-moments g c = λ records rest.
 pub returns-clause-moments : goal.returns-clause-moments
 returns-clause-moments g c = λ records rest.
     widened (c.append.ensures.moments records rest) _ (λ image bytes stop. record { either = stop.holds; sent = stop.sent })
+
+pub append-requires-clause-gate : goal.append-requires-clause-gate
+append-requires-clause-gate g c = gate_reaches c.requires.room.of_disk
+
+pub returns-in_err-append-clause-touches : goal.returns-in_err-append-clause-touches
+returns-in_err-append-clause-touches g c =
+    let fits = c.requires.room.room (length c.args.batch.now) (omega arith) in
+    let disk = only_disk c.append.result c.in_err-append.field-0.0 c.in_err-append.was c.args.self.now.journal.capacity c.append.ensures.full_limit (λ full. absurd (omega (arith, fits, c.append.ensures.full.0 full))) in
+    extends_failed c.append.ensures.keeps.continues.storing (c.append.ensures.cause disk)
+
+pub returns-clause-touches : goal.returns-clause-touches
+returns-clause-touches g c =
+    extends_by _ _ c.args.self.now.journal c.args.batch.now c.append.ensures.keeps.continues.storing c.requires.room.of_disk c.in_ok-append.ensures.valid c.in_ok-append.ensures.written

@@ -1,10 +1,12 @@
-use Rattle.std.proofs.Common.{◌≡◌, ◌≢◌, Bool, true, false, ap, ◌∙◌}
-use Rattle.std.specs.Prelude.{Result, Ok}
+use Rattle.std.proofs.Common.{◌≡◌, ◌≢◌, Bool, List, ℕ, length, true, false, sym, ap, subst, ◌∙◌, arith}
+use Rattle.std.specs.Prelude.{Option, Result, Ok}
 use Rattle.host_core.proofs.Causes.{no_fault, faultless}
 use Rattle.host_core.proofs.Chains.{reads_nothing, reads_faultless}
 use Rattle.engine_core.proofs.Starving.{not_read, not_short}
 use Rattle.live_core.proofs.Again.{sends_then}
 use Rattle.live_core.proofs.Recovering.{sends_read, greeted, reads_again, has_next, has_end, bad_form_there, only_read, only_sent, recovers_on, answered_on, fault_hinders, hinders_on, scan_hinders, no_error}
+use Rattle.journal_core.specs.Scan.{IsScanOf}
+use Rattle.journal_core.proofs.Places.{scan_reaches}
 use Rattle.live_core.proofs.recovery.Recovery.recover.Goals as goal
 
 not_more : {E : Type 0} {result : Result Bool E} {more : Bool} → result ≡ Ok more → more ≡ false → result ≢ Ok true
@@ -98,4 +100,18 @@ batches-preserved g c =
           (c.resume.ensures.moments begin disk next all covers);
       keeps = recovers_on (recovers_on c.batches.invariant.keeps (only_read c.next.ensures.keeps)) (only_sent c.resume.ensures.keeps);
       none = faultless (faultless c.batches.invariant.none (reads_faultless c.next.ensures.keeps (c.next.ensures.faultless (no_error c.in_ok-more.was)))) c.in_ok-resume.ensures.none;
+    }
+
+pub next-requires : goal.next-requires
+next-requires g c = scan_reaches c.batches.invariant.reading.of_disk
+
+pub returns-then-not-more-clause-reading : goal.returns-then-not-more-clause-reading
+returns-then-not-more-clause-reading g c =
+    let was = c.batches.invariant.reading in
+    record {
+      of_disk = subst (λ (known : Option (List ℕ)). IsScanOf c.next.new.self known) (sym c.greet.ensures.keeps.disk) (c.next.ensures.of_disk was.of_disk);
+      capacity = c.next.ensures.capacity ∙ was.capacity;
+      count = omega (arith, c.next.ensures.count, was.count, ap length (c.next.ensures.empty (not_more c.in_ok-more.was c.if-not-more.true)));
+      small = was.small;
+      roomy = was.roomy;
     }

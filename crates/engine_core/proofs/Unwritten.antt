@@ -1,0 +1,70 @@
+-- What is accepted only grows, and where nothing is, nothing is written.
+use Rattle.std.proofs.Common.{◌≡◌, ℕ, ◌≤◌, List, [], ◌∷◌, ◌++◌, length, refl, sym, ap, subst, ◌∙◌, append_assoc, length-append, arith}
+use Rattle.std.specs.Prelude.{Option, Ok, Err, reverse}
+use Rattle.std.proofs.lemmas.List.{nil_from_length, length-reverse}
+use Rattle.host_core.specs.Outside.{Outside, Agrees, MayLeave, Elapses}
+use Rattle.host_core.proofs.Moments.{nothing, widened, goes_on, ended}
+use Rattle.wire_in.specs.declared.record.Record.{Record}
+use Rattle.wire_in.specs.Cutting.{bodies_of, rest_of}
+use Rattle.wire_in.proofs.Cuts.{bodies_of-append}
+use Rattle.rulebook.specs.Sent.{judged, with_record, accepted_of}
+use Rattle.engine_core.specs.declared.session.Session.{Session}
+use Rattle.engine_core.specs.Pending.{SendsPrefix}
+use Rattle.engine_core.specs.Rounds.{Outcome, records_in}
+use Rattle.engine_core.specs.Sessions.{Start, held_after}
+use Rattle.engine_core.specs.Serving.{Serves}
+use Rattle.engine_core.specs.Unwritten.{WritesNothing, AcceptsNone}
+use Rattle.engine_core.proofs.Expecting.{Begins, held-more}
+use Rattle.engine_core.proofs.Keeping.{kept_is}
+
+-- no call, calls that send, and one run after another
+pub idle : (now : Outside) → ((image bytes : List ℕ) → now.leaves now.moment image bytes → Agrees now.sent bytes) → WritesNothing now now
+idle now sent_now = record { disk = refl; moments = widened (nothing now sent_now) _ (λ image bytes stays. stays.was) }
+
+pub sending : {begin : Option (List ℕ)} {text : List ℕ} {old new : Outside} → Elapses old new (SendsPrefix begin text old) → new.disk ≡ old.disk → WritesNothing old new
+sending run same = record { disk = same; moments = widened run _ (λ image bytes stop. stop.was) }
+
+pub still_nothing : {old mid new : Outside} → WritesNothing old mid → WritesNothing mid new → WritesNothing old new
+still_nothing first second = record {
+  disk = second.disk ∙ first.disk;
+  moments = goes_on first.moments second.moments (λ image bytes left. ended first.moments left);
+}
+
+one_grows : (held : List Record) (outcome : Outcome) → (more : List Record) × (with_record held outcome ≡ more ++ held)
+one_grows held (Ok x) = (x ∷ [], refl)
+one_grows held (Err refusal) = ([], refl)
+
+accepted_grows : (capacity : ℕ) (held : List Record) (bodies : List (List ℕ)) → (more : List Record) × (accepted_of capacity held bodies ≡ more ++ held)
+accepted_grows capacity held [] = ([], refl)
+accepted_grows capacity held (body ∷ later) =
+    let first = one_grows held (judged capacity held body) in
+    let rest = accepted_grows capacity (with_record held (judged capacity held body)) later in (
+      rest.0 ++ first.0,
+      rest.1 ∙ ap (λ (r : List Record). rest.0 ++ r) first.1 ∙ sym (append_assoc rest.0 first.0 held),
+    )
+
+-- where no record of all bytes is accepted, none of the first ones is
+pub none_before : (start : Start) {front all : List ℕ} → Begins front all → AcceptsNone start (bodies_of all) → AcceptsNone start (bodies_of front)
+none_before start {front} {all} begins none =
+    let rest = bodies_of (rest_of front ++ begins.more) in
+    let before = accepted_grows start.capacity start.held (bodies_of front) in
+    let after = accepted_grows start.capacity (held_after start (bodies_of front)) rest in
+    let whole : bodies_of all ≡ bodies_of front ++ rest = sym (ap bodies_of begins.whole) ∙ bodies_of-append front begins.more in
+    let same : after.0 ++ held_after start (bodies_of front) ≡ start.held = sym after.1 ∙ sym (held-more start (bodies_of front) rest) ∙ ap (held_after start) (sym whole) ∙ none in
+    let empty : before.0 ≡ [] =
+    nil_from_length before.0 (omega (arith, ap length same, length-append after.0 (held_after start (bodies_of front)), ap length before.1, length-append before.0 start.held)) in
+    before.1 ∙ ap (λ (r : List Record). r ++ start.held) empty
+
+-- nor is one of the round
+pub no_records : {holds : List Record → Outside → Type 0} {start : Start} {front all : List ℕ} {session : Session} {now : Outside} → Serves holds start front session now
+    → Begins front all → AcceptsNone start (bodies_of all) → records_in session.round ≡ []
+no_records {start = start} {session = session} serves begins none =
+    let answered = accepted_grows start.capacity start.held serves.answered in
+    nil_from_length (records_in session.round) (omega (
+      arith,
+      ap length (kept_is serves ∙ none_before start begins none),
+      length-append (reverse (records_in session.round)) (held_after start serves.answered),
+      length-reverse (records_in session.round),
+      ap length answered.1,
+      length-append answered.0 start.held,
+    ))

@@ -1,0 +1,131 @@
+-- The file of a journal, batch by batch.
+use Rattle.std.proofs.Common.{◌≡◌, ◌≢◌, ℕ, suc, ◌+◌, ◌≤◌, List, [], ◌∷◌, ◌++◌, All, length, take, drop, refl, sym, ap, subst, ◌∙◌, arith, append_assoc, append-nil, length-append, length-take-le, take_at, drop_at, take-append-drop, drop-drop}
+use Rattle.std.specs.Prelude.{Option, Some, option_map, reverse, Result, Err}
+use Rattle.std.specs.List.{flat_map}
+use Rattle.std.proofs.lemmas.Grind.{flat_map-append}
+use Rattle.std.proofs.lemmas.List.{reverse-append}
+use Rattle.std.proofs.lemmas.List.Elements.{All-nil, All-cons, All-append}
+use Rattle.host_core.specs.Outside.{Outside, Rose, written}
+use Rattle.host_core.proofs.Moments.{rose_within}
+use Rattle.wire_in.specs.declared.record.Record.{Record}
+use Rattle.journal_core.specs.declared.error.AppendError.{AppendError}
+use Rattle.journal_core.specs.declared.error.AppendError.TheVariants.{Full, DiskFault}
+use Rattle.journal_core.specs.Layout.{IsBatch, HoldsTo, content, frames_of, records_of, stored_batch, with_batch}
+use Rattle.journal_core.specs.Journal.{JournalState, IsOfDisk}
+use Rattle.journal_core.proofs.Images.{room, from_gate}
+use Rattle.journal_core.proofs.OneList.{alone}
+use Rattle.journal_core.proofs.Places.{appended_holds}
+use Rattle.journal_core.specs.Extended.{opened_batches, IsExtended, Extends}
+
+-- a closed gate over a closed gate
+same_gate : {capacity gate : ℕ} {held : List Record} {disk : List ℕ} → HoldsTo capacity gate held disk → written gate (0 ∷ []) disk ≡ disk
+same_gate {gate = gate} {disk = disk} holds =
+    let behind : drop (gate + 1) disk ≡ holds.rest = sym (drop-drop 1 gate disk) ∙ ap (drop 1) (from_gate holds.leads) in
+    append_assoc (take gate disk) (0 ∷ []) (drop (gate + 1) disk)
+    ∙ ap (λ (l : List ℕ). take gate disk ++ l) (ap (λ (l : List ℕ). 0 ∷ l) behind ∙ sym (from_gate holds.leads))
+    ∙ take-append-drop gate disk
+
+-- nothing was written
+pub extends_same : {old new : Outside} → new.disk ≡ old.disk → old.disk_faults ≤ new.disk_faults → Extends old new
+extends_same {old} {new} same later = record {
+  later = later;
+  file = λ rose capacity gate held disk known holds. record {
+    batches = [];
+    valid = All-nil IsBatch;
+    file = same ∙ known ∙ ap Some (sym (same_gate holds));
+    holds = subst (λ (g : ℕ). HoldsTo capacity g held (written gate (0 ∷ []) disk)) (omega arith) (subst (HoldsTo capacity gate held) (sym (same_gate holds)) holds);
+  };
+}
+
+-- a batch was written
+pub extends_by : (old new : Outside) (journal : JournalState) (batch : List Record) → old.disk_faults ≤ new.disk_faults → IsOfDisk journal old.disk → IsBatch batch
+    → new.disk ≡ option_map (written journal.gate (stored_batch batch)) old.disk → Extends old new
+extends_by old new journal batch later of_disk valid is = record { later = later; file = λ rose. grown }
+  where
+    bytes : stored_batch batch ≡ opened_batches (batch ∷ []) ++ 0 ∷ []
+    bytes = sym (ap (λ (l : List ℕ). l ++ 0 ∷ []) (append-nil (1 ∷ content batch)))
+
+    grown : (capacity gate : ℕ) (held : List Record) (disk : List ℕ) → old.disk ≡ Some disk → HoldsTo capacity gate held disk → IsExtended capacity gate held disk new.disk
+    grown capacity gate held disk known holds =
+        let mine = (of_disk disk known).1.held in
+        let one = alone.batches disk capacity gate holds.batches holds.rest journal.capacity journal.gate mine.batches mine.rest holds.leads mine.leads in
+        let made : new.disk ≡ Some (written journal.gate (stored_batch batch) disk) = is ∙ ap (option_map (written journal.gate (stored_batch batch))) known in
+        let place : gate + (length (frames_of batch) + 5) ≡ gate + length (opened_batches (batch ∷ [])) = omega (arith, ap length (append-nil (1 ∷ content batch))) in
+        record {
+          batches = batch ∷ [];
+          valid = All-cons IsBatch batch [] valid (All-nil IsBatch);
+          file = made ∙ (λ i. Some (written (sym one.2 i) (bytes i) disk));
+          holds = subst (λ (b : List ℕ). HoldsTo capacity (gate + length (opened_batches (batch ∷ []))) (records_of (batch ∷ []) ++ held) (written gate b disk)) bytes
+              (subst (λ (r : List Record). HoldsTo capacity (gate + length (opened_batches (batch ∷ []))) (r ++ held) (written gate (stored_batch batch) disk)) (ap reverse (sym (append-nil batch)))
+              (subst (λ (g : ℕ). HoldsTo capacity g (with_batch held batch) (written gate (stored_batch batch) disk)) place (appended_holds batch valid holds)));
+        }
+
+-- batches behind batches
+written_on : (gate : ℕ) (first second disk : List ℕ) → gate ≤ length disk
+    → written (gate + length first) (second ++ 0 ∷ []) (written gate (first ++ 0 ∷ []) disk) ≡ written gate ((first ++ second) ++ 0 ∷ []) disk
+written_on gate first second disk within =
+    let front = take gate disk in
+    let rest = drop (gate + length (first ++ 0 ∷ [])) disk in
+    let mid = written gate (first ++ 0 ∷ []) disk in
+    let next = gate + length first in
+    let len : length (front ++ first) ≡ next = omega (arith, length-append front first, length-take-le gate disk within) in
+    let whole : mid ≡ (front ++ first) ++ 0 ∷ rest = regroup front first (0 ∷ []) rest in
+    let before : take next mid ≡ front ++ first = ap (take next) whole ∙ take_at (front ++ first) (0 ∷ rest) next len in
+    let behind : drop (next + length (second ++ 0 ∷ [])) mid ≡ drop (gate + length ((first ++ second) ++ 0 ∷ [])) disk =
+    sym (drop-drop (length (second ++ 0 ∷ [])) next mid)
+    ∙ ap (drop (length (second ++ 0 ∷ []))) (ap (drop next) whole ∙ drop_at (front ++ first) (0 ∷ rest) next len)
+    ∙ ap (λ (k : ℕ). drop k (0 ∷ rest)) (one_more second)
+    ∙ drop-drop (length second) (gate + length (first ++ 0 ∷ [])) disk
+    ∙ ap (λ (k : ℕ). drop k disk) (omega (arith, length-append first (0 ∷ []), length-append (first ++ second) (0 ∷ []), length-append first second)) in
+    ap (λ (l : List ℕ). l ++ (second ++ 0 ∷ []) ++ drop (next + length (second ++ 0 ∷ [])) mid) before
+    ∙ ap (λ (l : List ℕ). (front ++ first) ++ (second ++ 0 ∷ []) ++ l) behind
+    ∙ last front first second (0 ∷ []) (drop (gate + length ((first ++ second) ++ 0 ∷ [])) disk)
+  where
+    regroup : (a b c d : List ℕ) → (a ++ (b ++ c)) ++ d ≡ (a ++ b) ++ (c ++ d)
+    regroup a b c d = simp append_assoc
+
+    last : (a b c d e : List ℕ) → (a ++ b) ++ (c ++ d) ++ e ≡ a ++ ((b ++ c) ++ d) ++ e
+    last a b c d e = simp append_assoc
+
+    one_more : (l : List ℕ) → length (l ++ 0 ∷ []) ≡ suc (length l)
+    one_more l = omega (arith, length-append l (0 ∷ []))
+
+records_of-append : (a b : List (List Record)) → records_of (a ++ b) ≡ records_of b ++ records_of a
+records_of-append a b =
+    ap reverse (flat_map-append (λ (batch : List Record). batch) a b) ∙ reverse-append (flat_map (λ (batch : List Record). batch) a) (flat_map (λ (batch : List Record). batch) b)
+
+pub extends_on : (old mid new : Outside) → Extends old mid → Extends mid new → Extends old new
+extends_on old mid new first second = record { later = omega (arith, first.later, second.later); file = λ rose capacity gate held disk known holds. both rose capacity gate held disk known holds }
+  where
+    both : ¬ (Rose old.disk_faults new.disk_faults) → (capacity gate : ℕ) (held : List Record) (disk : List ℕ) → old.disk ≡ Some disk → HoldsTo capacity gate held disk
+        → IsExtended capacity gate held disk new.disk
+    both rose capacity gate held disk known holds =
+        let one = first.file (λ r. rose (rose_within old.disk_faults old.disk_faults mid.disk_faults new.disk_faults (omega arith) r second.later)) capacity gate held disk known holds in
+        let two = second.file (λ r. rose (rose_within old.disk_faults mid.disk_faults new.disk_faults new.disk_faults first.later r (omega arith)))
+        capacity (gate + length (opened_batches one.batches)) (records_of one.batches ++ held) _ one.file one.holds in
+        let a = opened_batches one.batches in
+        let b = opened_batches two.batches in
+        let opened : opened_batches (one.batches ++ two.batches) ≡ a ++ b = flat_map-append (λ (batch : List Record). 1 ∷ content batch) one.batches two.batches in
+        let within : gate ≤ length disk = omega (arith, room holds.leads) in
+        let image : written (gate + length a) (b ++ 0 ∷ []) (written gate (a ++ 0 ∷ []) disk) ≡ written gate (opened_batches (one.batches ++ two.batches) ++ 0 ∷ []) disk =
+        written_on gate a b disk within ∙ ap (λ (l : List ℕ). written gate (l ++ 0 ∷ []) disk) (sym opened) in
+        let place : (gate + length a) + length b ≡ gate + length (opened_batches (one.batches ++ two.batches)) = omega (arith, ap length opened, length-append a b) in
+        let records : records_of two.batches ++ (records_of one.batches ++ held) ≡ records_of (one.batches ++ two.batches) ++ held =
+        sym (append_assoc (records_of two.batches) (records_of one.batches) held) ∙ ap (λ (r : List Record). r ++ held) (sym (records_of-append one.batches two.batches)) in
+        record {
+          batches = one.batches ++ two.batches;
+          valid = All-append IsBatch one.batches two.batches one.valid two.valid;
+          file = two.file ∙ ap Some image;
+          holds = subst (HoldsTo capacity (gate + length (opened_batches (one.batches ++ two.batches))) (records_of (one.batches ++ two.batches) ++ held)) image
+              (subst (λ (r : List Record). HoldsTo capacity (gate + length (opened_batches (one.batches ++ two.batches))) r (written (gate + length a) (b ++ 0 ∷ []) (written gate (a ++ 0 ∷ []) disk))) records
+              (subst (λ (g : ℕ). HoldsTo capacity g (records_of two.batches ++ (records_of one.batches ++ held)) (written (gate + length a) (b ++ 0 ∷ []) (written gate (a ++ 0 ∷ []) disk))) place two.holds));
+        }
+
+-- an append failed
+pub extends_failed : {old new : Outside} → old.disk_faults ≤ new.disk_faults → Rose old.disk_faults new.disk_faults → Extends old new
+extends_failed later rose = record { later = later; file = λ not. absurd (not rose) }
+
+pub only_disk : {T : Type 0} (result : Result T AppendError) (error : AppendError) → result ≡ Err error → (capacity : ℕ) → ((limit : ℕ) → result ≡ Err (Full limit) → limit ≡ capacity)
+    → result ≢ Err (Full capacity) → result ≡ Err DiskFault
+only_disk result DiskFault is capacity limits room = is
+only_disk result (Full limit) is capacity limits room = absurd (room (is ∙ ap (λ (l : ℕ). Err (Full l)) (limits limit is)))

@@ -1,0 +1,24 @@
+-- A journal's file that grew by batches, and by nothing else.
+use Rattle.std.specs.Prelude.{◌≡◌, ℕ, ◌+◌, ◌≤◌, List, [], ◌∷◌, ◌++◌, length, All, Option, Some}
+use Rattle.std.specs.List.{flat_map}
+use Rattle.host_core.specs.Outside.{Outside, Rose, written}
+use Rattle.wire_in.specs.declared.record.Record.{Record}
+use Rattle.journal_core.specs.Layout.{IsBatch, HoldsTo, content, records_of}
+
+-- these batches as they are written, one after the other, each behind an open gate
+abbrev pub opened_batches : List (List Record) → List ℕ
+opened_batches batches = flat_map (λ batch. 1 ∷ content batch) batches
+
+-- The file is the old one, but that from its closed gate on batches stand as they are written, and behind them a closed gate.
+-- It holds their records, the newest first, and then those that the old one held.
+pub record IsExtended (capacity gate : ℕ) (held : List Record) (old : List ℕ) (known : Option (List ℕ)) : Type 0 where
+  pub batches : List (List Record)
+  pub valid : All IsBatch batches
+  pub file : known ≡ Some (written gate (opened_batches batches ++ 0 ∷ []) old)
+  pub holds : HoldsTo capacity (gate + length (opened_batches batches)) (records_of batches ++ held) (written gate (opened_batches batches ++ 0 ∷ []) old)
+
+-- Where the old file held a list up to a closed gate, and no fault of the disk was counted since, it was only extended.
+pub record Extends (old new : Outside) : Type 0 where
+  pub later : old.disk_faults ≤ new.disk_faults
+  pub file : ¬ (Rose old.disk_faults new.disk_faults) → (capacity gate : ℕ) (held : List Record) (disk : List ℕ) → old.disk ≡ Some disk → HoldsTo capacity gate held disk
+      → IsExtended capacity gate held disk new.disk
