@@ -2,7 +2,7 @@
 use Rattle.std.proofs.Common.{◌≡◌, inl, inr, ℕ, List, [], ◌++◌, refl, sym, ap, subst, ◌∙◌, append_assoc}
 use Rattle.std.specs.Prelude.{Option, Some, IsTrue}
 use Rattle.host_core.specs.declared.status.Status.{Status}
-use Rattle.host_core.specs.declared.status.Status.TheVariants.{NoJournal}
+use Rattle.host_core.specs.declared.status.Status.TheVariants.{NoJournal, NoMemory}
 use Rattle.host_core.specs.Outside.{Outside, Elapses, Stays, IsSettled, NoFault}
 use Rattle.host_core.specs.Frames.{OnlyReadsDisk}
 use Rattle.host_core.proofs.Moments.{goes_on, widened}
@@ -69,6 +69,7 @@ unbegun here from status {old} {mid} reads tells why = record {
   nothing = λ begin input same begins. reads_only reads;
   damage_moments = λ capacity at before disk known damaged. none_sent reads (again from before);
   no_header = λ disk known none. (tells, reads.sent);
+  no_header_starved = λ disk known none is. (why_at _ _ _ old mid NoMemory is why).1;
   unsent = λ is. reads.sent;
   keeps = only_read reads;
   hinders = hinders_on _ _ _ _ _ _ old old mid status (no_fault old) (λ at none. absurd none) (λ missing disk known. missing disk (reads.disk ∙ known)) (λ before. inl before) why;
@@ -104,6 +105,7 @@ module _ (from : Option ℕ) {old mid new : Outside} {recovery : Recovery} (read
     damage_moments = λ capacity at before disk known damaged.
         sends_then (none_sent reads (again from before)) (moments old.sent disk (begun_at disk known) before (covers_damaged capacity at before disk damaged));
     no_header = λ disk known missing. absurd (header disk (reads.disk ∙ known) missing);
+    no_header_starved = λ disk known missing is. absurd (header disk (reads.disk ∙ known) missing);
     unsent = λ is. absurd (why_at _ _ _ mid new NoJournal is why).1;
     keeps = recovers_on (only_read reads) keeps;
     hinders = hinders_on _ _ _ _ _ _ old mid new status none (λ at there disk known. there old.sent disk (begun_at disk known)) (λ missing. absurd missing)

@@ -178,6 +178,7 @@ module _ (here : Type 0) (from : Option ℕ) (most : ℕ) (status : Status) (old
       starved = starved;
       no_journal = λ is. (why NoJournal is tt).1;
       no_header = λ disk known none. ((headless disk known none).no_header disk known none).0;
+      no_header_starved = λ disk known none. (headless disk known none).no_header_starved disk known none;
       unsent = λ is. (unserved (subst IsUnserved (sym is) tt)).unsent is;
       left_alone = λ disk known none.
           let u = headless disk known none in

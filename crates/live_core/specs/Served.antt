@@ -40,6 +40,7 @@ pub record Served (unbegun : Type 0) (from : Option ℕ) (most : ℕ) (status : 
   -- where no header stands it is told, unless the disk fails or memory is short, and nothing is read, sent or written
   pub no_journal : status ≡ NoJournal → (disk : List ℕ) → old.disk ≡ Some disk → HasNoHeader disk
   pub no_header : (disk : List ℕ) → old.disk ≡ Some disk → HasNoHeader disk → TellsNoJournal status
+  pub no_header_starved : (disk : List ℕ) → old.disk ≡ Some disk → HasNoHeader disk → status ≡ NoMemory → unbegun
   pub unsent : status ≡ NoJournal → new.sent ≡ old.sent
   pub left_alone : (disk : List ℕ) → old.disk ≡ Some disk → HasNoHeader disk → IsLeftAlone old new
   -- Damage is told at the gate of the first batch that has no form or holds a record that may not follow, and never of a
