@@ -1,13 +1,17 @@
 -- The two steps of an append, over what a host exposes before, between and after them.
-use Rattle.std.proofs.Common.{◌≡◌, inl, ℕ, ◌+◌, List, [], ◌∷◌, ◌++◌, length, get_or, drop, sym, ◌∙◌, ap, subst, arith, append_assoc, length-append}
+use Rattle.std.proofs.Common.{◌≡◌, ◌⊎◌, inl, inr, ℕ, ◌+◌, ◌-◌, ◌≤◌, List, [], ◌∷◌, ◌++◌, length, get_or, drop, sym, ◌∙◌, ap, subst, arith, append_assoc, length-append}
 use Rattle.std.specs.Prelude.{Option, Some, option_map, reverse}
 use Rattle.std.proofs.lemmas.List.{length-reverse}
-use Rattle.host_core.specs.Outside.{Outside, MayLeave, Stays, Changes, IsSettled, Torn, written}
+use Rattle.host_core.specs.Outside.{Outside, Agrees, MayLeave, Elapses, Stays, Changes, IsSettled, Torn, written}
+use Rattle.host_core.proofs.Moments.{ended}
 use Rattle.host_core.proofs.Known.{mapped}
 use Rattle.wire_in.specs.declared.record.Record.{Record}
-use Rattle.journal_core.specs.Layout.{IsBatch, LeadsTo, HoldsTo, frames_of, content, with_batch}
+use Rattle.journal_core.specs.Layout.{IsBatch, LeadsTo, HoldsTo, Holds, frames_of, content, with_batch}
+use Rattle.journal_core.specs.Extended.{IsGrown}
 use Rattle.journal_core.specs.Journal.{JournalState, Represents, IsOfDisk, IsAtRest, IsSettledAt, Appends, Grown}
-use Rattle.journal_core.proofs.Images.{closed, torn_behind, written_behind, torn_gate, written_gate, grown, either}
+use Rattle.journal_core.proofs.Images.{closed, torn_behind, written_behind, torn_gate, written_gate, grown, either_to}
+use Rattle.journal_core.proofs.Torns.{torn_same, torn_within, torn_twice}
+use Rattle.journal_core.proofs.FrameLemmas.{frames_most}
 
 -- what an append writes behind a gate
 abbrev pub body : List Record → List ℕ
@@ -80,28 +84,63 @@ module _ (old new : JournalState) (batch : List Record) (gate : ℕ) (gates : ga
       keeps = λ disk known. let from = grown_to disk known in kept_with from.grows (rest.keeps from.before from.known);
     }
 
-pub before_steps : (old : Outside) (capacity gate : ℕ) (records batch : List Record) → IsSettledAt capacity gate records old → (image bytes : List ℕ) → Stays old image bytes → Appends capacity records batch old image bytes
-before_steps old capacity gate records batch rest image bytes stays = record {
-  holds = inl (record { gate = gate; held = rest.holds image (rest.settled.only image stays.was) });
-  sent = stays.sent;
-}
+-- what is held up to a gate is held
+some_gate : {capacity gate : ℕ} {records : List Record} (batch : List Record) {before image : List ℕ}
+    → IsGrown capacity gate records before image ⊎ IsGrown capacity gate (with_batch records batch) before image → Holds image capacity records ⊎ Holds image capacity (with_batch records batch)
+some_gate batch (inl same) = inl (record { gate = same.next; held = same.holds })
+some_gate batch (inr more) = inr (record { gate = more.next; held = more.holds })
+
+appends : {capacity gate : ℕ} {records batch : List Record} {old : Outside} {image bytes : List ℕ} (before : List ℕ) → MayLeave old before
+    → IsGrown capacity gate records before image ⊎ IsGrown capacity gate (with_batch records batch) before image → Agrees old.sent bytes → Appends capacity gate records batch old image bytes
+appends {batch = batch} before was grows sent = record { holds = some_gate batch grows; before = before; was = was; grown = grows; sent = sent }
+
+pub before_steps : (old : Outside) (capacity gate : ℕ) (records batch : List Record) → IsSettledAt capacity gate records old → (image bytes : List ℕ) → Stays old image bytes → Appends capacity gate records batch old image bytes
+before_steps old capacity gate records batch rest image bytes stays =
+    appends image stays.was (inl (record { next = gate; holds = rest.holds image (rest.settled.only image stays.was); behind = omega arith; torn = torn_same gate (gate - gate + 2310) image })) stays.sent
 
 module _ (old : Outside) (capacity gate : ℕ) (records batch : List Record) (valid : IsBatch batch) (rest : IsSettledAt capacity gate records old) where
   held : (image : List ℕ) → MayLeave old image → HoldsTo capacity gate records image
   held image left = rest.holds image (rest.settled.only image left)
 
-  pub first_step : (n : ℕ) (image bytes : List ℕ) → Changes (Torn (gate + 1) n) old image bytes → Appends capacity records batch old image bytes
-  first_step n image bytes step =
-      let before = held step.before step.was in
-      record { holds = inl (record { gate = gate; held = closed before.same (torn_behind before.leads n image step.changed) }); sent = step.sent }
+  few : length (frames_of batch) ≤ 2304
+  few = omega (arith, frames_most batch valid.sound, valid.most)
 
-  module _ (mid : Outside) (first : mid.disk ≡ option_map (written (gate + 1) (body batch)) old.disk) (settled : IsSettled mid) (same : mid.sent ≡ old.sent) where
-    pub second_step : (image bytes : List ℕ) → Changes (Torn gate 1) mid image bytes → Appends capacity records batch old image bytes
-    second_step image bytes step =
-        let from = mapped (written (gate + 1) (body batch)) old.disk step.before (sym first ∙ settled.only step.before step.was) in
-        let before = rest.holds from.0 from.1 in
-        let torn : Torn gate 1 (written (gate + 1) (body batch) from.0) image = subst (λ d. Torn gate 1 d image) (sym from.2) step.changed in
-        record {
-          holds = either batch (drop (gate + 1 + length (body batch)) from.0 ++ torn.more) before.same (opened_torn batch valid before image torn) valid;
-          sent = rw (sym same) step.sent;
-        }
+  pub first_step : (image bytes : List ℕ) → Changes (Torn (gate + 1) (length (body batch))) old image bytes → Appends capacity gate records batch old image bytes
+  first_step image bytes step =
+      let before = held step.before step.was in
+      appends step.before step.was (inl (record {
+        next = gate;
+        holds = closed before.same (torn_behind before.leads (length (body batch)) image step.changed);
+        behind = omega arith;
+        torn = torn_within gate (gate - gate + 2310) (gate + 1) (length (body batch)) (omega arith) (omega (arith, few, length-append (content batch) (0 ∷ []))) step.changed;
+      })) step.sent
+
+  module _ (mid : Outside) (first : mid.disk ≡ option_map (written (gate + 1) (body batch)) old.disk) (settled : IsSettled mid) (same : mid.sent ≡ old.sent)
+      (run : Elapses old mid (Changes (Torn (gate + 1) (length (body batch))) old)) where
+    pub second_step : (image bytes : List ℕ) → Changes (Torn gate 1) mid image bytes → Appends capacity gate records batch old image bytes
+    second_step image bytes step = appends at_end.before at_end.was (by (either_to batch (drop (gate + 1 + length (body batch)) from.0 ++ torn.more) before.same (opened_torn batch valid before image torn) valid)) sent
+      where
+        from : (d : List ℕ) × (old.disk ≡ Some d) × (written (gate + 1) (body batch) d ≡ step.before)
+        from = mapped (written (gate + 1) (body batch)) old.disk step.before (sym first ∙ settled.only step.before step.was)
+
+        before : HoldsTo capacity gate records from.0
+        before = rest.holds from.0 from.1
+
+        torn : Torn gate 1 (written (gate + 1) (body batch) from.0) image
+        torn = subst (λ d. Torn gate 1 d image) (sym from.2) step.changed
+
+        sent : Agrees old.sent bytes
+        sent = rw (sym same) step.sent
+
+        at_end : Changes (Torn (gate + 1) (length (body batch))) old step.before step.was.bytes
+        at_end = ended run step.was
+
+        within : (n : ℕ) → 2310 ≤ n → Torn gate n at_end.before image
+        within n le =
+            torn_twice gate n (torn_within gate n (gate + 1) (length (body batch)) (omega arith) (omega (arith, le, few, length-append (content batch) (0 ∷ []))) at_end.changed)
+            (torn_within gate n gate 1 (omega arith) (omega (arith, le)) step.changed)
+
+        by : HoldsTo capacity gate records image ⊎ HoldsTo capacity (gate + (length (frames_of batch) + 5)) (with_batch records batch) image
+            → IsGrown capacity gate records at_end.before image ⊎ IsGrown capacity gate (with_batch records batch) at_end.before image
+        by (inl holds) = inl (record { next = gate; holds = holds; behind = omega arith; torn = within (gate - gate + 2310) (omega arith) })
+        by (inr holds) = inr (record { next = gate + (length (frames_of batch) + 5); holds = holds; behind = omega arith; torn = within (gate + (length (frames_of batch) + 5) - gate + 2310) (omega arith) })

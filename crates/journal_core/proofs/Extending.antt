@@ -1,11 +1,11 @@
 -- The file of a journal, batch by batch.
-use Rattle.std.proofs.Common.{◌≡◌, ◌≢◌, ℕ, suc, ◌+◌, ◌≤◌, List, [], ◌∷◌, ◌++◌, All, length, take, drop, refl, sym, ap, subst, ◌∙◌, arith, append_assoc, append-nil, length-append, length-take-le, take_at, drop_at, take-append-drop, drop-drop}
+use Rattle.std.proofs.Common.{◌≡◌, ◌≢◌, ℕ, suc, ◌+◌, ◌-◌, ◌≤◌, List, [], ◌∷◌, ◌++◌, All, length, take, drop, refl, sym, ap, subst, ◌∙◌, arith, append_assoc, append-nil, length-append, length-take-le, length-drop, take_at, drop_at, take-append-drop, drop-drop}
 use Rattle.std.specs.Prelude.{Option, Some, option_map, reverse, Result, Err}
 use Rattle.std.specs.List.{flat_map}
 use Rattle.std.proofs.lemmas.Grind.{flat_map-append}
 use Rattle.std.proofs.lemmas.List.{reverse-append}
 use Rattle.std.proofs.lemmas.List.Elements.{All-nil, All-cons, All-append}
-use Rattle.host_core.specs.Outside.{Outside, Rose, written}
+use Rattle.host_core.specs.Outside.{Outside, Rose, Torn, written}
 use Rattle.host_core.proofs.Moments.{rose_within}
 use Rattle.wire_in.specs.declared.record.Record.{Record}
 use Rattle.journal_core.specs.declared.error.AppendError.{AppendError}
@@ -15,7 +15,8 @@ use Rattle.journal_core.specs.Journal.{JournalState, IsOfDisk}
 use Rattle.journal_core.proofs.Images.{room, from_gate}
 use Rattle.journal_core.proofs.OneList.{alone}
 use Rattle.journal_core.proofs.Places.{appended_holds}
-use Rattle.journal_core.specs.Extended.{opened_batches, IsExtended, Extends}
+use Rattle.journal_core.specs.Extended.{opened_batches, IsExtended, Extends, IsGrown}
+use Rattle.journal_core.proofs.Torns.{torn_same, torn_within, torn_twice}
 
 -- a closed gate over a closed gate
 same_gate : {capacity gate : ℕ} {held : List Record} {disk : List ℕ} → HoldsTo capacity gate held disk → written gate (0 ∷ []) disk ≡ disk
@@ -129,3 +130,37 @@ pub only_disk : {T : Type 0} (result : Result T AppendError) (error : AppendErro
     → result ≢ Err (Full capacity) → result ≡ Err DiskFault
 only_disk result DiskFault is capacity limits room = is
 only_disk result (Full limit) is capacity limits room = absurd (room (is ∙ ap (λ (l : ℕ). Err (Full l)) (limits limit is)))
+
+-- no batch was written yet
+pub grown_none : {capacity gate : ℕ} {records : List Record} {image : List ℕ} → HoldsTo capacity gate records image → IsGrown capacity gate records image image
+grown_none {gate = gate} {image = image} holds = record { next = gate; holds = holds; behind = omega arith; torn = torn_same gate (gate - gate + 2310) image }
+
+-- what is written stands in its place
+written_torn : (at : ℕ) (piece disk : List ℕ) → at ≤ length disk → Torn at (length piece) disk (written at piece disk)
+written_torn at piece disk within =
+    let front = take at disk in
+    let n = at + length piece in
+    let len : length (front ++ piece) ≡ n = omega (arith, length-append front piece, length-take-le at disk within) in
+    record {
+      rest = piece ++ drop n disk;
+      before = append_assoc front piece (drop n disk);
+      more = [];
+      after = drop_at (front ++ piece) (drop n disk) n len ∙ sym (append-nil (drop n disk));
+      no_shorter = omega (arith, length-append (front ++ piece) (drop n disk), len, length-drop n disk);
+    }
+
+-- and batches that follow a batch grow the file from before it
+pub grown_behind : {capacity gate : ℕ} {records : List Record} {disk image : List ℕ} (batch : List Record) → gate ≤ length disk
+    → IsGrown capacity (gate + (length (frames_of batch) + 5)) records (written gate (stored_batch batch) disk) image → IsGrown capacity gate records disk image
+grown_behind {gate = gate} {disk = disk} batch within g =
+    let n = g.next - gate + 2310 in
+    let after = gate + (length (frames_of batch) + 5) in
+    let len = length-append (content batch) (0 ∷ []) in
+    record {
+      next = g.next;
+      holds = g.holds;
+      behind = omega (arith, g.behind);
+      torn = torn_twice gate n
+          (torn_within gate n gate (length (stored_batch batch)) (omega arith) (omega (arith, g.behind, len)) (written_torn gate (stored_batch batch) disk within))
+          (torn_within gate n after (g.next - after + 2310) (omega arith) (omega (arith, g.behind)) g.torn);
+    }

@@ -112,11 +112,12 @@ grown {batches = batches} batch more same p open_mark valid =
     closed (records_of-push batches batch ∙ ap (λ l. with_batch l batch) same) (opened batch (0 ∷ more) p open_mark valid)
 
 -- whatever a torn write leaves of a gate before the content of a batch
-pub either : {capacity gate : ℕ} {batches : List (List Record)} {image : List ℕ} {mark : ℕ} {records : List Record} (batch : List Record) (more : List ℕ) → records_of batches ≡ records
-    → LeadsTo capacity gate batches image (mark ∷ (content batch ++ 0 ∷ more)) → IsBatch batch → Holds image capacity records ⊎ Holds image capacity (with_batch records batch)
-either {capacity} {gate} {batches} {image} {mark} batch more same p valid = elim (cases_eq mark 0) [
-  | inl is ↦ inl (record { gate = gate; held = closed same (moved p image (0 ∷ (content batch ++ 0 ∷ more)) (p.whole ∙ ap (λ m. (header capacity ++ p.prefix) ++ m ∷ (content batch ++ 0 ∷ more)) is)) })
-  | inr open_mark ↦ inr (record { gate = _; held = grown batch more same p open_mark valid })
+pub either_to : {capacity gate : ℕ} {batches : List (List Record)} {image : List ℕ} {mark : ℕ} {records : List Record} (batch : List Record) (more : List ℕ) → records_of batches ≡ records
+    → LeadsTo capacity gate batches image (mark ∷ (content batch ++ 0 ∷ more)) → IsBatch batch
+    → HoldsTo capacity gate records image ⊎ HoldsTo capacity (gate + (length (frames_of batch) + 5)) (with_batch records batch) image
+either_to {capacity} {gate} {batches} {image} {mark} batch more same p valid = elim (cases_eq mark 0) [
+  | inl is ↦ inl (closed same (moved p image (0 ∷ (content batch ++ 0 ∷ more)) (p.whole ∙ ap (λ m. (header capacity ++ p.prefix) ++ m ∷ (content batch ++ 0 ∷ more)) is)))
+  | inr open_mark ↦ inr (grown batch more same p open_mark valid)
 ]
 
 -- the bytes of a journal that was just made

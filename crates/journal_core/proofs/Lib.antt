@@ -1,6 +1,7 @@
 mod FrameLemmas
 pub mod Images
 pub mod OneList
+pub mod Torns
 pub mod Places
 mod Appended
 pub mod Extending

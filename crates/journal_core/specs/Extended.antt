@@ -1,7 +1,7 @@
 -- A journal's file that grew by batches, and by nothing else.
-use Rattle.std.specs.Prelude.{◌≡◌, ℕ, ◌+◌, ◌≤◌, List, [], ◌∷◌, ◌++◌, length, All, Option, Some}
+use Rattle.std.specs.Prelude.{◌≡◌, ℕ, ◌+◌, ◌-◌, ◌≤◌, List, [], ◌∷◌, ◌++◌, length, All, Option, Some}
 use Rattle.std.specs.List.{flat_map}
-use Rattle.host_core.specs.Outside.{Outside, Rose, written}
+use Rattle.host_core.specs.Outside.{Outside, Rose, Torn, written}
 use Rattle.wire_in.specs.declared.record.Record.{Record}
 use Rattle.journal_core.specs.Layout.{IsBatch, HoldsTo, content, records_of}
 
@@ -22,3 +22,11 @@ pub record Extends (old new : Outside) : Type 0 where
   pub later : old.disk_faults ≤ new.disk_faults
   pub file : ¬ (Rose old.disk_faults new.disk_faults) → (capacity gate : ℕ) (held : List Record) (disk : List ℕ) → old.disk ≡ Some disk → HoldsTo capacity gate held disk
       → IsExtended capacity gate held disk new.disk
+
+-- An image that a stop may leave while batches are added to an old file: it holds these records up to a gate of its own, and it
+-- differs from the old file only from the old gate on, and up to the place of one batch of 2,310 bytes at its own gate.
+pub record IsGrown (capacity gate : ℕ) (records : List Record) (old image : List ℕ) : Type 0 where
+  pub next : ℕ
+  pub holds : HoldsTo capacity next records image
+  pub behind : gate ≤ next
+  pub torn : Torn gate (next - gate + 2310) old image

@@ -1,8 +1,9 @@
 -- A journal over a host, and what a stop of an append leaves.
 use Rattle.std.specs.Prelude.{◌≡◌, ◌⊎◌, ℕ, ◌+◌, ◌*◌, ◌^◌, ◌≤◌, Bool, List, length, Option, Some}
-use Rattle.host_core.specs.Outside.{Outside, Agrees, IsSettled}
+use Rattle.host_core.specs.Outside.{Outside, Agrees, MayLeave, IsSettled}
 use Rattle.wire_in.specs.declared.record.Record.{Record}
 use Rattle.journal_core.specs.Layout.{IsLimit, HoldsTo, Holds, with_batch}
+use Rattle.journal_core.specs.Extended.{IsGrown}
 
 -- The capacity of a journal, how many records it holds, the place of its next gate, and whether it may be written: since it
 -- was read, no call has found a fault.
@@ -47,7 +48,11 @@ pub record Grown (gate next : ℕ) (batch : List Record) (old : Option (List ℕ
   pub known : old ≡ Some before
   pub grows : (capacity : ℕ) (records : List Record) → HoldsTo capacity gate records before → HoldsTo capacity next (with_batch records batch) disk
 
--- a stop leaves the records as they were or with the batch, and nothing more was sent
-pub record Appends (capacity : ℕ) (records batch : List Record) (old : Outside) (image bytes : List ℕ) : Type 0 where
+-- A stop leaves the records as they were or with the batch, in an image that differs from one before in the place of the batch
+-- alone, and nothing more was sent.
+pub record Appends (capacity gate : ℕ) (records batch : List Record) (old : Outside) (image bytes : List ℕ) : Type 0 where
   pub holds : Holds image capacity records ⊎ Holds image capacity (with_batch records batch)
+  pub before : List ℕ
+  pub was : MayLeave old before
+  pub grown : IsGrown capacity gate records before image ⊎ IsGrown capacity gate (with_batch records batch) before image
   pub sent : Agrees old.sent bytes

@@ -57,7 +57,7 @@ fn add<H: Host>(host: &mut H, gate: u64, batch: &[Record]) -> Result<u64, Failed
     requires most { length batch.now ≤ BATCH_MAX }
     requires ranges { All InRange batch.now }
     ensures moments { (capacity : ℕ) (records : List Record) → IsSettledAt capacity gate records (H.outside host.old)
-        → Elapses (H.outside host.old) (H.outside host.new) (Appends capacity records batch.now (H.outside host.old)) }
+        → Elapses (H.outside host.old) (H.outside host.new) (Appends capacity gate records batch.now (H.outside host.old)) }
     ensures within { Elapses (H.outside host.old) (H.outside host.new) (Changes (Torn gate (length (stored_batch batch.now))) (H.outside host.old)) }
     ensures written { OnOk result ((H.outside host.new).disk ≡ option_map (written gate (stored_batch batch.now)) (H.outside host.old).disk) }
     ensures grown { IfOk result (λ next. (disk : List ℕ) → (H.outside host.new).disk ≡ Some disk
@@ -145,12 +145,13 @@ impl Journal {
 
         // Whenever the call is stopped, and whatever it answered.
         ensures moments { (records : List Record) → IsAtRest self.old records (H.outside host.old)
-            → Elapses (H.outside host.old) (H.outside host.new) (Appends self.old.capacity records batch.now (H.outside host.old)) }
+            → Elapses (H.outside host.old) (H.outside host.new) (Appends self.old.capacity self.old.gate records batch.now (H.outside host.old)) }
         ensures left { (records : List Record) (image : List ℕ) → IsAtRest self.old records (H.outside host.old) → MayLeave (H.outside host.new) image
             → Holds image self.old.capacity records ⊎ Holds image self.old.capacity (with_batch records batch.now) }
         ensures stored { OnOk result ((records : List Record) → IsAtRest self.old records (H.outside host.old)
             → IsAtRest self.new (with_batch records batch.now) (H.outside host.new)) }
         ensures of_disk { OnOk result (IsOfDisk self.old (H.outside host.old).disk → IsOfDisk self.new (H.outside host.new).disk) }
+        ensures next { OnOk result (self.new.gate ≡ self.old.gate + (length (frames_of batch.now) + 5)) }
         ensures gate { OnOk result (HasBytes (self.new.gate + 1) (H.outside host.new).disk) }
 
         // The batch is written in its place, and outside of it nothing changes, whatever the answer.

@@ -2,6 +2,7 @@ ghost use Rattle.std.specs.Prelude.{◌≡◌, ◌≢◌, ◌⊎◌, ◌≤◌, 
 ghost use Rattle.std.specs.Int.{w64};
 ghost use Rattle.host_core.specs.Outside.{Outside, Rose, IsSettled};
 ghost use Rattle.host_core.specs.Frames.{OnlyReadsDisk};
+ghost use Rattle.host_core.specs.HostCalls.{SyncsDisk};
 ghost use Rattle.wire_core.specs.Fields.{number};
 ghost use Rattle.wire_in.specs.declared.record.Record.{Record};
 ghost use Rattle.journal_core.specs.Layout.{IsBatch, IsLimit, Opens, frames_of, records_of, header, signature};
@@ -60,7 +61,7 @@ impl Scan {
         ensures keeps { OnlyReadsDisk (H.outside host.old) (H.outside host.new) }
     {
         let ahead = Ahead::new(alloc)?;
-        host.disk_sync()?;
+        settle(host)?;
         Scan::open(host, ahead)
     }
 
@@ -215,6 +216,13 @@ impl Scan {
             }
         }
     }
+}
+
+/// Puts on the disk what an earlier run left pending.
+fn settle<H: Host>(host: &mut H) -> Result<(), Failed>
+    ensures syncs { SyncsDisk result (H.outside host.old) (H.outside host.new) }
+{
+    host.disk_sync()
 }
 
 /// The capacity of the header that some bytes begin with; none exactly where they begin with no header.

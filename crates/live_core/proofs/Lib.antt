@@ -3,4 +3,5 @@ pub mod Recovering
 pub mod Finishing
 pub mod OneDamage
 pub mod Restoring
+pub mod Regaining
 pub mod Served

@@ -11,7 +11,9 @@ use Rattle.host_core.proofs.Causes.{faultless, no_fault}
 use Rattle.host_core.proofs.Chains.{reads_nothing}
 use Rattle.wire_in.specs.declared.record.Record.{Record}
 use Rattle.wire_in.specs.Cutting.{bodies_of}
-use Rattle.journal_core.specs.Layout.{Holds}
+use Rattle.journal_core.specs.Layout.{Holds, HoldsTo}
+use Rattle.journal_core.specs.Extended.{IsGrown}
+use Rattle.engine_core.proofs.Reading.{held_all}
 use Rattle.journal_core.specs.Journal.{JournalState, IsAtRest}
 use Rattle.journal_core.specs.Scan.{HasNoHeader}
 use Rattle.journal_core.proofs.OneList.{alone}
@@ -33,9 +35,9 @@ use Rattle.live_core.specs.Safe.{Begin, Begins, start_of, IsSafe, IsSafeOrPendin
 use Rattle.live_core.specs.Damage.{IsDamagedAt, StopsAtDamage}
 use Rattle.live_core.specs.Ends.{Answered, IsKept, IsUnserved, TellsDamage}
 use Rattle.live_core.specs.Starved.{StarvedAtRecord}
-use Rattle.live_core.specs.Written.{Written}
+use Rattle.live_core.specs.Written.{Written, HasGrown}
 use Rattle.live_core.specs.Served.{Served}
-use Rattle.live_core.specs.InternalKeeping.{held_now}
+use Rattle.live_core.specs.InternalKeeping.{Regains, held_now}
 use Rattle.live_core.specs.InternalRecovery.{again, Covers, StarvesAgain, HasDamage, Hinders}
 use Rattle.live_core.specs.InternalServing.{IsSound, IsRestored, IsUnread, IsAnswered}
 use Rattle.live_core.proofs.OneDamage.{covers_held, covers_damaged, one_damage, lawful_undamaged}
@@ -219,7 +221,7 @@ module _ (here : Type 0) (from : Option ℕ) (most : ℕ) (status : Status) (old
       (λ begin input same begins. no_ask (start_of begin) input u.keeps.asks)
       (λ begin input same begins is.
       or_else _ (starved_among from begin.held old new begins.disk_known (covers_held begins.disk begin.capacity begin.held begins.holds) (why_at _ _ _ old new NoMemory is u.hinders).1))
-      (record { extends = extends_same u.keeps.disk u.keeps.continues.storing; unwritten = λ begin input same begins none. u.nothing begin input same begins })
+      (record { extends = extends_same u.keeps.disk u.keeps.continues.storing; unwritten = λ begin input same begins none. u.nothing begin input same begins; stops = λ begin input same begins. widened (u.nothing begin input same begins).moments _ (λ image bytes left. inl left) })
       (takes_none most old.input new.input u.keeps.input)
 
   -- A session that answered.
@@ -243,6 +245,19 @@ module _ (here : Type 0) (from : Option ℕ) (most : ℕ) (status : Status) (old
             subst (λ (capacity : ℕ). Holds disk capacity records) (alone.records disk journal.capacity begin.capacity records _ now (ended run last).recovered).0 now;
       }
 
+      -- what grew from an image of the restored session grew from one of the start
+      has_grown : {records : List Record} {image : List ℕ} → Regains serving.keeper.journal mid records image → HasGrown begin old image
+      has_grown {records} {image} g =
+          let rest = held_all reads r.empty in
+          record {
+            before = g.before;
+            was = ended (r.nothing begin input same begins).moments g.was;
+            gate = serving.keeper.journal.gate;
+            held = subst (λ (c : ℕ). HoldsTo c serving.keeper.journal.gate begin.held g.before) (r.capacity begin input same begins) (rest.keeps g.before (rest.settled.only g.before g.was)).held;
+            records = records;
+            grown = subst (λ (c : ℕ). IsGrown c serving.keeper.journal.gate records g.before image) (r.capacity begin input same begins) g.grown;
+          }
+
       all_answered : (count : ℕ) → engine.Answered (λ records now. IsAtRest journal records now) (start_of begin) input count new → Answered begin input count new
       all_answered count answered = record { input_left = answered.input_left; there = answered.there; sent = answered.sent; held = kept answered.held }
 
@@ -265,6 +280,9 @@ module _ (here : Type 0) (from : Option ℕ) (most : ℕ) (status : Status) (old
           extends = extends_on old mid new (extends_same r.keeps.disk r.keeps.continues.storing) a.extends;
           unwritten = λ begin input same begins none.
               still_nothing (r.nothing begin input same begins) (a.nothing (start_of begin) input refl (reads begin input same begins) none);
+          stops = λ begin input same begins.
+              goes_on (widened (r.nothing begin input same begins).moments _ (λ image bytes left. inl left)) (a.grows (start_of begin) input refl (reads begin input same begins))
+              (λ image bytes safe. inr (has_grown begin input same begins safe.recovered));
         })
         (takes_between most old.input mid.input new.input new.input r.keeps.input refl a.bytes)
 

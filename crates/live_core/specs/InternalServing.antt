@@ -22,7 +22,7 @@ use Rattle.live_core.specs.declared.recovery.Serving.{Serving}
 use Rattle.live_core.specs.Safe.{Begin, Begins, start_of, IsSafeOrPending}
 use Rattle.live_core.specs.Damage.{IsDamagedAt}
 use Rattle.live_core.specs.Ends.{IsUnserved, TellsNoJournal}
-use Rattle.live_core.specs.InternalKeeping.{HasRoom}
+use Rattle.live_core.specs.InternalKeeping.{HasRoom, Regains}
 use Rattle.live_core.specs.InternalRecovery.{again, HasDamage, StarvesAgain, IsReading, OnlyRecovers, Hinders}
 
 -- a session over what a journal was read into
@@ -77,6 +77,8 @@ pub record IsAnswered (most : ℕ) (before after : JournalState) (session : Sess
   pub nothing : (start : Start) (input : List ℕ) → start.acknowledges ≡ true → Reads (λ records now. IsAtRest before records now) start input 0 session old
       → AcceptsNone start (bodies_of (take most input)) → WritesNothing old new
   pub extends : Extends old new
+  pub grows : (start : Start) (input : List ℕ) → start.acknowledges ≡ true → Reads (λ records now. IsAtRest before records now) start input 0 session old
+      → Elapses old new (IsSafe (λ records image. Regains before old records image) start (bodies_of (take most input)))
   pub prompt : (start : Start) (input : List ℕ) → start.acknowledges ≡ true → Reads (λ records now. IsAtRest before records now) start input 0 session old
       → Prompt start input old.asks new.asks
   pub starved : (start : Start) (input : List ℕ) → start.acknowledges ≡ true → Reads (λ records now. IsAtRest before records now) start input 0 session old

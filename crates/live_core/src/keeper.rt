@@ -5,11 +5,11 @@ ghost use Rattle.host_core.specs.Outside.{Elapses};
 ghost use Rattle.host_core.specs.Frames.{OnlyWrites};
 ghost use Rattle.host_core.specs.Faults.{Causes};
 ghost use Rattle.wire_in.specs.declared.record.Record.{Record};
-ghost use Rattle.journal_core.specs.Layout.{Holds, with_batch};
+ghost use Rattle.journal_core.specs.Layout.{with_batch};
 ghost use Rattle.journal_core.specs.Journal.{IsAtRest};
 ghost use Rattle.engine_core.specs.Serving.{Keeps};
 ghost use Rattle.journal_core.specs.Extended.{Extends};
-ghost use Rattle.live_core.specs.InternalKeeping.{HasRoom, rests_still, held_now, room_for_fewer, extends_still, extends_both};
+ghost use Rattle.live_core.specs.InternalKeeping.{HasRoom, Regains, rests_still, regained_before, regained_now, room_for_fewer, extends_still, extends_both};
 
 use engine_core::Keeper;
 use host_core::{Fault, Host};
@@ -26,7 +26,7 @@ impl Keeper for JournalKeeper {
 
     ghost holds = { λ keeper records now. IsAtRest keeper.journal records now };
 
-    ghost recovers = { λ keeper _ records image. Holds image keeper.journal.capacity records };
+    ghost recovers = { λ keeper now records image. Regains keeper.journal now records image };
 
     ghost has_room = { λ keeper known more. HasRoom keeper.journal known more };
 
@@ -36,9 +36,9 @@ impl Keeper for JournalKeeper {
 
     ghost still_held = { λ keeper records old new rest same left. rests_still keeper.journal records old new rest same left };
 
-    ghost recovered_before = { λ _ _ _ _ _ _ holds. holds };
+    ghost recovered_before = { λ keeper records image old new left regained. regained_before keeper.journal records image old new left regained };
 
-    ghost recovers_now = { λ keeper records now image rest left. held_now keeper.journal records now image rest left };
+    ghost recovers_now = { λ keeper records now image rest left. regained_now keeper.journal records now image rest left };
 
     ghost room_for_fewer = { λ keeper known fewer more le has. room_for_fewer keeper.journal known fewer more le has };
 

@@ -1,6 +1,6 @@
 // A journal with a batch of many records, as a program that appends several at once leaves it.
-ghost use Rattle.std.specs.Prelude.{◌<◌, IfOk, IsTrue, length};
-ghost use Rattle.journal_core.specs.Journal.{IsOfDisk};
+ghost use Rattle.std.specs.Prelude.{◌<◌, ◌+◌, IfOk, IsTrue, length};
+ghost use Rattle.journal_core.specs.Journal.{HasBytes};
 
 use super::run;
 use host_core::{Host, Status};
@@ -42,7 +42,7 @@ fn day_and_clocks(alloc: Global) -> Result<Batch, Fail>
 /// Reads a journal to its end.
 fn open<H: Host>(alloc: Global, host: &mut H) -> Result<Journal, ScanError>
     ensures whole { IfOk result (λ journal. IsTrue journal.whole) }
-    ensures of_disk { IfOk result (λ journal. IsOfDisk journal (H.outside host.new).disk) }
+    ensures gate { IfOk result (λ journal. HasBytes (journal.gate + 1) (H.outside host.new).disk) }
 {
     let mut scan = Scan::begin(alloc, host)?;
     let mut batch = Batch::new(alloc)?;

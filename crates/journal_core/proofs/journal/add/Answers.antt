@@ -11,23 +11,25 @@ pub returns-in_err-store-clause-moments : goal.returns-in_err-store-clause-momen
 returns-in_err-store-clause-moments g c capacity records rest =
     let batch = c.args.batch.now in
     let valid : IsBatch batch = record { least = c.requires.least; most = c.requires.most; sound = c.put_content-end.ensures.sound } in
-    widened c.store.ensures.moments _ (first_step _ capacity c.args.gate records batch valid rest _)
+    widened (rw c.put_content-end.ensures.bytes at c.store.ensures.moments) _ (first_step _ capacity c.args.gate records batch valid rest)
 
 pub returns-in_err-store-2-clause-moments : goal.returns-in_err-store-2-clause-moments
 returns-in_err-store-2-clause-moments g c capacity records rest =
     let batch = c.args.batch.now in
     let valid : IsBatch batch = record { least = c.requires.least; most = c.requires.most; sound = c.put_content-end.ensures.sound } in
     let body = rw c.put_content-end.ensures.bytes at c.in_ok-store.ensures.written in
-    let first = widened c.store.ensures.moments _ (first_step _ capacity c.args.gate records batch valid rest _) in
-    goes_on first c.store-2.ensures.moments (second_step _ capacity c.args.gate records batch valid rest (g.H.Host.outside c.store.new.host) body c.in_ok-store.ensures.settled c.store.ensures.keeps.sent)
+    let moments = rw c.put_content-end.ensures.bytes at c.store.ensures.moments in
+    let first = widened moments _ (first_step _ capacity c.args.gate records batch valid rest) in
+    goes_on first c.store-2.ensures.moments (second_step _ capacity c.args.gate records batch valid rest (g.H.Host.outside c.store.new.host) body c.in_ok-store.ensures.settled c.store.ensures.keeps.sent moments)
 
 pub returns-clause-moments : goal.returns-clause-moments
 returns-clause-moments g c capacity records rest =
     let batch = c.args.batch.now in
     let valid : IsBatch batch = record { least = c.requires.least; most = c.requires.most; sound = c.put_content-end.ensures.sound } in
     let body = rw c.put_content-end.ensures.bytes at c.in_ok-store.ensures.written in
-    let first = widened c.store.ensures.moments _ (first_step _ capacity c.args.gate records batch valid rest _) in
-    goes_on first c.store-2.ensures.moments (second_step _ capacity c.args.gate records batch valid rest (g.H.Host.outside c.store.new.host) body c.in_ok-store.ensures.settled c.store.ensures.keeps.sent)
+    let moments = rw c.put_content-end.ensures.bytes at c.store.ensures.moments in
+    let first = widened moments _ (first_step _ capacity c.args.gate records batch valid rest) in
+    goes_on first c.store-2.ensures.moments (second_step _ capacity c.args.gate records batch valid rest (g.H.Host.outside c.store.new.host) body c.in_ok-store.ensures.settled c.store.ensures.keeps.sent moments)
 
 pub returns-clause-grown : goal.returns-clause-grown
 returns-clause-grown g c =

@@ -15,11 +15,11 @@ returns-then-len-saturating_sub-clause-moments g c records rest =
 
 pub returns-in_err-self-inside-clause-moments : goal.returns-in_err-self-inside-clause-moments
 returns-in_err-self-inside-clause-moments g c records rest =
-    rw (← c.list.ensures.records) (c.add.ensures.moments c.args.self.now.capacity records (settled_at c.args.self.now _ (ap (λ (k : JournalState). k.gate) c.self.view_is) rest))
+    rw (← c.list.ensures.records, ← ap (λ (k : JournalState). k.gate) c.self.view_is) (c.add.ensures.moments c.args.self.now.capacity records (settled_at c.args.self.now _ (ap (λ (k : JournalState). k.gate) c.self.view_is) rest))
 
 pub returns-clause-moments : goal.returns-clause-moments
 returns-clause-moments g c records rest =
-    rw (← c.list.ensures.records) (c.add.ensures.moments c.args.self.now.capacity records (settled_at c.args.self.now _ (ap (λ (k : JournalState). k.gate) c.self.view_is) rest))
+    rw (← c.list.ensures.records, ← ap (λ (k : JournalState). k.gate) c.self.view_is) (c.add.ensures.moments c.args.self.now.capacity records (settled_at c.args.self.now _ (ap (λ (k : JournalState). k.gate) c.self.view_is) rest))
 
 pub returns-clause-stored : goal.returns-clause-stored
 returns-clause-stored g c =

@@ -12,8 +12,8 @@ returns-clause-of_disk g c = IfOk-weaker c.open.result _ _ (λ scan read disk kn
 
 pub returns-clause-settled : goal.returns-clause-settled
 returns-clause-settled g c =
-    let settled = still_settled c.open.ensures.keeps.moments c.open.ensures.keeps.disk c.in_ok-disk_sync.ensures.syncs.settled in
+    let settled = still_settled c.open.ensures.keeps.moments c.open.ensures.keeps.disk c.in_ok-settle.ensures.syncs.settled in
     IfOk-weaker c.open.result IsBegun _ (λ scan begun. settled) c.open.ensures.begun
 
 pub returns-clause-keeps : goal.returns-clause-keeps
-returns-clause-keeps g c = reads_on c.disk_sync.ensures.syncs.keeps c.open.ensures.keeps
+returns-clause-keeps g c = reads_on c.settle.ensures.syncs.keeps c.open.ensures.keeps

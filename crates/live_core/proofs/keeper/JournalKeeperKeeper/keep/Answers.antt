@@ -2,15 +2,16 @@ use Rattle.std.proofs.Common.{length, arith}
 use Rattle.host_core.proofs.Moments.{widened}
 use Rattle.journal_core.proofs.Places.{gate_reaches}
 use Rattle.journal_core.proofs.Extending.{extends_by, extends_failed, only_disk}
+use Rattle.live_core.proofs.Regaining.{kept_by, regained_on}
 use Rattle.live_core.proofs.keeper.JournalKeeperKeeper.keep.Goals as goal
 
 pub returns-in_err-append-clause-moments : goal.returns-in_err-append-clause-moments
 returns-in_err-append-clause-moments g c = λ records rest.
-    widened (c.append.ensures.moments records rest) _ (λ image bytes stop. record { either = stop.holds; sent = stop.sent })
+    widened (c.append.ensures.moments records rest) _ (kept_by c.args.self.now.journal records c.args.batch.now _)
 
 pub returns-clause-moments : goal.returns-clause-moments
 returns-clause-moments g c = λ records rest.
-    widened (c.append.ensures.moments records rest) _ (λ image bytes stop. record { either = stop.holds; sent = stop.sent })
+    widened (c.append.ensures.moments records rest) _ (kept_by c.args.self.now.journal records c.args.batch.now _)
 
 pub append-requires-clause-gate : goal.append-requires-clause-gate
 append-requires-clause-gate g c = gate_reaches c.requires.room.of_disk
@@ -24,3 +25,8 @@ returns-in_err-append-clause-touches g c =
 pub returns-clause-touches : goal.returns-clause-touches
 returns-clause-touches g c =
     extends_by _ _ c.args.self.now.journal c.args.batch.now c.append.ensures.keeps.continues.storing c.requires.room.of_disk c.in_ok-append.ensures.valid c.in_ok-append.ensures.written
+
+pub returns-clause-before : goal.returns-clause-before
+returns-clause-before g c =
+    regained_on _ _ c.args.self.now.journal c.append.new.self c.args.batch.now c.append.ensures.capacity c.in_ok-append.ensures.next (gate_reaches c.requires.room.of_disk)
+    c.in_ok-append.ensures.settled c.in_ok-append.ensures.written (g.met.H.Host.read_passes c.args.host.now)
