@@ -3,6 +3,7 @@
 
 mod draws;
 mod generator;
+mod law;
 mod plan;
 mod session;
 mod start;
@@ -10,4 +11,5 @@ mod start;
 mod tests;
 
 pub use generator::Generator;
+pub use law::a_day_by_places;
 pub use plan::DayPlan;

@@ -13,10 +13,12 @@ mod square;
 #[cfg(test)]
 mod tests;
 mod view;
+mod workers;
 mod yard;
 
 pub use gate::{Gate, OpenGate};
 pub use job::Job;
 pub use law::each_piece_once;
 pub use view::SeatView;
+pub use workers::work_all;
 pub use yard::{Claim, Yard, YardSeat};

@@ -1,16 +1,17 @@
-ghost use Rattle.std.specs.Prelude.{◌≡◌, ℕ, ◌<◌, ◌≤◌, All, IfOk, Some, slice_get, vec_len};
-ghost use Rattle.yard_core.specs.Seats.{IsIdle, IsSeatOf, IsFresh, IsDoneAt, IsAfterRound};
+ghost use Rattle.std.specs.Prelude.{◌≡◌, ℕ, ◌<◌, ◌≤◌, IfOk, Some, slice_get, vec_len};
+ghost use Rattle.yard_core.specs.Seats.{IsIdle, IsSeatOf, IsAfterRound};
 
 use crate::gate::{Gate, OpenGate};
 use crate::job::Job;
 use crate::square::{Square, square_of};
+use crate::workers::work_all;
 use crate::yard::{Claim, Yard, YardSeat};
 use std::alloc::Global;
 use std::process::Abort;
 use std::sync::atomic::AtomicBool;
 use std::sync::atomic::Ordering::SeqCst;
 use std::test::Fail;
-use std::thread::{self, Threads};
+use std::thread::Threads;
 
 /// Two pieces, each of which raises its own flag at the gate and looks for the other's.
 #[derive(Drop)]
@@ -32,42 +33,6 @@ impl Gate for Meeting {
     }
 }
 
-/// One seat claims, works and gives back until no piece is left.
-fn run_seat<J: Job, G: Gate>(yard: &Yard<J>, gate: &G, seat: &mut YardSeat<J>)
-    requires { IsFresh J.origin_of yard.now seat.old }
-    ensures { IsDoneAt J.origin_of yard.now seat.new }
-{
-    while let Claim::Piece(piece) = yard.claim(seat) {
-        let mut job = yard.take(seat, piece);
-        gate.enter(piece);
-        job.work();
-        yard.give(seat, piece, job);
-    }
-}
-
-/// All seats run, in so many threads.
-fn run_seats<J: Job, G: Gate, R: Threads + Sync>(
-    rt: &R,
-    yard: &Yard<J>,
-    gate: &G,
-    threads: usize,
-    seats: &mut [YardSeat<J>],
-)
-    requires threads { 0 < threads }
-    requires fresh { All (IsFresh J.origin_of yard.now) seats.old }
-    ensures { All (IsDoneAt J.origin_of yard.now) seats.new }
-{
-    thread::for_each_mut(
-        rt,
-        seats,
-        threads,
-        &|_: usize, seat: &mut YardSeat<J>|
-            requires { IsFresh J.origin_of yard.now seat.now }
-            ensures { IsDoneAt J.origin_of yard.entry.now seat.exit.now }
-        { run_seat(yard, gate, seat) },
-    );
-}
-
 /// The jobs to square the first numbers from 0 on.
 fn first_squares(alloc: Global, count: u32) -> Result<Vec<Square>, Fail>
     requires { count ≤ 64 }
@@ -81,20 +46,18 @@ fn first_squares(alloc: Global, count: u32) -> Result<Vec<Square>, Fail>
     Ok(jobs)
 }
 
-/// Squares the first numbers by so many seats, one after the other.
+/// Squares the first numbers by so many workers.
 fn square_all<R: Threads + Sync>(
     rt: &R,
     alloc: Global,
     count: u32,
-    seats: u32,
+    workers: u32,
 ) -> Result<Vec<Square>, Fail>
     requires count { (0 < count) × (count ≤ 64) }
-    requires seats { (0 < seats) × (seats ≤ 64) }
+    requires workers { (0 < workers) × (workers ≤ 64) }
 {
     let jobs = first_squares(alloc, count)?;
-    let (yard, mut row) = Yard::new(alloc, jobs, seats)?;
-    run_seats(rt, &yard, &OpenGate, 1, row.as_mut_slice());
-    Ok(yard.close(row))
+    Ok(work_all(rt, alloc, jobs, workers, &OpenGate)?)
 }
 
 /// Each of the first squares, in order.
@@ -110,12 +73,12 @@ fn expect_squares<R: Abort>(rt: &R, done: &[Square], count: u32) {
 
 #[test]
 fn every_job_comes_back_worked_and_in_order(rt: HostRuntime) -> Result<(), Fail> {
-    for seats in [1, 2, 64] {
-        let one = square_all(&rt, rt.alloc(), 1, seats)?;
+    for workers in [1, 2, 64] {
+        let one = square_all(&rt, rt.alloc(), 1, workers)?;
         expect_squares(&rt, &one, 1);
-        let two = square_all(&rt, rt.alloc(), 2, seats)?;
+        let two = square_all(&rt, rt.alloc(), 2, workers)?;
         expect_squares(&rt, &two, 2);
-        let many = square_all(&rt, rt.alloc(), 64, seats)?;
+        let many = square_all(&rt, rt.alloc(), 64, workers)?;
         expect_squares(&rt, &many, 64);
     }
     Ok(())
@@ -173,11 +136,9 @@ fn two_pieces_meet(rt: HostRuntime) -> Result<(), Fail> {
         met: [AtomicBool::new(false), AtomicBool::new(false)],
     };
     let jobs = vec![in rt.alloc(); square_of(0, 3), square_of(1, 4)]?;
-    let Ok((yard, mut seats)) = Yard::new(rt.alloc(), jobs, 2) else {
+    let Ok(done) = work_all(&rt, rt.alloc(), jobs, 2, &gate) else {
         panic!(rt; "there is no memory")
     };
-    run_seats(&rt, &yard, &gate, 2, seats.as_mut_slice());
-    let done = yard.close(seats);
     assert!(rt; gate.met[0].load(SeqCst) && gate.met[1].load(SeqCst));
     assert!(rt; done.len() == 2 && done[0].answer == 9 && done[1].answer == 16);
     Ok(())

@@ -1,6 +1,6 @@
 use Rattle.std.proofs.Common.{◌≤◌, ◌-◌, length}
 use Rattle.yard_core.specs.Seats.{IsSeatOf, IsIdle, given_count, jobs_of}
-use Rattle.yard_core.proofs.tests.run_seat.Given as goal
+use Rattle.yard_core.proofs.workers.run_seat.Given as goal
 
 abbrev pub invariant-loop-piece : goal.invariant-loop-piece
 invariant-loop-piece g l = IsSeatOf g.J.Job.origin_of l.yard l.seat × IsIdle l.seat × (given_count l.seat ≤ length (jobs_of l.yard))
