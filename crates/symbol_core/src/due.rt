@@ -224,7 +224,7 @@ impl Kept {
         let adoption = self.adoption(last);
         if !adoption.has_stood(t) {
             self.adopted.nanos() + THIRTY_SECONDS
-        } else if adoption.moved_price(t, deals.mean()).is_some() {
+        } else if deals.mean_has_moved(last.reference) {
             0
         } else {
             deals.live_until()
