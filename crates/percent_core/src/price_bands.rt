@@ -3,7 +3,7 @@ ghost use Rattle.price_core.specs.Rounding.{round_cent};
 ghost use Rattle.percent_core.specs.Percentages.{least_percent};
 ghost use Rattle.percent_core.specs.PriceBands.{bands, distance_of};
 
-use price_core::{Bands, Category, Leverage, Price, round_cent};
+use price_core::{Bands, Category, Leverage, Price};
 
 /// The price bands of a reference price at a percentage and a leverage ratio, in whole cents (LULD Plan, Section V).
 pub fn bands(reference: Price, category: Category, percent: u32, leverage: Leverage) -> Bands
@@ -61,5 +61,5 @@ fn cents(thousandths: u64) -> u64
     requires { thousandths ≤ 99999999999 * 8500 }
     ensures { result ≡ round_cent thousandths 1000 }
 {
-    round_cent(u128::from(thousandths), 1_000) as u64
+    100 * ((2 * thousandths + 100_000) / 200_000)
 }

@@ -16,3 +16,4 @@ pub mod Evaluated
 pub mod Twins
 pub mod Waiting
 pub mod Unmoved
+pub mod Quiet

@@ -43,7 +43,7 @@ use Rattle.symbol_core.specs.declared.symbol.MarketView.{MarketView}
 use Rattle.symbol_core.specs.Evaluates.{Evaluates, Opens, open_history, part_of}
 use Rattle.symbol_core.specs.Kept.{becoming, brakes, pausing_as, reopened, reopening, reopening_after, reopening_with}
 use Rattle.symbol_core.specs.Pricing.{band, band_by_time, reference, time_changes}
-use Rattle.symbol_core.specs.Idle.{IsDue, IsIdle, IsRested, IsSettled, Lasts, changes_bands, reopens_at, starts_at}
+use Rattle.symbol_core.specs.Idle.{IsDue, IsIdle, IsQuiet, IsRested, IsSettled, Waits, changes_bands, reopens_at, starts_at}
 use Rattle.symbol_core.specs.Rests.{Held}
 use Rattle.symbol_core.specs.Silent.{IsOfOthers}
 use Rattle.symbol_core.specs.Stands.{named, Stands}
@@ -193,30 +193,30 @@ window_rested : (k : Kept) (deals : List Deal) → IsRested k → window k deals
 window_rested k deals r =
     (λ i. (if r.is_fresh i then [] else deals) ++ (if is_some k.begun then option_to_list (r.deal i) else [])) ∙ ap (λ (ds : List Deal). deals ++ ds) (quote_stays (is_some k.begun) []) ∙ append-nil deals
 
-idle_rules : (k : Kept) (deals : List Deal) (due : Due) (step : Step) → IsIdle k deals due → is_tick step.input ≡ true → due.from ≤ step.moment → step.moment < due.until → step.day ≡ due.market.day → step.stopped ≡ due.market.stopped
+quiet_rules : (k : Kept) (deals : List Deal) (step : Step) → IsQuiet k deals step
     → (mine : List ℕ → Bool) (h : List Event) → Stands mine k deals step h → NoneSaid step.day (named mine k.id) step.input h symbol_rules
-idle_rules k deals due step idle tick from until day stopped mine h s = (
-  said rules.session_close (turned-gives turns.session_close k step mine deals h s ∙ ap (λ (b : Bool). option_map_or (becoming k) (if b then Some Phase.Closed else None) []) (ap (λ (d : Day). is_closed t d) day ∙ lasts.closes t until)),
+quiet_rules k deals step quiet mine h s = (
+  said rules.session_close (turned-gives turns.session_close k step mine deals h s ∙ ap (λ (b : Bool). option_map_or (becoming k) (if b then Some Phase.Closed else None) []) quiet.closes),
   (
     said rules.market_halt (turned-gives turns.market_halt k step mine deals h s
-        ∙ ap (λ (b : Bool). option_map_or (becoming k) (if b then Some Phase.Stopped else None) []) (ap (λ (b : Bool). b && can_market_halt k.phase) stopped ∙ settled.runs)),
+        ∙ ap (λ (b : Bool). option_map_or (becoming k) (if b then Some Phase.Stopped else None) []) settled.runs),
     (
       said rules.start (turned-gives turns.start k step mine deals h s
-          ∙ ap (λ (b : Bool). option_map_or (becoming k) (if b then Some Phase.Trading else None) []) ((λ i. starts_at k (day i) (stopped i) t) ∙ lasts.starts t until)),
+          ∙ ap (λ (b : Bool). option_map_or (becoming k) (if b then Some Phase.Trading else None) []) quiet.starts),
       (
         said rules.regulatory_halt (turned-gives turns.regulatory_halt k step mine deals h s
             ∙ ap (λ (o : Option Phase). option_map_or (becoming k) o []) (halted_none (Some Phase.Halted) (Some (phase_after_regulatory_halt (brakes k step))) k.halted (is_in_regulatory_halt k.phase) settled.halted)),
         (
           said rules.pause (pause-gives k step mine deals h s
-              ∙ (λ i. option_map_or (pausing_as k) (if lasts.pauses t until i || (of_none.asks i && is_trading k.phase && k.straddling) then (if in_last_10_minutes t step.day then Some Phase.Closing else Some Phase.Paused) else None) [])),
+              ∙ (λ i. option_map_or (pausing_as k) (if quiet.pauses i || (quiet.asks i && is_trading k.phase && k.straddling) then (if in_last_10_minutes t step.day then Some Phase.Closing else Some Phase.Paused) else None) [])),
           (
-            said rules.reopen (reopen-gives k step mine deals h s ∙ reopens_none k step (lasts.reopens t until)),
+            said rules.reopen (reopen-gives k step mine deals h s ∙ reopens_none k step quiet.reopens),
             (
               said rules.leave_limit (by_kept leaving mine k step deals h s ∙ ap (λ (b : Bool). if b then becoming k Phase.Trading else []) settled.stays),
               (
                 said rules.publish_band (banding-gives mean k step mine deals h s (mean-gives k step mine deals h s)
-                    ∙ ap (λ (o : Option Priced). elim o [ Some r ↦ band k step r.cause r.price | None ↦ option_map_or (band_by_time k step) k.band [] ]) none
-                    ∙ bands_none k step (lasts.bands step day from until)),
+                    ∙ ap (λ (o : Option Priced). elim o [ Some r ↦ band k step r.cause r.price | None ↦ option_map_or (band_by_time k step) k.band [] ]) quiet.prices
+                    ∙ bands_none k step quiet.bands),
                 (
                   said rules.enter_limit (by_kept entering mine k step deals h s
                       ∙ enters_none (is_trading k.phase) (at_band Phase.LimitLow k.quote k.band) (at_band Phase.LimitHigh k.quote k.band) (becoming k Phase.LimitLow) (becoming k Phase.LimitHigh) settled.low settled.high),
@@ -225,7 +225,7 @@ idle_rules k deals due step idle tick from until day stopped mine h s = (
                         ∙ (λ i. if settled.straddles i && not k.straddling then out.Straddle k.id true ∷ [] else if k.straddling && not (settled.straddles i) then out.Straddle k.id false ∷ [] else [])
                         ∙ same_straddle k k.straddling),
                     (
-                      said rules.restrict (restrict-gives k step mine deals h s ∙ ap (λ (b : Bool). if b && not k.triggered then out.Short k.id Triggered ∷ [] else []) (of_none.triggers step.day k.terms)),
+                      said rules.restrict (restrict-gives k step mine deals h s ∙ ap (λ (b : Bool). if b then out.Short k.id Triggered ∷ [] else []) quiet.restricts),
                       tt,
                     ),
                   ),
@@ -244,27 +244,46 @@ idle_rules k deals due step idle tick from until day stopped mine h s = (
   mean : Option ℕ
   mean = mean_of (live t (window k deals))
 
-  lasts : Lasts k deals due.market.day due.market.stopped due.from due.until
-  lasts = idle.lasts
-
-  settled : IsSettled k due.market.stopped
-  settled = idle.settled
-
-  none : reference k step mean ≡ None
-  none = ap (λ (ds : List Deal). reference k step (mean_of (live t ds))) (window_rested k deals idle.rested) ∙ lasts.prices step tick from until
-
-  of_none : OfNone k.id step.input
-  of_none = tick_of_none k.id step.input tick
+  settled : IsSettled k step.stopped
+  settled = quiet.settled
 
   said : (rule : Context → List Message) → rule (context step.day (named mine k.id) step.input h) ≡ [] → obeyed step.day (named mine k.id) step.input rule h ≡ []
   said rule e = ap (λ (ms : List Message). cond (is_done (phase h k.id)) [] ms) e ∙ quote_stays (is_done (phase h k.id)) []
+
+pub quiet-nothing : (k : Kept) (deals : List Deal) (step : Step) → IsQuiet k deals step → (mine : List ℕ → Bool) (h : List Event) → Stands mine k deals step h → all_obeyed step.day (named mine k.id) step.input symbol_rules h ≡ []
+quiet-nothing k deals step quiet mine h s = none_said step.day (named mine k.id) step.input h symbol_rules (quiet_rules k deals step quiet mine h s)
+
+-- an idle symbol is quiet at a tick
+idle_quiet : (k : Kept) (deals : List Deal) (due : Due) (step : Step) → IsIdle k deals due → is_tick step.input ≡ true → due.from ≤ step.moment → step.moment < due.until → step.day ≡ due.market.day → step.stopped ≡ due.market.stopped
+    → IsQuiet k deals step
+idle_quiet k deals due step idle tick from until day stopped =
+    record {
+      settled = subst (λ (b : Bool). IsSettled k b) (sym stopped) idle.settled;
+      closes = ap (λ (d : Day). is_closed step.moment d) day ∙ waits.closes step.moment early;
+      starts = (λ i. starts_at k (day i) (stopped i) step.moment) ∙ waits.starts step.moment early;
+      pauses = waits.pauses step.moment early;
+      asks = of_none.asks;
+      reopens = waits.reopens step.moment early;
+      prices = ap (λ (ds : List Deal). reference k step (mean_of (live step.moment ds))) (window_rested k deals idle.rested) ∙ idle.prices step tick from until;
+      bands = waits.bands step day from early;
+      restricts = ap (λ (b : Bool). b && not k.triggered) (of_none.triggers step.day k.terms);
+    }
+  where
+    waits : Waits k due.market.day due.market.stopped due.from due.waits
+    waits = idle.waits
+
+    early : step.moment < due.waits
+    early = let within = idle.within in omega arith
+
+    of_none : OfNone k.id step.input
+    of_none = tick_of_none k.id step.input tick
 
 evaluated-idle : (market : MarketView) (x : Record) (held : Held) (due : Due) (before : List Message) → IsIdle held.kept held.deals due → is_tick x ≡ true → due.from ≤ moment_of x → moment_of x < due.until → market ≡ due.market
     → Evaluates market x held held before before
 evaluated-idle market x held due before idle tick from until same =
     evaluated-none market x held before tick
     (λ mine others h p.
-    idle_rules k held.deals due step idle tick from until (ap (λ (m : MarketView). m.day) same) (ap (λ (m : MarketView). m.stopped) same) mine (open_history x others h)
+    quiet_rules k held.deals step (idle_quiet k held.deals due step idle tick from until (ap (λ (m : MarketView). m.day) same) (ap (λ (m : MarketView). m.stopped) same)) mine (open_history x others h)
     (subst (λ (ds : List Deal). Stands mine k ds step (open_history x others h)) (leaves-all k.id x held.deals of_none.cancels)
     (subst (λ (l : Kept). Stands mine l (filter (leaves k.id x) held.deals) step (open_history x others h)) (of_none.takes k step refl refl idle.rested)
     (stands-opened mine step k held.deals others h (starts mine held market x others h p)))))
@@ -308,18 +327,19 @@ pub due-live : (k : Kept) (deals : List Deal) (due : Due) (t : ℕ) → due.from
 due-live k deals due t from is = λ inside. by (is inside) where
   by : IsIdle k deals due → IsIdle k (live t deals) (record due { from = t })
   by idle =
-      let lasts = idle.lasts in
+      let waits = idle.waits in
       record {
         rested = idle.rested;
         settled = idle.settled;
-        lasts = record {
-          closes = lasts.closes;
-          starts = lasts.starts;
-          pauses = lasts.pauses;
-          reopens = lasts.reopens;
-          bands = λ step day le lt. lasts.bands step day (omega arith) lt;
-          prices = λ step tick le lt. ap (λ (ds : List Deal). reference k step (mean_of ds)) (live-live t step.moment le deals) ∙ lasts.prices step tick (omega arith) lt;
+        waits = record {
+          closes = waits.closes;
+          starts = waits.starts;
+          pauses = waits.pauses;
+          reopens = waits.reopens;
+          bands = λ step day le lt. waits.bands step day (omega arith) lt;
         };
+        within = idle.within;
+        prices = λ step tick le lt. ap (λ (ds : List Deal). reference k step (mean_of ds)) (live-live t step.moment le deals) ∙ idle.prices step tick (omega arith) lt;
       }
 
 -- of a symbol that is due, if ever

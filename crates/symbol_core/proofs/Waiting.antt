@@ -14,6 +14,7 @@ use Rattle.limit_core.specs.Timers.{has_lasted}
 use Rattle.pause_core.specs.Phases.{can_start, is_limit, is_trading}
 use Rattle.percent_core.specs.Percentages as percentages
 use Rattle.percent_core.specs.PriceBands.{bands}
+use Rattle.refprice_core.specs.declared.reference.Adoption.{Adoption}
 use Rattle.refprice_core.specs.declared.reference.Priced.{Priced}
 use Rattle.refprice_core.specs.Prices.{because, forced, has_stood, is_in_opening_period, moved_price}
 use Rattle.reopen_core.specs.declared.auction.Round.{Round}
@@ -184,6 +185,20 @@ pub prices-stand : (k : Kept) (b : Banded) (deals : List Deal) (from : ℕ) → 
 prices-stand k b deals from r is = λ step tick le before.
     let early : has_stood (adoption k b) step.moment ≡ false = grind (arith, nat_tests) in
     by_bands k b step (mean_of (live step.moment deals)) r tick is (ap (λ (awaits : Bool). moved b.reference awaits (mean_of (live step.moment deals))) early ∙ not_awaited b.reference (mean_of (live step.moment deals)))
+
+-- a mean that hasn't moved is no new reference price, nor is one before 30 seconds have passed
+pub none_moves : (a : Adoption) (t : ℕ) (mean : Option ℕ) → option_map_or (λ m. moved_one_percent m a.price) mean false ≡ false → moved_price a t mean ≡ None
+none_moves a t None e = refl
+none_moves a t (Some m) e = ap (λ (b : Bool). if b && has_stood a t then Some m else None) e
+
+pub none_stands : (a : Adoption) (t : ℕ) (mean : Option ℕ) → has_stood a t ≡ false → moved_price a t mean ≡ None
+none_stands a t None e = refl
+none_stands a t (Some m) e = (λ i. if moved_one_percent m a.price && e i then Some m else None) ∙ ap (λ (b : Bool). if b then Some m else None) (nothing_and (moved_one_percent m a.price))
+
+-- and else it is
+pub mean_moves : (a : Adoption) (t : ℕ) (mean : Option ℕ) → has_stood a t ≡ true → option_map_or (λ m. moved_one_percent m a.price) mean false ≡ true → moved_price a t mean ≡ mean
+mean_moves a t None e f = refl
+mean_moves a t (Some m) e f = λ i. if f i && e i then Some m else None
 
 -- and then while the deals are live, where their mean hasn't moved
 pub prices-moved : (k : Kept) (b : Banded) (deals : List Deal) (from until : ℕ) → IsRested k → k.band ≡ Some b → has_stood (adoption k b) from ≡ true → moved_price (adoption k b) from (mean_of deals) ≡ None

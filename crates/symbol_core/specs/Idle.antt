@@ -5,6 +5,8 @@ use Rattle.session_core.specs.declared.day.Day.{Day}
 use Rattle.session_core.specs.declared.state.Phase.TheVariants.{LimitLow, LimitHigh}
 use Rattle.session_core.specs.Durations.{five_minutes}
 use Rattle.session_core.specs.Times.{in_session, is_closed}
+use Rattle.wire_in.specs.declared.record.Record.{Record}
+use Rattle.wire_in.specs.declared.record.Record.TheVariants as in_
 use Rattle.wire_in.specs.Records.{is_tick}
 use Rattle.limit_core.specs.Timers.{has_lasted}
 use Rattle.pause_core.specs.Phases.{can_market_halt, can_start, is_done, is_in_regulatory_halt, is_limit, is_trading}
@@ -13,12 +15,13 @@ use Rattle.window_core.specs.declared.window.Deal.{Deal}
 use Rattle.window_core.specs.Deals.{live, mean_of}
 use Rattle.rulebook.specs.declared.symbol.Banded.{Banded}
 use Rattle.rulebook.specs.Auction.{is_paused}
-use Rattle.rulebook.specs.Rules.{at_band}
+use Rattle.rulebook.specs.Rules.{asks_to_pause, at_band}
 use Rattle.symbol_core.specs.declared.due.Due.{Due}
 use Rattle.symbol_core.specs.declared.kept.Kept.{Kept}
 use Rattle.symbol_core.specs.declared.kept.Step.{Step}
-use Rattle.symbol_core.specs.Kept.{is_straddling_now}
+use Rattle.symbol_core.specs.Kept.{is_straddling_now, triggering}
 use Rattle.symbol_core.specs.Pricing.{adoption, reference, time_changes}
+use Rattle.symbol_core.specs.Window.{window}
 
 -- the last step left nothing for the rules of its own record
 pub record IsRested (k : Kept) : Type 0 where
@@ -74,20 +77,47 @@ ChangesBandsFrom k day from until = (step : Step) → step.day ≡ day → from 
 abbrev pub PricesFrom : Kept → List Deal → ℕ → ℕ → Type 0
 PricesFrom k deals from until = (step : Step) → is_tick step.input ≡ true → from ≤ step.moment → step.moment < until → reference k step (mean_of (live step.moment deals)) ≡ None
 
--- from a moment of a day on and before another, time brings nothing
-pub record Lasts (k : Kept) (deals : List Deal) (day : Day) (stopped : Bool) (from until : ℕ) : Type 0 where
+-- from a moment of a day on and before another, time brings nothing but perhaps a new reference price
+pub record Waits (k : Kept) (day : Day) (stopped : Bool) (from until : ℕ) : Type 0 where
   pub closes : ClosesFrom day until
   pub starts : StartsFrom k day stopped until
   pub pauses : PausesFrom k until
   pub reopens : ReopensFrom k until
   pub bands : ChangesBandsFrom k day from until
-  pub prices : PricesFrom k deals from until
+
+-- no rule says anything at the open step
+pub record IsQuiet (k : Kept) (deals : List Deal) (step : Step) : Type 0 where
+  pub settled : IsSettled k step.stopped
+  pub closes : is_closed step.moment step.day ≡ false
+  pub starts : starts_at k step.day step.stopped step.moment ≡ false
+  pub pauses : pauses_at k step.moment ≡ false
+  pub asks : asks_to_pause k.id step.input ≡ false
+  pub reopens : reopens_at k step.moment ≡ false
+  pub prices : reference k step (mean_of (live step.moment (window k deals))) ≡ None
+  pub bands : changes_bands k step ≡ false
+  pub restricts : (triggering k step && not k.triggered) ≡ false
+
+-- a quotation, a trade, a clock or an index tick
+abbrev pub comes_often : Record → Bool
+comes_often (in_.Quote t symbol bid offer x y) = true
+comes_often (in_.Trade t symbol number price size flags) = true
+comes_often (in_.IndexTick t value) = true
+comes_often (in_.Clock t) = true
+comes_often x = false
+
+-- nor does it at the open step of such a record
+pub record WaitsAt (k : Kept) (step : Step) (until : ℕ) : Type 0 where
+  pub often : comes_often step.input ≡ true
+  pub later : step.moment < until
+  pub waits : Waits k step.day step.stopped step.moment until
 
 -- ticks of that market from that moment on and before the other find nothing to say
 pub record IsIdle (k : Kept) (deals : List Deal) (due : Due) : Type 0 where
   pub rested : IsRested k
   pub settled : IsSettled k due.market.stopped
-  pub lasts : Lasts k deals due.market.day due.market.stopped due.from due.until
+  pub waits : Waits k due.market.day due.market.stopped due.from due.waits
+  pub within : due.until ≤ due.waits
+  pub prices : PricesFrom k deals due.from due.until
 
 -- its day is over, or it isn't listed today
 abbrev pub is_out : Kept → Bool

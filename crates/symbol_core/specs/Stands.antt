@@ -5,7 +5,7 @@ use Rattle.window_core.specs.declared.window.Deal.{Deal}
 use Rattle.rulebook.specs.declared.event.Event.{Event}
 use Rattle.rulebook.specs.declared.event.Event.TheVariants.{Accepted}
 use Rattle.rulebook.specs.Auction as auction
-use Rattle.rulebook.specs.Book.{Named, context, obeyed, all_obeyed}
+use Rattle.rulebook.specs.Book.{Named, context, obeyed, all_obeyed, symbol_rules}
 use Rattle.rulebook.specs.History.{now, newest, today, publish}
 use Rattle.rulebook.specs.Market.{is_market_halted}
 use Rattle.rulebook.specs.Rules as rules
@@ -14,6 +14,7 @@ use Rattle.rulebook.specs.Symbol as of
 use Rattle.rulebook.specs.Symbol.{deals_in, deals_of}
 use Rattle.symbol_core.specs.declared.kept.Kept.{Kept}
 use Rattle.symbol_core.specs.declared.kept.Step.{Step}
+use Rattle.symbol_core.specs.Kept.{announcing}
 use Rattle.symbol_core.specs.Window.{SameLive, window}
 
 -- the symbol of an id whose names are those of a test
@@ -73,3 +74,10 @@ pub record ObeysAll (deals : List Deal) (rules : List (Context → List Message)
   pub stands : (own : List ℕ → Bool) (h : List Event) → Stands own old deals step h
       → Stands own new deals step (publish (all_obeyed step.day (named own old.id) step.input rules h) h)
   pub id : new.id ≡ old.id
+
+-- what the record announces is said, and then what the rules give
+pub record Speaks (deals : List Deal) (step : Step) (old new : Kept) (before after : List Message) : Type 0 where
+  pub said : Kept
+  pub between : List Message
+  pub announces : Says (announcing old step.input) step old said before between
+  pub obeys : ObeysAll deals symbol_rules step said new between after

@@ -1,6 +1,7 @@
 // Reference prices and price bands (LULD Plan, Section V).
-ghost use Rattle.std.specs.Prelude.{◌≡◌, ◌+◌, ◌≤◌, [], List, unwrap_or, vec_len, vec_capacity};
+ghost use Rattle.std.specs.Prelude.{◌≡◌, ◌+◌, ◌≤◌, [], false, List, unwrap_or, vec_len, vec_capacity};
 ghost use Rattle.std.specs.Option.{option_map_or};
+ghost use Rattle.price_core.specs.Moves.{moved_one_percent};
 ghost use Rattle.window_core.specs.Deals.{live, mean_of};
 ghost use Rattle.refprice_core.specs.Prices as prices;
 ghost use Rattle.rulebook.specs.Rules as rules;
@@ -14,7 +15,7 @@ use crate::records::{opening_price, opens_on_quotes};
 use crate::says::midnight;
 use pause_core::{is_done, is_trading};
 use percent_core::{bands, category, percent, span};
-use price_core::{Bands, Cause, Price};
+use price_core::{Bands, Cause, Price, moved_one_percent};
 use refprice_core::{Adoption, Priced, because, forced, is_in_opening_period};
 use rulebook::{Banded, Terms};
 use session_core::{Day, Moment};
@@ -111,12 +112,33 @@ impl Kept {
         }
     }
 
+    /// Whether the mean of the window, with the open step's own deal, is at least one per cent away from a reference price.
+    fn mean_has_moved(&self, t: Moment, deals: &SummedDeals, reference: Price) -> bool
+        ensures { result ≡ option_map_or (λ m. moved_one_percent m reference) (mean_of (live t (window self.now deals.now.deals))) false }
+    {
+        let last = if self.begun.is_some() {
+            self.deal
+        } else {
+            None
+        };
+        if self.is_fresh {
+            match self.mean(t, deals) {
+                Some(mean) => moved_one_percent(mean, reference),
+                None => false,
+            }
+        } else {
+            deals.mean_has_moved_with(t, &last, reference)
+        }
+    }
+
     fn moved_price(&self, step: &Step, deals: &SummedDeals, b: &Banded) -> Option<Price>
         ensures { result ≡ prices.moved_price (pricing.adoption self.now b.now) step.now.moment (mean_of (live step.now.moment (window self.now deals.now.deals))) }
     {
         let adoption = self.adoption(b);
-        if adoption.has_stood(step.moment) {
-            adoption.moved_price(step.moment, self.mean(step.moment, deals))
+        if !adoption.has_stood(step.moment) {
+            None
+        } else if self.mean_has_moved(step.moment, deals, b.reference) {
+            self.mean(step.moment, deals)
         } else {
             None
         }

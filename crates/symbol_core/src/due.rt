@@ -1,5 +1,5 @@
 // When a symbol is next due: before that, clocks and index ticks bring nothing of it.
-ghost use Rattle.std.specs.Prelude.{◌≡◌, ◌<◌, ◌≤◌, ◌&&◌, ◌||◌, ℕ, true, false, Some, List, is_some, not};
+ghost use Rattle.std.specs.Prelude.{◌≡◌, ◌<◌, ◌≤◌, ◌&&◌, ◌||◌, ℕ, true, false, None, Some, IfSome, List, is_some, not};
 ghost use Rattle.std.specs.Option.{option_map_or};
 ghost use Rattle.session_core.specs.declared.day.Day.{Day};
 ghost use Rattle.session_core.specs.Times.{is_closed};
@@ -7,10 +7,14 @@ ghost use Rattle.pause_core.specs.Phases.{can_start, is_trading};
 ghost use Rattle.percent_core.specs.Percentages.{span};
 ghost use Rattle.window_core.specs.declared.window.Deal.{Deal};
 ghost use Rattle.rulebook.specs.Rules.{at_band};
-ghost use Rattle.symbol_core.specs.Idle.{ChangesBandsFrom, IsDue, IsRested, IsSettled, Lasts, PausesFrom, PricesFrom, ReopensFrom, StartsFrom, is_out, leaves_limit};
-ghost use Rattle.symbol_core.specs.Pricing.{time_changes};
+ghost use Rattle.symbol_core.specs.Idle.{ChangesBandsFrom, IsDue, IsRested, IsSettled, PausesFrom, PricesFrom, ReopensFrom, StartsFrom, Waits, WaitsAt, is_out, leaves_limit};
+ghost use Rattle.window_core.specs.Deals.{live, mean_of};
+ghost use Rattle.symbol_core.specs.Kept.{triggering};
+ghost use Rattle.symbol_core.specs.Pricing.{reference, time_changes};
+ghost use Rattle.symbol_core.specs.Window.{window};
 
 use crate::kept::{Kept, Step};
+use crate::records::comes_often;
 use crate::says::is_paused;
 use crate::symbol::MarketView;
 use crate::turns::at_band;
@@ -31,6 +35,8 @@ pub struct Due {
     pub from: Moment,
     /// In nanoseconds of the day.
     pub until: u64,
+    /// Until when time brings nothing but perhaps a new reference price, in nanoseconds of the day.
+    pub waits: u64,
     pub market: MarketView,
 }
 
@@ -42,12 +48,13 @@ fn is_same(a: &MarketView, b: &MarketView) -> bool
 
 impl Due {
     /// From a step on, over its market.
-    fn of(step: &Step, until: u64) -> Due
-        ensures { result ≡ record { from = step.now.moment; until = until; market = record { day = step.now.day; stopped = step.now.stopped } } }
+    fn of(step: &Step, waits: u64, until: u64) -> Due
+        ensures { result ≡ record { from = step.now.moment; until = until; waits = waits; market = record { day = step.now.day; stopped = step.now.stopped } } }
     {
         Due {
             from: step.moment,
             until,
+            waits,
             market: MarketView {
                 day: step.day,
                 stopped: step.stopped,
@@ -60,6 +67,7 @@ impl Due {
         Due {
             from: t,
             until: u64::MAX,
+            waits: u64::MAX,
             market: *market,
         }
     }
@@ -71,7 +79,25 @@ impl Due {
         Due {
             from: t,
             until: self.until,
+            waits: self.waits,
             market: self.market,
+        }
+    }
+
+    /// Until when time brings nothing but perhaps a new reference price, where that is known at a step of a record that
+    /// comes often, in nanoseconds of the day.
+    fn waits_at(&self, step: &Step) -> Option<u64>
+        ensures { IfSome result (λ until. (k : Kept) (deals : List Deal) → IsDue (Some self.now) k deals → is_out k ≡ false → WaitsAt k step.now until) }
+    {
+        let market = MarketView {
+            day: step.day,
+            stopped: step.stopped,
+        };
+        let waits = self.from.nanos() <= step.moment.nanos() && step.moment.nanos() < self.waits;
+        if comes_often(&step.input) && waits && is_same(&market, &self.market) {
+            Some(self.waits)
+        } else {
+            None
         }
     }
 
@@ -224,7 +250,7 @@ impl Kept {
         let adoption = self.adoption(last);
         if !adoption.has_stood(t) {
             self.adopted.nanos() + THIRTY_SECONDS
-        } else if adoption.moved_price(t, deals.mean()).is_some() {
+        } else if deals.mean_has_moved(last.reference) {
             0
         } else {
             deals.live_until()
@@ -248,17 +274,19 @@ impl Kept {
 }
 
 impl Kept {
-    fn lasts_until(&self, step: &Step, deals: &SummedDeals) -> u64
-        ensures { IsRested self.now → Lasts self.now deals.now.deals step.now.day step.now.stopped step.now.moment result }
+    /// Until when time brings nothing but perhaps a new reference price, in nanoseconds of the day.
+    fn waits(&self, step: &Step) -> u64
+        ensures { Waits self.now step.now.day step.now.stopped step.now.moment result }
     {
         let close = close_of(&step.day);
         let starts = self.starts_from(step.stopped);
         let pauses = self.pauses_from();
         let reopens = self.reopens_from();
         let bands = self.changes_bands_from(step);
-        let prices = self.prices_from(step.moment, deals);
-        let phase = earlier(close, earlier(starts, earlier(pauses, reopens)));
-        earlier(phase, earlier(bands, prices))
+        earlier(
+            earlier(close, bands),
+            earlier(starts, earlier(pauses, reopens)),
+        )
     }
 
     fn is_out(&self) -> bool
@@ -267,14 +295,45 @@ impl Kept {
         is_done(self.phase) || !self.terms.is_some()
     }
 
+    /// The same by when the stock was due before the step; None where that doesn't tell it.
+    pub fn waits_by(&self, step: &Step, due: &Option<Due>) -> Option<u64>
+        ensures { IfSome result (λ until. (deals : List Deal) → IsDue due.now self.now deals → WaitsAt self.now step.now until) }
+    {
+        match due {
+            Some(due) if !self.is_out() => due.waits_at(step),
+            _ => None,
+        }
+    }
+
+    /// Whether no rule says anything at the step of a record that comes often, where time brings nothing but perhaps a new
+    /// reference price.
+    pub fn is_quiet(&self, step: &Step, deals: &SummedDeals) -> bool
+        ensures settled { result ≡ true → IsSettled self.now step.now.stopped }
+        ensures prices { result ≡ true → reference self.now step.now (mean_of (live step.now.moment (window self.now deals.now.deals))) ≡ None }
+        ensures restricts { result ≡ true → (triggering self.now step.now && not self.now.triggered) ≡ false }
+    {
+        self.is_settled(step.stopped)
+            && self.reference(step, deals).is_none()
+            && !(self.triggering(step) && !self.triggered)
+    }
+
+    /// When the symbol is next due after a step, where only time can bring something, and before a moment only a new
+    /// reference price.
+    pub fn due_within(&self, step: &Step, deals: &SummedDeals, waits: u64) -> Due
+        ensures { IsRested self.now → IsSettled self.now step.now.stopped → Waits self.now step.now.day step.now.stopped step.now.moment waits → IsDue (Some result) self.now deals.now.deals }
+    {
+        let prices = self.prices_from(step.moment, deals);
+        Due::of(step, waits, earlier(waits, prices))
+    }
+
     /// When the symbol is next due after a step. None where a rule says something at the next tick, whenever that comes.
     pub fn due(&self, step: &Step, deals: &SummedDeals) -> Option<Due>
         ensures { IsRested self.now → IsDue result self.now deals.now.deals }
     {
         if self.is_out() {
-            Some(Due::of(step, u64::MAX))
+            Some(Due::of(step, u64::MAX, u64::MAX))
         } else if self.is_settled(step.stopped) {
-            Some(Due::of(step, self.lasts_until(step, deals)))
+            Some(self.due_within(step, deals, self.waits(step)))
         } else {
             None
         }

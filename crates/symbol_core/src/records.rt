@@ -4,6 +4,7 @@ ghost use Rattle.session_core.specs.Durations.{five_minutes};
 ghost use Rattle.rulebook.specs.Auction.{indicated_by};
 ghost use Rattle.rulebook.specs.Rules.{asks_to_pause, opens_on_quotes};
 ghost use Rattle.rulebook.specs.Symbol.{opening_price, opens_before, traded_price};
+ghost use Rattle.symbol_core.specs.Idle.{comes_often};
 ghost use Rattle.symbol_core.specs.Kept.{quoted_by};
 ghost use Rattle.symbol_core.specs.Taken.{cancelled_by, deal_of, halted_by, listed_by};
 
@@ -204,4 +205,17 @@ pub fn asks_to_pause(id: u16, x: &Record) -> bool
         } => symbol == id,
         _ => false,
     }
+}
+
+/// Whether a record is a quotation, a trade, a clock or an index tick.
+pub fn comes_often(x: &Record) -> bool
+    ensures { result ≡ comes_often x.now }
+{
+    matches!(
+        x,
+        Record::Quote { .. }
+            | Record::Trade { .. }
+            | Record::IndexTick { .. }
+            | Record::Clock { .. }
+    )
 }

@@ -6,7 +6,8 @@ ghost use Rattle.rulebook.specs.declared.event.Event.{Event};
 ghost use Rattle.rulebook.specs.Symbol as of;
 ghost use Rattle.rulebook.specs.Symbol.{traded_price};
 ghost use Rattle.symbol_core.specs.Evaluates.{most_of_symbol};
-ghost use Rattle.symbol_core.specs.Idle.{IsDue, IsRested};
+ghost use Rattle.symbol_core.specs.Idle.{IsDue, IsRested, IsSettled, Waits, WaitsAt};
+ghost use Rattle.symbol_core.specs.Stands.{Speaks};
 ghost use Rattle.symbol_core.specs.Steps.{Steps};
 ghost use Rattle.symbol_core.specs.Taken.{deal_of};
 
@@ -221,28 +222,78 @@ impl Symbol {
             Err(_) => return Err(NoMemory),
         }
         self.deals.reserve(room_needed(self.kept.id, &step))?;
-        take_step(&mut self.kept, &mut self.deals, &step, out);
-        self.due = self.kept.due(&step, &self.deals);
+        let waits = self.kept.waits_by(&step, &self.due);
+        self.due = take_step(&mut self.kept, &mut self.deals, &step, waits, out);
         Ok(())
     }
 }
 
-/// Takes a record in that is no day, and obeys the rules.
-fn take_step(k: &mut Kept, deals: &mut SummedDeals, step: &Step, out: &mut Vec<Message>)
+/// Says what the record announces, and then what the rules give. The answer is whether it is known without evaluating
+/// them one by one that this is nothing.
+fn speak(
+    k: &mut Kept,
+    deals: &SummedDeals,
+    step: &Step,
+    waits: Option<u64>,
+    out: &mut Vec<Message>,
+) -> bool
+    requires waits { IfSome waits (λ until. WaitsAt k.old step.now until) }
+    requires out { vec_len out.old + 15 ≤ vec_capacity out.old }
+    ensures speaks { Speaks deals.now.deals step.now k.old k.new out.old.items out.new.items }
+    ensures quiet { result ≡ true → (k.new ≡ k.old) × IsSettled k.old step.now.stopped }
+    ensures few { vec_len out.new ≤ vec_len out.old + 15 }
+    ensures capacity { vec_capacity out.old ≤ vec_capacity out.new }
+{
+    if waits.is_some() && k.is_quiet(step, deals) {
+        return true;
+    }
+    k.announce(step, out);
+    k.obey(step, deals, out);
+    false
+}
+
+/// When the stock is next due after a step, where it is known or isn't that no rule said anything.
+fn due_after(
+    k: &Kept,
+    deals: &SummedDeals,
+    step: &Step,
+    waits: Option<u64>,
+    is_quiet: bool,
+) -> Option<Due>
+    requires rested { IsRested k.now }
+    requires quiet { is_quiet ≡ true → IsSettled k.now step.now.stopped }
+    requires waits { is_quiet ≡ true → IfSome waits (λ until. Waits k.now step.now.day step.now.stopped step.now.moment until) }
+    ensures { IsDue result k.now deals.now.deals }
+{
+    match waits {
+        Some(waits) if is_quiet => Some(k.due_within(step, deals, waits)),
+        _ => k.due(step, deals),
+    }
+}
+
+/// Takes a record in that is no day, and obeys the rules. The answer is when the stock is next due.
+fn take_step(
+    k: &mut Kept,
+    deals: &mut SummedDeals,
+    step: &Step,
+    waits: Option<u64>,
+    out: &mut Vec<Message>,
+) -> Option<Due>
+    requires waits { IfSome waits (λ until. WaitsAt k.old step.now until) }
     requires deals { length (option_to_list (deal_of step.now.day k.old.id step.now.input)) ≤ deals.old.spare }
     requires out { vec_len out.old + 15 ≤ vec_capacity out.old }
     ensures steps { Steps step.now k.old k.new deals.old.deals deals.new.deals out.old.items out.new.items }
     ensures few { vec_len out.new ≤ vec_len out.old + 15 }
     ensures capacity { vec_capacity out.old ≤ vec_capacity out.new }
     ensures recent { step.now.moment ≡ moment_of step.now.input → live step.now.moment deals.new.deals ≡ deals.new.deals }
-    ensures rested { IsRested k.new }
+    ensures due { IsDue result k.new deals.new.deals }
 {
     drop_cancelled(k.id, &step.input, deals);
     deals.keep_live(step.moment);
     k.take(step);
     let deal = k.deal;
-    k.announce(step, out);
-    k.obey(step, deals, out);
+    let is_quiet = speak(k, deals, step, waits, out);
     keep_deals(k, step.moment, &deal, deals);
     k.finish(step);
+    due_after(k, deals, step, waits, is_quiet)
 }

@@ -1,4 +1,5 @@
 pub mod Deals
+pub mod Moves
 pub mod Order
 pub mod RepresentsCalls
 pub mod Sums

@@ -1,6 +1,8 @@
 // Deals with the sum of their prices, so that their mean is known without adding them up.
-ghost use Rattle.std.specs.Prelude.{◌≡◌, ℕ, true, ◌+◌, ◌*◌, ◌≤◌, ◌<◌, ◌++◌, ◌∷◌, ◌&&◌, [], IsOk, IfOk, OnOk, nat_le, filter, length, option_map, option_to_list, slice_get, sum_by};
+ghost use Rattle.std.specs.Prelude.{◌≡◌, ℕ, true, false, ◌+◌, ◌*◌, ◌≤◌, ◌<◌, ◌++◌, ◌∷◌, ◌&&◌, [], IsOk, IfOk, OnOk, nat_le, filter, length, option_map, option_to_list, slice_get, sum_by};
 ghost use Rattle.std.specs.VecDeque.{deque_len, deque_capacity};
+ghost use Rattle.std.specs.Option.{option_map_or};
+ghost use Rattle.price_core.specs.Moves.{moved_one_percent};
 ghost use Rattle.window_core.specs.Deals.{is_numbered, live, mean_of, stays};
 ghost use Rattle.window_core.specs.Tallies.{Tallies};
 
@@ -299,5 +301,22 @@ impl SummedDeals {
         let earlier = self.tally_live(t);
         let last = Tally::of_one(t, last);
         earlier.and(&last).mean()
+    }
+
+    /// Whether the mean of the prices is at least one per cent away from a reference price (LULD Plan, Section V); it is
+    /// not where there are no deals.
+    pub fn mean_has_moved(&self, reference: Price) -> bool
+        ensures { result ≡ option_map_or (λ m. moved_one_percent m reference) (mean_of self.now.deals) false }
+    {
+        self.tally().has_moved(reference)
+    }
+
+    /// The same of these deals and one more that are less than five minutes old.
+    pub fn mean_has_moved_with(&self, t: Moment, last: &Option<Deal>, reference: Price) -> bool
+        ensures { result ≡ option_map_or (λ m. moved_one_percent m reference) (mean_of (live t (self.now.deals ++ option_to_list last.now))) false }
+    {
+        let earlier = self.tally_live(t);
+        let last = Tally::of_one(t, last);
+        earlier.and(&last).has_moved(reference)
     }
 }

@@ -1,4 +1,6 @@
-ghost use Rattle.std.specs.Prelude.{◌≡◌, ◌==◌, ◌+◌, ◌*◌, ◌≤◌, ◌<◌, ◌++◌, ◌∷◌, ◌^◌, [], None, Some, List, OnOk, IfOk, IsOk, filter, if◌then◌else◌, length, option_map, option_to_list, slice_get, sum_by, vec_len, vec_capacity};
+ghost use Rattle.std.specs.Prelude.{◌≡◌, ◌==◌, ◌+◌, ◌*◌, ◌≤◌, ◌<◌, ◌++◌, ◌∷◌, ◌^◌, [], false, None, Some, List, OnOk, IfOk, IsOk, filter, if◌then◌else◌, length, option_map, option_to_list, slice_get, sum_by, vec_len, vec_capacity};
+ghost use Rattle.std.specs.Option.{option_map_or};
+ghost use Rattle.price_core.specs.Moves.{moved_one_percent};
 ghost use Rattle.price_core.specs.Rounding.{mean};
 ghost use Rattle.window_core.specs.Deals.{is_live, live, stays, mean_of, least_moment};
 ghost use Rattle.window_core.specs.Calls.{Call, Advance, Add, Cancel, Restart, window};
@@ -109,6 +111,31 @@ impl Tally {
         }
         Some(mean(self.sum, self.count))
     }
+
+    /// Whether the mean is at least one per cent away from a reference price (LULD Plan, Section V). It compares sums,
+    /// since a division by the number of deals is slow.
+    pub(crate) fn has_moved(&self, reference: Price) -> bool
+        requires least { self.now.count ≤ self.now.sum }
+        requires most { self.now.sum ≤ 99999999999 * self.now.count }
+        ensures { result ≡ option_map_or (λ m. moved_one_percent m reference) (if self.now.count == 0 then None else Some (mean self.now.sum self.now.count)) false }
+    {
+        if self.count == 0 {
+            return false;
+        }
+        let price = reference.units();
+        let hundredth = (price + 99) / 100;
+        let sum = 2 * self.sum + u128::from(self.count);
+        doubled(price + hundredth, self.count) <= sum
+            || sum < doubled(price - hundredth + 1, self.count)
+    }
+}
+
+/// Twice the sum of so many equal prices.
+fn doubled(price: u64, count: u64) -> u128
+    requires { price < 2 ^ 40 }
+    ensures { result ≡ price * (2 * count) }
+{
+    u128::from(price) * (2 * u128::from(count))
 }
 
 /// The mean of the prices of these deals and one more that are less than five minutes old, in ten-thousandths of a dollar,
