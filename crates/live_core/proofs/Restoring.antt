@@ -69,6 +69,7 @@ unbegun from status {old} {mid} reads tells why = record {
   nothing = λ begin input same begins. reads_only reads;
   damage_moments = λ capacity at before disk known damaged. none_sent reads (again from before);
   no_header = λ disk known none. (tells, reads.sent);
+  headless = λ disk known none. reads_only reads;
   unsent = λ is. reads.sent;
   keeps = only_read reads;
   hinders = hinders_on _ _ _ _ old old mid status (no_fault old) (λ at none. absurd none) (λ missing disk known. missing disk (reads.disk ∙ known)) why;
@@ -103,6 +104,7 @@ module _ (from : Option ℕ) {old mid new : Outside} {recovery : Recovery} (read
     damage_moments = λ capacity at before disk known damaged.
         sends_then (none_sent reads (again from before)) (moments old.sent disk (begun_at disk known) before (covers_damaged capacity at before disk damaged));
     no_header = λ disk known missing. absurd (header disk (reads.disk ∙ known) missing);
+    headless = λ disk known missing. absurd (header disk (reads.disk ∙ known) missing);
     unsent = λ is. absurd (why_at _ _ mid new NoJournal is why).1;
     keeps = recovers_on (only_read reads) keeps;
     hinders = hinders_on _ _ _ _ old mid new status none (λ at there disk known. there old.sent disk (begun_at disk known)) (λ missing. absurd missing) why;

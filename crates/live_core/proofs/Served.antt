@@ -200,7 +200,7 @@ module _ (from : Option ℕ) (most : ℕ) (status : Status) (old new : Outside)
       (λ begin input same begins end. absurd (hinders_no_end _ _ status old new u.hinders end))
       (λ begin input same begins is. absurd (why_at _ _ old new ReadFault is u.hinders))
       (λ begin input same begins. no_ask (start_of begin) input u.keeps.asks)
-      (record { extends = extends_same u.keeps.disk u.keeps.continues.storing; unwritten = λ begin input same begins none. u.nothing begin input same begins; stops = λ begin input same begins. widened (u.nothing begin input same begins).moments _ (λ image bytes left. inl left) })
+      (record { extends = extends_same u.keeps.disk u.keeps.continues.storing; unwritten = λ begin input same begins none. u.nothing begin input same begins; headless = u.headless; stops = λ begin input same begins. widened (u.nothing begin input same begins).moments _ (λ image bytes left. inl left) })
       (takes_none most old.input new.input u.keeps.input)
 
   -- A session that answered.
@@ -258,6 +258,7 @@ module _ (from : Option ℕ) (most : ℕ) (status : Status) (old new : Outside)
           extends = extends_on old mid new (extends_same r.keeps.disk r.keeps.continues.storing) a.extends;
           unwritten = λ begin input same begins none.
               still_nothing (r.nothing begin input same begins) (a.nothing (start_of begin) input refl (reads begin input same begins) none);
+          headless = λ disk known none. let sound = r.sound disk known in absurd (readable.header disk sound.capacity sound.held sound.holds none);
           stops = λ begin input same begins.
               goes_on (widened (r.nothing begin input same begins).moments _ (λ image bytes left. inl left)) (a.grows (start_of begin) input refl (reads begin input same begins))
               (λ image bytes safe. inr (has_grown begin input same begins safe.recovered));
