@@ -7,7 +7,7 @@ use Rattle.std.proofs.lemmas.Grind.{flat_map-append}
 use Rattle.std.proofs.lemmas.List.{append-nil, take_at, drop_at, drop_more, reverse-append}
 use Rattle.host_core.specs.Outside.{written, Torn}
 use Rattle.wire_in.specs.declared.record.Record.{Record}
-use Rattle.journal_core.specs.Layout.{IsBatch, IsLimit, AreBatches, LeadsTo, HoldsTo, Holds, frames_of, content, header, records_of, with_batch}
+use Rattle.journal_core.specs.Layout.{IsBatch, IsLimit, AreBatches, LeadsTo, HoldsTo, frames_of, content, header, records_of, with_batch}
 
 module _ {capacity gate : ℕ} {batches : List (List Record)} {image rest : List ℕ} (p : LeadsTo capacity gate batches image rest) where
   -- the same batches in another image

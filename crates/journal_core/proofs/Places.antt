@@ -1,7 +1,7 @@
 -- Where an append writes, and what stays outside of its place.
-use Rattle.std.proofs.Common.{◌≡◌, ℕ, zero, suc, ◌+◌, ◌-◌, ◌<◌, ◌≤◌, List, [], ◌∷◌, ◌++◌, length, take, drop, refl, sym, ◌∙◌, ap, subst, arith, append_assoc, length-append, take-append-drop, take-take, drop-drop, drop_at, length-take-le}
+use Rattle.std.proofs.Common.{◌≡◌, ℕ, ◌+◌, ◌≤◌, List, [], ◌∷◌, ◌++◌, length, take, drop, refl, sym, ◌∙◌, ap, subst, arith, append_assoc, length-append, take-take, drop_at, length-take-le}
 use Rattle.std.specs.Prelude.{Option, Some, None, option_map}
-use Rattle.std.proofs.lemmas.List.{append-nil, take-append-le}
+use Rattle.std.proofs.lemmas.List.{take-append-le}
 use Rattle.host_core.specs.Outside.{Outside, Elapses, Stays, Changes, Torn, written}
 use Rattle.host_core.proofs.Moments.{ended}
 use Rattle.host_core.proofs.Known.{mapped}

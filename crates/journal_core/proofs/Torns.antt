@@ -1,5 +1,5 @@
 -- Writes that a stop cut short, within one place.
-use Rattle.std.proofs.Common.{◌≡◌, ℕ, zero, suc, ◌+◌, ◌-◌, ◌≤◌, List, [], ◌∷◌, ◌++◌, length, take, drop, refl, sym, ◌∙◌, ap, arith, append_assoc, take-append-drop, take-take, drop-drop}
+use Rattle.std.proofs.Common.{◌≡◌, ℕ, zero, suc, ◌+◌, ◌-◌, ◌≤◌, List, [], ◌∷◌, ◌++◌, take, drop, refl, sym, ◌∙◌, ap, arith, append_assoc, take-append-drop, take-take, drop-drop}
 use Rattle.std.proofs.lemmas.List.{append-nil}
 use Rattle.host_core.specs.Outside.{Torn}
 

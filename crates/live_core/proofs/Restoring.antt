@@ -70,6 +70,7 @@ unbegun here from status {old} {mid} reads tells why = record {
   damage_moments = λ capacity at before disk known damaged. none_sent reads (again from before);
   no_header = λ disk known none. (tells, reads.sent);
   no_header_starved = λ disk known none is. (why_at _ _ _ old mid NoMemory is why).1;
+  headless = λ disk known none. reads_only reads;
   unsent = λ is. reads.sent;
   keeps = only_read reads;
   hinders = hinders_on _ _ _ _ _ _ old old mid status (no_fault old) (λ at none. absurd none) (λ missing disk known. missing disk (reads.disk ∙ known)) (λ before. inl before) why;
@@ -106,6 +107,7 @@ module _ (from : Option ℕ) {old mid new : Outside} {recovery : Recovery} (read
         sends_then (none_sent reads (again from before)) (moments old.sent disk (begun_at disk known) before (covers_damaged capacity at before disk damaged));
     no_header = λ disk known missing. absurd (header disk (reads.disk ∙ known) missing);
     no_header_starved = λ disk known missing is. absurd (header disk (reads.disk ∙ known) missing);
+    headless = λ disk known missing. absurd (header disk (reads.disk ∙ known) missing);
     unsent = λ is. absurd (why_at _ _ _ mid new NoJournal is why).1;
     keeps = recovers_on (only_read reads) keeps;
     hinders = hinders_on _ _ _ _ _ _ old mid new status none (λ at there disk known. there old.sent disk (begun_at disk known)) (λ missing. absurd missing)

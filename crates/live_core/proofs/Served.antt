@@ -221,7 +221,7 @@ module _ (here : Type 0) (from : Option ℕ) (most : ℕ) (status : Status) (old
       (λ begin input same begins. no_ask (start_of begin) input u.keeps.asks)
       (λ begin input same begins is.
       or_else _ (starved_among from begin.held old new begins.disk_known (covers_held begins.disk begin.capacity begin.held begins.holds) (why_at _ _ _ old new NoMemory is u.hinders).1))
-      (record { extends = extends_same u.keeps.disk u.keeps.continues.storing; unwritten = λ begin input same begins none. u.nothing begin input same begins; stops = λ begin input same begins. widened (u.nothing begin input same begins).moments _ (λ image bytes left. inl left) })
+      (record { extends = extends_same u.keeps.disk u.keeps.continues.storing; unwritten = λ begin input same begins none. u.nothing begin input same begins; headless = u.headless; stops = λ begin input same begins. widened (u.nothing begin input same begins).moments _ (λ image bytes left. inl left) })
       (takes_none most old.input new.input u.keeps.input)
 
   -- A session that answered.
@@ -280,6 +280,7 @@ module _ (here : Type 0) (from : Option ℕ) (most : ℕ) (status : Status) (old
           extends = extends_on old mid new (extends_same r.keeps.disk r.keeps.continues.storing) a.extends;
           unwritten = λ begin input same begins none.
               still_nothing (r.nothing begin input same begins) (a.nothing (start_of begin) input refl (reads begin input same begins) none);
+          headless = λ disk known none. let sound = r.sound disk known in absurd (readable.header disk sound.capacity sound.held sound.holds none);
           stops = λ begin input same begins.
               goes_on (widened (r.nothing begin input same begins).moments _ (λ image bytes left. inl left)) (a.grows (start_of begin) input refl (reads begin input same begins))
               (λ image bytes safe. inr (has_grown begin input same begins safe.recovered));

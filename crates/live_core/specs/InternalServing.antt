@@ -61,6 +61,7 @@ pub record IsUnread (unbegun : Type 0) (from : Option ℕ) (status : Status) (ol
       → Elapses old new (SendsPrefix old.sent (again from before) old)
   pub no_header : (disk : List ℕ) → old.disk ≡ Some disk → HasNoHeader disk → TellsNoJournal status × (new.sent ≡ old.sent)
   pub no_header_starved : (disk : List ℕ) → old.disk ≡ Some disk → HasNoHeader disk → status ≡ NoMemory → unbegun
+  pub headless : (disk : List ℕ) → old.disk ≡ Some disk → HasNoHeader disk → WritesNothing old new
   pub unsent : status ≡ NoJournal → new.sent ≡ old.sent
   pub keeps : OnlyRecovers old new
   pub hinders : Hinders (λ at. (disk : List ℕ) → old.disk ≡ Some disk → HasDamage at disk) ((disk : List ℕ) → old.disk ≡ Some disk → HasNoHeader disk)
