@@ -1,16 +1,14 @@
 -- A text that is read line by line.
-use Rattle.std.proofs.Common.{◌≡◌, ℕ, ◌+◌, ◌<◌, ◌++◌, ◌∷◌, [], List, length, refl, sym, ap, ◌∙◌, subst, arith, append_assoc, append-nil, length-append, Option, Some, IfSome, ◌⊎◌, inl, inr}
-use Rattle.std.specs.List.{cons_option, filter_map}
+use Rattle.std.proofs.Common.{◌≡◌, ℕ, ◌+◌, ◌<◌, ◌++◌, ◌∷◌, [], List, length, sym, ap, ◌∙◌, subst, length-append, Option, Some, IfSome}
+use Rattle.std.specs.List.{cons_option}
 use Rattle.std.proofs.lemmas.List.Elements.{filter_map-append}
 use Rattle.std.specs.Io.BufRead.{first_piece, strip_last, take_through, drop_through, DropsThrough}
-use Rattle.host_core.specs.declared.status.Status.{Status}
-use Rattle.host_core.specs.declared.status.Status.TheVariants.{ReadFault, NoMemory, BadText}
 use Rattle.wire_out.specs.declared.message.Frame.{Frame}
 use Rattle.wire_out.specs.declared.message.Stamped.{Stamped}
 use Rattle.text_core.specs.Lines.{PrintsFrame}
-use Rattle.chart.specs.Shown.{brings, shown}
-use Rattle.chart.specs.Texts.{Prints, IsBadAt}
-use Rattle.chart.specs.Reads.{HasRead, IsShown, Stops}
+use Rattle.chart.specs.Shown.{brings}
+use Rattle.chart.specs.Texts.{Prints}
+use Rattle.chart.specs.Reads.{HasRead}
 
 -- one frame more is printed
 pub prints_more : (text : List ℕ) (frames : List Frame) (rest : List ℕ) (frame : Frame) → Prints text frames rest → 0 < length rest

@@ -4,3 +4,5 @@ pub mod Reads
 pub mod Spans
 pub mod Scales
 pub mod Places
+pub mod Words
+pub mod Runs

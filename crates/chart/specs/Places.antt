@@ -1,9 +1,9 @@
 -- Where each message of the picture stands.
-use Rattle.std.specs.Prelude.{◌≡◌, ℕ, ◌+◌, ◌*◌, ◌≤◌, max, List, [], ◌∷◌, Option, Some, None}
+use Rattle.std.specs.Prelude.{ℕ, ◌+◌, ◌*◌, ◌≤◌, max, List, [], ◌∷◌, Option, Some, None}
 use Rattle.session_core.specs.declared.state.Phase.{Phase}
 use Rattle.session_core.specs.declared.state.Phase.TheVariants as phases
 use Rattle.wire_out.specs.declared.message.Message.{Message}
-use Rattle.wire_out.specs.declared.message.Message.TheVariants.{Listed, State, Band, Straddle, Collar, Release, Short, Breaker, MarketResume}
+use Rattle.wire_out.specs.declared.message.Message.TheVariants.{State, Band, Straddle, Collar, Release, Short, Breaker}
 use Rattle.wire_out.specs.declared.message.Stamped.{Stamped}
 use Rattle.chart.specs.Scales.{x_of, y_of}
 use Rattle.chart.specs.Spans.{end_of}

@@ -28,3 +28,10 @@ Stops (BadText line) text = IsBadAt line text
 Stops ReadFault text = ⊤
 Stops NoMemory text = ⊤
 Stops _ text = ⊥
+
+-- what hinders a reader
+abbrev pub Hinders : Status → Type 0
+Hinders (BadText line) = ⊤
+Hinders ReadFault = ⊤
+Hinders NoMemory = ⊤
+Hinders _ = ⊥

@@ -1,9 +1,9 @@
 -- Where moments and prices stand in the picture: 12 units of x for a minute, from 800 at 09:00 to 6,200 at 16:30, and y
 -- from 300 at the highest price of the axis to 2,900 at the lowest.
-use Rattle.std.specs.Prelude.{◌≡◌, ℕ, ◌+◌, ◌-◌, ◌*◌, ◌/◌, ◌<◌, ◌≤◌, ◌^◌, min, max, List, Option, Some, None}
+use Rattle.std.specs.Prelude.{ℕ, ◌+◌, ◌-◌, ◌*◌, ◌/◌, ◌<◌, ◌≤◌, ◌^◌, min, max, List, Option, Some, None}
 use Rattle.std.specs.List.{fold}
 use Rattle.wire_out.specs.declared.message.Message.{Message}
-use Rattle.wire_out.specs.declared.message.Message.TheVariants.{Listed, State, Band, Straddle, Collar, Release, Short, Breaker, MarketResume}
+use Rattle.wire_out.specs.declared.message.Message.TheVariants.{Band, Collar, Release}
 use Rattle.wire_out.specs.declared.message.Stamped.{Stamped}
 use Rattle.chart.specs.declared.axis.Axis.{Axis}
 

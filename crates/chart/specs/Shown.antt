@@ -1,6 +1,6 @@
 -- Which published messages belong to the picture of one symbol.
-use Rattle.std.specs.Prelude.{ℕ, Bool, true, ◌==◌, if◌then◌else◌, List, Option, Some, None}
-use Rattle.std.specs.List.{filter_map}
+use Rattle.std.specs.Prelude.{ℕ, Bool, true, false, ◌==◌, if◌then◌else◌, List, Option, Some, None}
+use Rattle.std.specs.List.{filter_map, list_all}
 use Rattle.wire_out.specs.declared.message.Message.{Message}
 use Rattle.wire_out.specs.declared.message.Message.TheVariants.{Listed, State, Band, Straddle, Collar, Release, Short, Breaker, MarketResume}
 use Rattle.wire_out.specs.declared.message.Stamped.{Stamped}
@@ -29,3 +29,13 @@ brings symbol (Refused place code field) = None
 -- the messages of the picture, in the order of the frames
 abbrev pub shown : ℕ → List Frame → List Stamped
 shown symbol frames = filter_map (brings symbol) frames
+
+-- a message is of the whole market
+abbrev pub is_market : Message → Bool
+is_market (Breaker level index) = true
+is_market MarketResume = true
+is_market _ = false
+
+-- nothing is said of the symbol
+abbrev pub is_silent : List Stamped → Bool
+is_silent messages = list_all (λ x. is_market x.message) messages

@@ -1,10 +1,10 @@
 -- How long what a message says stands in the picture.
-use Rattle.std.specs.Prelude.{ℕ, Bool, true, false, not, List, [], ◌∷◌, Option, option_map}
+use Rattle.std.specs.Prelude.{ℕ, Bool, true, false, not, List, Option, option_map}
 use Rattle.std.specs.List.{find}
 use Rattle.session_core.specs.declared.state.Phase.{Phase}
 use Rattle.session_core.specs.declared.state.Phase.TheVariants as phases
 use Rattle.wire_out.specs.declared.message.Message.{Message}
-use Rattle.wire_out.specs.declared.message.Message.TheVariants.{Listed, State, Band, Straddle, Collar, Release, Short, Breaker, MarketResume}
+use Rattle.wire_out.specs.declared.message.Message.TheVariants.{State, Band, Straddle, Collar, Release, Breaker, MarketResume}
 use Rattle.wire_out.specs.declared.message.Stamped.{Stamped}
 
 -- a run goes on in this phase

@@ -1,5 +1,5 @@
 -- A text of lines, and the published frames that they print.
-use Rattle.std.specs.Prelude.{◌≡◌, ℕ, zero, suc, ◌+◌, ◌<◌, List, [], ◌∷◌, length, Option, IfSome}
+use Rattle.std.specs.Prelude.{◌≡◌, ℕ, ◌+◌, ◌<◌, List, [], ◌∷◌, length}
 use Rattle.std.specs.Io.BufRead.{first_piece, drop_through}
 use Rattle.wire_out.specs.declared.message.Frame.{Frame}
 use Rattle.text_core.specs.Lines.{PrintsFrame}

@@ -126,11 +126,7 @@ fn place_of(axis: &Axis, x: &Stamped, later: &[Stamped]) -> Place
 }
 
 /// The places of messages, in their order.
-pub fn places_of(
-    alloc: Global,
-    axis: &Axis,
-    messages: &[Stamped],
-) -> Result<Vec<Place>, NoMemory>
+pub fn places_of(alloc: Global, axis: &Axis, messages: &[Stamped]) -> Result<Vec<Place>, NoMemory>
     requires { IsAxis axis.now }
     ensures { IfOk result (λ places. places.items ≡ places_of axis.now messages.now) }
 {

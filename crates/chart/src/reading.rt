@@ -8,7 +8,7 @@ ghost use Rattle.host_core.specs.declared.status.Status.TheVariants.{ReadFault, 
 ghost use Rattle.wire_out.specs.declared.message.Frame.{Frame};
 ghost use Rattle.text_core.specs.Lines.{PrintsFrame};
 ghost use Rattle.chart.specs.Shown.{brings};
-ghost use Rattle.chart.specs.Reads.{HasRead, IsShown, Stops};
+ghost use Rattle.chart.specs.Reads.{HasRead, IsShown, Stops, Hinders};
 
 use crate::shown::brings;
 use host_core::Status;
@@ -96,6 +96,7 @@ fn read_turn<R: BufRead>(
     ensures goes { result ≡ Ok true → (text : List ℕ) → HasRead text (R.remaining reader.old) symbol before messages.old.items → HasRead text (R.remaining reader.new) symbol (before + 1) messages.new.items }
     ensures ended { result ≡ Ok false → (text : List ℕ) → HasRead text (R.remaining reader.old) symbol before messages.old.items → IsShown text symbol messages.new.items }
     ensures stopped { IfErr result (λ s. (text : List ℕ) → HasRead text (R.remaining reader.old) symbol before messages.old.items → Stops s text) }
+    ensures cause { IfErr result Hinders }
 {
     if next_line(reader, line)? {
         take_line(line, before + 1, symbol, messages)?;
@@ -115,6 +116,7 @@ pub fn read_messages<R: BufRead>(
     ensures shown { IfOk result (λ messages. IfSome (R.remaining reader.old) (λ text. IsShown text symbol messages.items)) }
     // A line that prints none, a failed read or want of memory.
     ensures stopped { IfErr result (λ s. IfSome (R.remaining reader.old) (Stops s)) }
+    ensures cause { IfErr result Hinders }
 {
     let mut line = Vec::new(alloc);
     let mut messages = Vec::new(alloc);

@@ -1,4 +1,4 @@
-use Rattle.std.proofs.Common.{◌≡◌, ℕ, Option, None, take, max}
+use Rattle.std.proofs.Common.{◌≡◌, None, take, max}
 use Rattle.std.specs.List.{fold}
 use Rattle.chart.specs.Scales.{one_of, greatest}
 use Rattle.chart.proofs.axis.highest.Given as goal

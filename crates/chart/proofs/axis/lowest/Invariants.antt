@@ -1,4 +1,4 @@
-use Rattle.std.proofs.Common.{◌≡◌, ℕ, Option, None, take, min}
+use Rattle.std.proofs.Common.{◌≡◌, None, take, min}
 use Rattle.std.specs.List.{fold}
 use Rattle.chart.specs.Scales.{one_of, least}
 use Rattle.chart.proofs.axis.lowest.Given as goal
