@@ -105,7 +105,5 @@ module _ {holds : List Record → Outside → Type 0} {start : Start} {input : L
 
   -- none were, since the input is at its end or none may be
   pub none_left : n ≡ 0 → (count ≡ length input) ⊎ (most ≡ 0)
-  none_left none = by (takes.end (drop count input) reads.input_left none) where
-    by : (drop count input ≡ []) ⊎ (most ≡ 0) → (count ≡ length input) ⊎ (most ≡ 0)
-    by (inl nothing) = inl (omega (arith, reads.there, length-drop count input, ap length nothing))
-    by (inr full) = inr full
+  none_left none =
+      elim (takes.end (drop count input) reads.input_left none) [ inl nothing ↦ inl (omega (arith, reads.there, simp length-drop at (ap length nothing))) | inr full ↦ inr full ]

@@ -21,8 +21,7 @@ no_outcome capacity held (body ∷ later) is = absurd cc
 
 -- a batch with one record less, held behind it
 one_record : (held : List Record) (outcome : Outcome) (later : List Outcome) → with_batch held (records_in (outcome ∷ later)) ≡ with_batch (with_record held outcome) (records_in later)
-one_record held (Ok x) later =
-    ap (λ (r : List Record). r ++ held) (reverse-append (x ∷ []) (records_in later)) ∙ append_assoc (reverse (records_in later)) (x ∷ []) held
+one_record held (Ok x) later = simp (reverse-append (x ∷ []) (records_in later), append_assoc)
 one_record held (Err refusal) later = refl
 
 -- the accepted records of a round, kept as a batch

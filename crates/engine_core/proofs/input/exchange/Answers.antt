@@ -11,15 +11,6 @@ returns-in_default-clause-prompt g c = λ start input count left there expects. 
 pub returns-then-most-eq0-clause-prompt : goal.returns-then-most-eq0-clause-prompt
 returns-then-most-eq0-clause-prompt g c = λ start input count left there expects. no_ask start input c.flush.ensures.keeps.asks
 
-pub returns-then-most-eq0-clause-taken : goal.returns-then-most-eq0-clause-taken
-returns-then-most-eq0-clause-taken g c = record {
-  within = omega arith;
-  left = c.flush.ensures.keeps.input ∙ sym (drop-none _);
-  given = λ input known. refl;
-  there = λ input known. omega arith;
-  end = λ input known none. inr c.if-most-eq0.true;
-}
-
 pub returns-in_default-read_piece-clause-moments : goal.returns-in_default-read_piece-clause-moments
 returns-in_default-read_piece-clause-moments g c = λ begin text expects.
     sends_stays (c.flush.ensures.moments begin text expects) ((c.in-Ok.ensures).sent begin text expects) c.read_piece.ensures.reads.keeps.moments

@@ -153,27 +153,15 @@ returns-clause-exact g c = λ start input same reads.
     let at_end = was.end c.loop-open-test.false in
     ends c.args.most _ c.loop-open.invariant.within at_end.1 at_end.0 (c.ending.ensures.status (take c.loop-open.read input) was.reads.serves.judges.cutter)
 
-pub returns-clause-moments : goal.returns-clause-moments
-returns-clause-moments g c = λ start input same reads. (c.loop-open.invariant.polls start input same reads).moments
-
-pub returns-clause-prompt : goal.returns-clause-prompt
-returns-clause-prompt g c = λ start input same reads. (c.loop-open.invariant.polls start input same reads).prompt
-
 -- memory was short
-pub returns-in_err-count-clause-starved : goal.returns-in_err-count-clause-starved
-returns-in_err-count-clause-starved g c = λ start input same reads is.
-    let short : c.exchange.result ≡ Err Memory = search rules in
-    absurd (c.exchange.ensures.unstarved short)
-
 pub returns-in_err-feed-clause-starved : goal.returns-in_err-feed-clause-starved
 returns-in_err-feed-clause-starved g c = λ start input same reads is.
     let was = c.loop-open.invariant.polls start input same reads in
     let expects = expects_all was.reads c.loop-open.invariant.empty in
     let held = g.K.Keeper.still_held c.loop-open.keeper _ _ _ was.reads.serves.held c.exchange.ensures.keeps.disk c.exchange.ensures.keeps.left in
     let mid = serves_sent was.reads c.loop-open.invariant.empty c.exchange.new.outbox (g.H.Host.outside c.exchange.new.host) held c.in_ok-count.ensures.empty (c.in_ok-count.ensures.sent start.sent _ expects) in
-    let short : c.feed.result ≡ Err Memory = search rules in
     starved_further (piece_begins was.reads c.in_ok-count.ensures.taken c.args.most (omega (arith, c.loop-open.invariant.within, c.in_ok-count.ensures.taken.within, c.min-room.ensures)))
-    (c.feed.ensures.starved start _ same mid short)
+    (c.feed.ensures.starved start _ same mid (search rules))
 
 pub returns-in_err-count-clause-nothing : goal.returns-in_err-count-clause-nothing
 returns-in_err-count-clause-nothing g c = λ start input same reads none.
@@ -190,3 +178,9 @@ returns-in_err-feed-clause-nothing g c = λ start input same reads none.
     let begins = piece_begins was.reads c.in_ok-count.ensures.taken c.args.most (omega (arith, c.loop-open.invariant.within, c.in_ok-count.ensures.taken.within, c.min-room.ensures)) in
     still_nothing (still_nothing (c.loop-open.invariant.nothing start input same reads none) (sending (c.exchange.ensures.moments start.sent _ expects) c.exchange.ensures.keeps.disk))
     (c.feed.ensures.nothing start _ same mid (none_before start begins none))
+
+pub returns-clause-moments : goal.returns-clause-moments
+returns-clause-moments g c = λ start input same reads. (c.loop-open.invariant.polls start input same reads).moments
+
+pub returns-clause-prompt : goal.returns-clause-prompt
+returns-clause-prompt g c = λ start input same reads. (c.loop-open.invariant.polls start input same reads).prompt

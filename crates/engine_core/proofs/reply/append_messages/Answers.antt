@@ -47,9 +47,3 @@ pub returns-in_err-append-clause-moments : goal.returns-in_err-append-clause-mom
 returns-in_err-append-clause-moments g c = λ begin text expects.
     let now = c.loop-message.invariant.pending begin text expects in
     sends_on (c.loop-message.invariant.moments begin text expects) now.0 _ now.2 (c.append.ensures.moments begin now.0 now.1)
-
-pub returns-clause-pending : goal.returns-clause-pending
-returns-clause-pending g c = λ begin text expects.
-    let now = c.loop-message.invariant.pending begin text expects in
-    let none = ap (λ (ms : List Stamped). now.0 ++ spelled (numbered c.loop-message.number ms)) (drop_all c.loop-message.message-index c.args.messages.now c.loop-message-test.false) in
-    expects_same _ _ (sym (append-nil now.0) ∙ sym none ∙ now.2) now.1

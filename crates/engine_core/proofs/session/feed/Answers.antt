@@ -62,16 +62,11 @@ returns-in_err-settle-clause-moments g c = λ start read same serves.
 pub returns-in_err-settle-clause-keeps : goal.returns-in_err-settle-clause-keeps
 returns-in_err-settle-clause-keeps g c = answers_on _ g.K.Keeper.touches_both c.loop-at.invariant.keeps c.settle.ensures.keeps
 
-pub returns-clause-serves : goal.returns-clause-serves
-returns-clause-serves g c = λ start read same serves.
-    serves_as (ap (λ (b : List ℕ). read ++ b) (take_all c.loop-at.at c.args.piece.now c.loop-at-test.false)) (c.loop-at.invariant.serves start read same serves)
-
 pub returns-in_err-settle-clause-starved : goal.returns-in_err-settle-clause-starved
 returns-in_err-settle-clause-starved g c = λ start read same serves is.
     let now = c.loop-at.invariant.serves start read same serves in
-    let short : c.settle.result ≡ Err Memory = search rules in
     starved_further (begins read c.args.piece.now c.fill-at.result)
-    (c.settle.ensures.starved start _ same (serves_further now _ _ (c.fill-at.ensures.judges start _ read now.judges) c.fill-at.ensures.outbox) short)
+    (c.settle.ensures.starved start _ same (serves_further now _ _ (c.fill-at.ensures.judges start _ read now.judges) c.fill-at.ensures.outbox) (search rules))
 
 pub returns-in_err-settle-clause-nothing : goal.returns-in_err-settle-clause-nothing
 returns-in_err-settle-clause-nothing g c = λ start read same serves none.

@@ -12,12 +12,8 @@ accept-requires-clause-room c =
 pub invariant_of-self : goal.invariant_of-self
 invariant_of-self c =
     let all : c.extend_from_slice.new.self.items ≡ c.self.inside.outcomes.items ++ c.args.outcome.now ∷ [] = search rules in
-    let room : 64 ≤ vec_capacity c.extend_from_slice.new.self = search rules in
     record {
       most = omega (arith, c.requires.room, ap length c.self.view_is, ap length all, length-append c.self.inside.outcomes.items (c.args.outcome.now ∷ []));
-      reserve = room;
-      accepted_are = c.accept.ensures
-          ∙ ap (λ (b : _). b ++ records_in (c.args.outcome.now ∷ [])) c.self.invariant.accepted_are
-          ∙ sym (records-append c.self.inside.outcomes.items (c.args.outcome.now ∷ []))
-          ∙ ap records_in (sym all);
+      reserve = search rules;
+      accepted_are = rw (all, records-append, ← c.self.invariant.accepted_are) c.accept.ensures;
     }
