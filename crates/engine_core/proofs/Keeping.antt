@@ -85,10 +85,6 @@ pub runs_on : {recovers later : List Record → List ℕ → Type 0} {start : St
 runs_on {recovers} {later} {start} begins before first second =
     goes_on first second (safe_further later start begins recovers before)
 
--- the bytes read, by another spelling
-pub serves_as : {holds : List Record → Outside → Type 0} {start : Start} {read same : List ℕ} {session : Session} {now : Outside} → read ≡ same → Serves holds start read session now → Serves holds start same session now
-serves_as {holds} {start} {session = session} {now = now} is = subst (λ (b : List ℕ). Serves holds start b session now) is
-
 -- what is left alone by a keep, and by answers
 pub answers_writes : (touches : Outside → Outside → Type 0) {old new : Outside} → OnlyWrites old new → touches old new → OnlyAnswers touches old new
 answers_writes touches first touched = record { input = first.input; asks = first.asks; read_faults = first.read_faults; continues = first.continues; to_disk = touched }

@@ -12,8 +12,7 @@ use Rattle.engine_core.specs.Rounds.{Outcome, outcomes_of, records_in, IsAdmissi
 
 pub outcomes-append : (capacity : ℕ) (held : List Record) (a b : List (List ℕ)) → outcomes_of capacity held (a ++ b) ≡ outcomes_of capacity held a ++ outcomes_of capacity (accepted_of capacity held a) b
 outcomes-append capacity held [] b = refl
-outcomes-append capacity held (body ∷ a) b =
-    ap (λ (later : List Outcome). judged capacity held body ∷ later) (outcomes-append capacity (with_record held (judged capacity held body)) a b)
+outcomes-append capacity held (body ∷ a) b = rw (outcomes-append capacity (with_record held (judged capacity held body)) a b)
 
 pub no_outcome : (capacity : ℕ) (held : List Record) (bodies : List (List ℕ)) → [] ≡ outcomes_of capacity held bodies → bodies ≡ []
 no_outcome capacity held [] is = refl

@@ -11,8 +11,7 @@ returns-in_err-evaluate-clause-moments g c = λ capacity accepted evaluated begi
     sends_longer text (spelled (numbered (length (messages_of evaluated)) (newest_messages (c.args.x.now ∷ evaluated)))) _ refl (c.evaluate.ensures.moments begin text expects)
 
 pub returns-clause-represents : goal.returns-clause-represents
-returns-clause-represents g c = λ capacity accepted evaluated s passed.
-    whenever_ok c.append_messages.result (c.in_ok-evaluate.ensures.represents capacity accepted evaluated s passed)
+returns-clause-represents g c = λ capacity held evaluated s passed. whenever_ok c.append_messages.result (c.in_ok-evaluate.ensures.represents capacity held evaluated s passed)
 
 pub returns-clause-pending : goal.returns-clause-pending
 returns-clause-pending g c = λ capacity accepted evaluated begin text s passed expects.

@@ -5,7 +5,7 @@ use Rattle.std.proofs.lemmas.List.{append-nil, take_all, take-append-drop}
 use Rattle.host_core.proofs.Causes.{no_fault, faultless}
 use Rattle.host_core.proofs.Chains.{sends_nothing}
 use Rattle.engine_core.proofs.Expecting.{Begins, starved_further}
-use Rattle.engine_core.proofs.Keeping.{serves_as, serves_further, idles, runs_on, answers_sends, answers_on}
+use Rattle.engine_core.proofs.Keeping.{serves_further, idles, runs_on, answers_sends, answers_on}
 use Rattle.engine_core.proofs.Unwritten.{idle, still_nothing, no_records}
 use Rattle.engine_core.proofs.session.feed.Goals as goal
 
@@ -20,7 +20,7 @@ loop-at-init g c = record {
   few = omega arith;
   still = λ none. refl;
   ready = c.requires.ready;
-  serves = λ start read same serves. serves_as (sym (append-nil read)) serves;
+  serves = λ start read same serves. rw append-nil serves;
   moments = λ start read same serves.
       idles serves _ (record { more = c.args.piece.now; whole = refl }) (g.met.H.Host.sent_now c.args.host.now) (λ image left. g.K.Keeper.recovers_now c.args.keeper.now _ _ image serves.held left);
   nothing = λ start read same serves none. idle _ (g.met.H.Host.sent_now c.args.host.now);

@@ -1,7 +1,6 @@
 use Rattle.std.proofs.Common.{◌∷◌, ◌++◌, length, ap, ◌∙◌, arith}
 use Rattle.rulebook.specs.Book.{newest_messages}
 use Rattle.engine_core.proofs.Messages.{published_more}
-use Rattle.engine_core.proofs.Starving.{still_roomy, short_for, on_err}
 use Rattle.engine_core.proofs.engine.Engine.evaluate.Goals as goal
 
 pub returns-clause-represents : goal.returns-clause-represents
