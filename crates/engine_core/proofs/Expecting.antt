@@ -80,8 +80,7 @@ module _ (recovers : List Record → List ℕ → Type 0) (start : Start) where
   pub safe_sends : (bodies : List (List ℕ)) (now : Outside) (image bytes : List ℕ) → recovers (held_after start bodies) image → SendsPrefix start.sent (expected start bodies) now image bytes
       → IsSafe recovers start bodies image bytes
   safe_sends bodies now image bytes recovered stop =
-      subst (λ (all : List (List ℕ)). IsSafe recovers start all image bytes) (append-nil bodies)
-      (safe_of recovers start bodies [] image bytes stop.sent stop.rest recovered stop.known stop.prefix)
+      rw append-nil at (safe_of recovers start bodies [] image bytes stop.sent stop.rest recovered stop.known stop.prefix)
 
 -- where memory was short among some frames, it was so among more
 pub starved_further : {start : Start} {front all : List ℕ} → Begins front all → {now : Outside} → Starved start (bodies_of front) now → Starved start (bodies_of all) now

@@ -73,7 +73,6 @@ pub loop-open-preserved : goal.loop-open-preserved
 loop-open-preserved g c =
     let n = c.in_ok-count.count in
     let took = c.in_ok-count.ensures.taken in
-    let empty = c.loop-open.invariant.empty in
     record {
       within = omega (arith, c.loop-open.invariant.within, took.within, c.min-room.ensures);
       answered = omega (arith, c.loop-open.invariant.answered, c.in_ok-feed.ensures.few, length-take n c.exchange.new.buffer);
@@ -82,7 +81,7 @@ loop-open-preserved g c =
       ready = c.in_ok-feed.ensures.ready;
       polls = λ start input same reads.
           let was = c.loop-open.invariant.polls start input same reads in
-          let sent = c.in_ok-count.ensures.sent start.sent _ (expects_all was.reads empty) in
+          let sent = c.in_ok-count.ensures.sent start.sent _ (expects_all was.reads c.loop-open.invariant.empty) in
           let after = fed g (goal.at.loop-open-preserved g c).After-feed start input same reads in
           let next = reads_more was.reads took _ _ _ c.feed.ensures.keeps.input (c.in_ok-feed.ensures.serves start _ same after.1) in
           record {

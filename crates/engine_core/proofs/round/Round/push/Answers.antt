@@ -6,8 +6,7 @@ use Rattle.engine_core.proofs.round.Round.push.Goals as goal
 
 pub accept-requires-clause-room : goal.accept-requires-clause-room
 accept-requires-clause-room c =
-    let le = few_records c.self.inside.outcomes.items in
-    omega (arith, le, ap length c.self.invariant.accepted_are, c.requires.room, ap length c.self.view_is)
+    omega (arith, few_records c.self.inside.outcomes.items, ap length c.self.invariant.accepted_are, c.requires.room, ap length c.self.view_is)
 
 pub invariant_of-self : goal.invariant_of-self
 invariant_of-self c =
