@@ -1,7 +1,7 @@
 -- A journal is damaged at one place, and then it holds no lawful list.
 use Rattle.std.proofs.Common.{◌≡◌, ◌≢◌, ◌⊎◌, inl, inr, ℕ, List, [], ◌∷◌, ◌++◌, length, drop, sym, ap, subst, ◌∙◌, append_assoc, length-append, arith}
 use Rattle.std.specs.Prelude.{None, reverse}
-use Rattle.std.proofs.lemmas.List.{append-nil, reverse-append, nil_from_length}
+use Rattle.std.proofs.lemmas.List.{append-nil, nil_from_length}
 use Rattle.wire_in.specs.declared.record.Record.{Record}
 use Rattle.journal_core.specs.Layout.{LeadsTo, Opens, Holds, records_of, with_batch}
 use Rattle.journal_core.proofs.OneList.{GoesOn, all_of, closed_gate, ends_there, no_batch_follows, one_gate, one_limit, one_on}
@@ -9,6 +9,7 @@ use Rattle.journal_core.proofs.Readable.{leads_first, leads_undamaged, records_f
 use Rattle.rulebook.specs.Admission.{verdict, IsLawful}
 use Rattle.live_core.specs.Damage.{IsDamagedAt, HasBadRecord, HasBadForm}
 use Rattle.live_core.specs.InternalRecovery.{IsPart, Covers}
+use Rattle.live_core.proofs.Recovering.{in_parts}
 
 lawful_at : (capacity : ℕ) (later : List Record) (x : Record) (before : List Record) → IsLawful capacity (later ++ x ∷ before) → verdict capacity before x ≡ None
 lawful_at capacity [] x before lawful = lawful.0
@@ -25,12 +26,11 @@ lawful_until capacity (m ∷ more) records (y ∷ later) x before is refused law
 -- What stands first among batches that no batch follows is among their records.
 covers_all : (disk : List ℕ) (capacity gate : ℕ) (batches : List (List Record)) (rest : List ℕ) → LeadsTo capacity gate batches disk rest
     → ((b : List Record) (tail : List ℕ) → ¬ Opens b rest tail) → Covers disk (records_of batches)
-covers_all disk capacity gate batches rest leads no_batch limit records first lawful =
-    let all = all_of leads first.leads no_batch in
+covers_all disk capacity gate batches rest leads no_batch limit at first more records stands part lawful =
+    let all = all_of leads stands no_batch in
     record {
-      more = records_of all.0 ++ first.part.more;
-      whole = append_assoc (records_of all.0) first.part.more records ∙ ap (λ (r : List Record). records_of all.0 ++ r) first.part.whole
-          ∙ sym (records_first first.batches all.0) ∙ ap records_of (sym all.1);
+      more = records_of all.0 ++ part.more;
+      whole = append_assoc (records_of all.0) part.more records ∙ ap (λ (r : List Record). records_of all.0 ++ r) part.whole ∙ sym (records_first first all.0) ∙ ap records_of (sym all.1);
     }
 
 pub covers_held : (disk : List ℕ) (capacity : ℕ) (held : List Record) → Holds disk capacity held → Covers disk held
@@ -52,10 +52,8 @@ module _ (disk : List ℕ) (capacity : ℕ) (batches : List (List Record)) (befo
     where
       backwards : with_batch (records_of batches) (bad.good ++ bad.bad ∷ bad.later) ≡ reverse bad.later ++ bad.bad ∷ with_batch (records_of batches) bad.good
       backwards =
-          ap (λ (r : List Record). r ++ records_of batches)
-          (reverse-append bad.good (bad.bad ∷ bad.later) ∙ ap (λ (r : List Record). r ++ reverse bad.good) (reverse-append (bad.bad ∷ []) bad.later))
-          ∙ append_assoc (reverse bad.later ++ bad.bad ∷ []) (reverse bad.good) (records_of batches)
-          ∙ append_assoc (reverse bad.later) (bad.bad ∷ []) (reverse bad.good ++ records_of batches)
+          in_parts (records_of batches) bad.good (bad.bad ∷ bad.later)
+          ∙ in_parts (with_batch (records_of batches) bad.good) (bad.bad ∷ []) bad.later
 
   not_lawful : (later : List (List Record)) (extra : List Record) → IsLawful capacity (extra ++ records_of (with_bad ++ later)) → ⊥
   not_lawful later extra lawful =
@@ -63,16 +61,16 @@ module _ (disk : List ℕ) (capacity : ℕ) (batches : List (List Record)) (befo
       bad.refused (lawful_at capacity (extra ++ (records_of later ++ reverse bad.later)) bad.bad before (subst (λ (r : List Record). IsLawful capacity r) is lawful))
 
   covers_bad : Covers disk before
-  covers_bad limit records first lawful = by (one_on bad.leads first.leads) where
-    covered : (a b : List (List Record)) → with_bad ++ a ≡ first.batches ++ b → IsPart records before
+  covers_bad limit at first rest records stands part lawful = by (one_on bad.leads stands) where
+    covered : (a b : List (List Record)) → with_bad ++ a ≡ first ++ b → IsPart records before
     covered a b is =
-        lawful_until capacity (records_of b ++ first.part.more) records (records_of a ++ reverse bad.later) bad.bad before
-        (append_assoc (records_of b) first.part.more records ∙ ap (λ (r : List Record). records_of b ++ r) first.part.whole
-        ∙ sym (records_first first.batches b) ∙ ap records_of (sym is) ∙ has_bad a)
-        bad.refused (subst (λ (l : ℕ). IsLawful l records) (one_limit first.leads bad.leads) lawful)
+        lawful_until capacity (records_of b ++ part.more) records (records_of a ++ reverse bad.later) bad.bad before
+        (append_assoc (records_of b) part.more records ∙ ap (λ (r : List Record). records_of b ++ r) part.whole
+        ∙ sym (records_first first b) ∙ ap records_of (sym is) ∙ has_bad a)
+        bad.refused (subst (λ (l : ℕ). IsLawful l records) (one_limit stands bad.leads) lawful)
 
-    by : GoesOn with_bad first.batches bad.rest first.rest ⊎ GoesOn first.batches with_bad first.rest bad.rest → IsPart records before
-    by (inl on) = covered on.later [] (sym on.same ∙ sym (append-nil first.batches))
+    by : GoesOn with_bad first bad.rest rest ⊎ GoesOn first with_bad rest bad.rest → IsPart records before
+    by (inl on) = covered on.later [] (sym on.same ∙ sym (append-nil first))
     by (inr on) = covered [] on.later (append-nil with_bad ∙ on.same)
 
 -- what stands before the damage covers what stands first

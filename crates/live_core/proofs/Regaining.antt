@@ -1,6 +1,6 @@
 -- An append by its keeper, and what a stop of it leaves.
-use Rattle.std.proofs.Common.{◌≡◌, ◌⊎◌, inl, inr, ℕ, ◌+◌, ◌≤◌, List, length, sym, subst, ◌∙◌, arith}
-use Rattle.std.specs.Prelude.{Option, Some, option_map}
+use Rattle.std.proofs.Common.{◌≡◌, ◌⊎◌, inl, inr, ℕ, ◌+◌, List, length, sym, subst, ◌∙◌, arith}
+use Rattle.std.specs.Prelude.{Some, option_map}
 use Rattle.host_core.specs.Outside.{Outside, MayLeave, IsSettled, written}
 use Rattle.host_core.proofs.Known.{mapped}
 use Rattle.wire_in.specs.declared.record.Record.{Record}
