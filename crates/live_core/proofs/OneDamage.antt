@@ -1,5 +1,5 @@
 -- A journal is damaged at one place, and then it holds no lawful list.
-use Rattle.std.proofs.Common.{◌≡◌, ◌≢◌, ◌⊎◌, inl, inr, ℕ, List, [], ◌∷◌, ◌++◌, length, drop, sym, ap, subst, ◌∙◌, append_assoc, length-append, arith}
+use Rattle.std.proofs.Common.{◌≡◌, ◌≢◌, ◌⊎◌, inl, inr, ⊎_elim, ℕ, List, [], ◌∷◌, ◌++◌, length, drop, sym, ap, subst, ◌∙◌, append_assoc, length-append, arith}
 use Rattle.std.specs.Prelude.{None, reverse}
 use Rattle.std.proofs.lemmas.List.{append-nil, nil_from_length}
 use Rattle.wire_in.specs.declared.record.Record.{Record}
@@ -75,10 +75,9 @@ module _ (disk : List ℕ) (capacity : ℕ) (batches : List (List Record)) (befo
 
 -- what stands before the damage covers what stands first
 pub covers_damaged : (capacity at : ℕ) (before : List Record) (disk : List ℕ) → IsDamagedAt capacity at before disk → Covers disk before
-covers_damaged capacity at before disk d = by d.why where
-  by : HasBadForm d.batches before d.rest ⊎ HasBadRecord capacity d.batches before disk → Covers disk before
-  by (inl form) = subst (λ (r : List Record). Covers disk r) (sym form.same) (covers_all disk capacity at d.batches d.rest d.leads form.damaged.no_batch)
-  by (inr bad) = covers_bad disk capacity d.batches before bad
+covers_damaged capacity at before disk d =
+    ⊎_elim (λ (form : HasBadForm d.batches before d.rest). subst (λ (r : List Record). Covers disk r) (sym form.same) (covers_all disk capacity at d.batches d.rest d.leads form.damaged.no_batch))
+    (covers_bad disk capacity d.batches before) d.why
 
 pub lawful_undamaged : (capacity at : ℕ) (before : List Record) (disk : List ℕ) (limit : ℕ) (held : List Record) → IsDamagedAt capacity at before disk → Holds disk limit held → IsLawful limit held → ⊥
 lawful_undamaged capacity at before disk limit held d holds lawful = by d.why where
@@ -90,10 +89,8 @@ lawful_undamaged capacity at before disk limit held d holds lawful = by d.why wh
 
 -- the records before a damage begin with those of its batches
 before_all : (capacity at : ℕ) (before : List Record) (disk : List ℕ) (d : IsDamagedAt capacity at before disk) → (extra : List Record) × (before ≡ extra ++ records_of d.batches)
-before_all capacity at before disk d = by d.why where
-  by : HasBadForm d.batches before d.rest ⊎ HasBadRecord capacity d.batches before disk → (extra : List Record) × (before ≡ extra ++ records_of d.batches)
-  by (inl form) = ([], form.same)
-  by (inr bad) = (reverse bad.good, bad.same)
+before_all capacity at before disk d =
+    ⊎_elim (λ (form : HasBadForm d.batches before d.rest). ([], form.same)) (λ (bad : HasBadRecord capacity d.batches before disk). (reverse bad.good, bad.same)) d.why
 
 -- no damage stands behind another
 none_behind : (capacity at at' : ℕ) (before before' : List Record) (disk : List ℕ) (d : IsDamagedAt capacity at before disk) (e : IsDamagedAt capacity at' before' disk) → GoesOn d.batches e.batches d.rest e.rest → at ≡ at'
@@ -121,10 +118,6 @@ none_behind capacity at at' before before' disk d e on = one_gate d.leads e.lead
 
 -- a disk is damaged at one place
 pub one_damage : (capacity capacity' at at' : ℕ) (before before' : List Record) (disk : List ℕ) → IsDamagedAt capacity at before disk → IsDamagedAt capacity' at' before' disk → at ≡ at'
-one_damage capacity capacity' at at' before before' disk d other = by (subst (λ (l : ℕ). IsDamagedAt l at' before' disk) (one_limit other.leads d.leads) other) where
-  either : (e : IsDamagedAt capacity at' before' disk) → GoesOn d.batches e.batches d.rest e.rest ⊎ GoesOn e.batches d.batches e.rest d.rest → at ≡ at'
-  either e (inl on) = none_behind capacity at at' before before' disk d e on
-  either e (inr on) = sym (none_behind capacity at' at before' before disk e d on)
-
-  by : IsDamagedAt capacity at' before' disk → at ≡ at'
-  by e = either e (one_on d.leads e.leads)
+one_damage capacity capacity' at at' before before' disk d other =
+    let e = subst (λ (l : ℕ). IsDamagedAt l at' before' disk) (one_limit other.leads d.leads) other in
+    ⊎_elim (none_behind capacity at at' before before' disk d e) (λ on. sym (none_behind capacity at' at before' before disk e d on)) (one_on d.leads e.leads)

@@ -1,5 +1,5 @@
 -- A session over a journal that was read to its end, or was not.
-use Rattle.std.proofs.Common.{◌≡◌, inl, inr, ℕ, List, [], ◌++◌, refl, sym, ap, subst, ◌∙◌, append_assoc}
+use Rattle.std.proofs.Common.{◌≡◌, inl, inr, ℕ, List, [], ◌++◌, refl, sym, ap, subst, ◌∙◌}
 use Rattle.std.specs.Prelude.{Option, Some, IsTrue}
 use Rattle.host_core.specs.declared.status.Status.{Status}
 use Rattle.host_core.specs.declared.status.Status.TheVariants.{NoJournal, NoMemory}
@@ -18,7 +18,8 @@ use Rattle.engine_core.specs.Pending.{SendsPrefix}
 use Rattle.engine_core.specs.Sessions.{expected}
 use Rattle.engine_core.specs.Serving.{Reads}
 use Rattle.engine_core.proofs.Pending.{sends_none}
-use Rattle.engine_core.proofs.Expecting.{expected-none, safe_of}
+use Rattle.engine_core.proofs.Expecting.{expected-none, safe_sends}
+use Rattle.engine_core.proofs.Sending.{prefix_of_longer}
 use Rattle.engine_core.proofs.Beginning as engine
 use Rattle.engine_core.specs.Unwritten.{WritesNothing}
 use Rattle.engine_core.proofs.Unwritten.{sending, still_nothing}
@@ -44,15 +45,13 @@ module _ (begin : Begin) {input : List ℕ} {old : Outside} (begins : Begins beg
   safe_opening : (from : Option ℕ) → begin.from ≡ from → {mid : Outside} → mid.disk ≡ old.disk → IsSettled mid → (image bytes : List ℕ)
       → SendsPrefix (Some begin.sent) (again from begin.held) mid image bytes → IsSafeOrPending old begin [] image bytes
   safe_opening from same {mid} disk settled image bytes stop =
-      inl (safe_of (λ records image. Holds image begin.capacity records) (start_of begin) [] [] image bytes stop.sent (stop.rest ++ spelling (hello begin.held)) held stop.known whole)
+      inl (safe_sends (λ records image. Holds image begin.capacity records) (start_of begin) [] mid image bytes held (prefix_of_longer (again from begin.held) (spelling (hello begin.held)) _ whole image bytes stop.was stop))
     where
       held : Holds image begin.capacity begin.held
       held = subst (λ (d : List ℕ). Holds d begin.capacity begin.held) (one_disk (disk ∙ begins.disk_known) (settled.only image stop.was)) begins.holds
 
-      whole : stop.sent ++ (stop.rest ++ spelling (hello begin.held)) ≡ expected (start_of begin) []
-      whole = sym (append_assoc stop.sent stop.rest (spelling (hello begin.held)))
-          ∙ ap (λ (b : List ℕ). b ++ spelling (hello begin.held)) (stop.prefix ∙ ap (λ (f : Option ℕ). again f begin.held) (sym same))
-          ∙ sym (expected-none (start_of begin))
+      whole : again from begin.held ++ spelling (hello begin.held) ≡ expected (start_of begin) []
+      whole = ap (λ (f : Option ℕ). again f begin.held ++ spelling (hello begin.held)) (sym same) ∙ sym (expected-none (start_of begin))
 
 -- while the disk is only read, nothing of a text is sent
 none_sent : {old mid : Outside} → OnlyReadsDisk old mid → (text : List ℕ) → Elapses old mid (SendsPrefix old.sent text old)
