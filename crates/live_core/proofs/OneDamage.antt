@@ -61,17 +61,15 @@ module _ (disk : List ℕ) (capacity : ℕ) (batches : List (List Record)) (befo
       bad.refused (lawful_at capacity (extra ++ (records_of later ++ reverse bad.later)) bad.bad before (subst (λ (r : List Record). IsLawful capacity r) is lawful))
 
   covers_bad : Covers disk before
-  covers_bad limit at first rest records stands part lawful = by (one_on bad.leads stands) where
-    covered : (a b : List (List Record)) → with_bad ++ a ≡ first ++ b → IsPart records before
-    covered a b is =
-        lawful_until capacity (records_of b ++ part.more) records (records_of a ++ reverse bad.later) bad.bad before
-        (append_assoc (records_of b) part.more records ∙ ap (λ (r : List Record). records_of b ++ r) part.whole
-        ∙ sym (records_first first b) ∙ ap records_of (sym is) ∙ has_bad a)
-        bad.refused (subst (λ (l : ℕ). IsLawful l records) (one_limit stands bad.leads) lawful)
-
-    by : GoesOn with_bad first bad.rest rest ⊎ GoesOn first with_bad rest bad.rest → IsPart records before
-    by (inl on) = covered on.later [] (sym on.same ∙ sym (append-nil first))
-    by (inr on) = covered [] on.later (append-nil with_bad ∙ on.same)
+  covers_bad limit at first rest records stands part lawful =
+      ⊎_elim (λ on. covered on.later [] (sym on.same ∙ sym (append-nil first))) (λ on. covered [] on.later (append-nil with_bad ∙ on.same)) (one_on bad.leads stands)
+    where
+      covered : (a b : List (List Record)) → with_bad ++ a ≡ first ++ b → IsPart records before
+      covered a b is =
+          lawful_until capacity (records_of b ++ part.more) records (records_of a ++ reverse bad.later) bad.bad before
+          (append_assoc (records_of b) part.more records ∙ ap (λ (r : List Record). records_of b ++ r) part.whole
+          ∙ sym (records_first first b) ∙ ap records_of (sym is) ∙ has_bad a)
+          bad.refused (subst (λ (l : ℕ). IsLawful l records) (one_limit stands bad.leads) lawful)
 
 -- what stands before the damage covers what stands first
 pub covers_damaged : (capacity at : ℕ) (before : List Record) (disk : List ℕ) → IsDamagedAt capacity at before disk → Covers disk before
@@ -80,12 +78,13 @@ covers_damaged capacity at before disk d =
     (covers_bad disk capacity d.batches before) d.why
 
 pub lawful_undamaged : (capacity at : ℕ) (before : List Record) (disk : List ℕ) (limit : ℕ) (held : List Record) → IsDamagedAt capacity at before disk → Holds disk limit held → IsLawful limit held → ⊥
-lawful_undamaged capacity at before disk limit held d holds lawful = by d.why where
-  by : HasBadForm d.batches before d.rest ⊎ HasBadRecord capacity d.batches before disk → ⊥
-  by (inl form) = leads_undamaged disk capacity at d.batches d.rest limit held d.leads holds form.damaged
-  by (inr bad) =
-      let first = leads_first disk capacity bad.next _ bad.rest limit held bad.leads holds in
-      not_lawful disk capacity d.batches before bad first.1.0 [] (subst (λ (r : List Record). IsLawful capacity r) (sym first.1.1) (subst (λ (l : ℕ). IsLawful l held) (sym first.0) lawful))
+lawful_undamaged capacity at before disk limit held d holds lawful =
+    ⊎_elim (λ (form : HasBadForm d.batches before d.rest). leads_undamaged disk capacity at d.batches d.rest limit held d.leads holds form.damaged) by d.why
+  where
+    by : HasBadRecord capacity d.batches before disk → ⊥
+    by bad =
+        let first = leads_first disk capacity bad.next _ bad.rest limit held bad.leads holds in
+        not_lawful disk capacity d.batches before bad first.1.0 [] (subst (λ (r : List Record). IsLawful capacity r) (sym first.1.1) (subst (λ (l : ℕ). IsLawful l held) (sym first.0) lawful))
 
 -- the records before a damage begin with those of its batches
 before_all : (capacity at : ℕ) (before : List Record) (disk : List ℕ) (d : IsDamagedAt capacity at before disk) → (extra : List Record) × (before ≡ extra ++ records_of d.batches)
@@ -97,7 +96,7 @@ none_behind : (capacity at at' : ℕ) (before before' : List Record) (disk : Lis
 none_behind capacity at at' before before' disk d e on = one_gate d.leads e.leads (by d.why) where
   by : HasBadForm d.batches before d.rest ⊎ HasBadRecord capacity d.batches before disk → d.rest ≡ e.rest
   by (inl form) = (no_batch_follows on form.damaged.no_batch).1
-  by (inr bad) = at_record (one_on bad.leads e.leads) where
+  by (inr bad) = ⊎_elim (λ next. absurd (inside next.later next.same)) (λ next. shorter next.later next.same) (one_on bad.leads e.leads) where
     inside : (later : List (List Record)) → e.batches ≡ with_bad disk capacity d.batches before bad ++ later → ⊥
     inside later is =
         let all = before_all capacity at' before' disk e in
@@ -111,10 +110,6 @@ none_behind capacity at at' before before' disk d e on = one_gate d.leads e.lead
         let none : on.later ≡ [] = nil_from_length on.later
         (omega (arith, sizes, length-append d.batches ((bad.good ++ bad.bad ∷ bad.later) ∷ []), length-append e.batches (b ∷ later), ap length on.same, length-append d.batches on.later)) in
         (ends_there on none).1
-
-    at_record : GoesOn (with_bad disk capacity d.batches before bad) e.batches bad.rest e.rest ⊎ GoesOn e.batches (with_bad disk capacity d.batches before bad) e.rest bad.rest → d.rest ≡ e.rest
-    at_record (inl next) = absurd (inside next.later next.same)
-    at_record (inr next) = shorter next.later next.same
 
 -- a disk is damaged at one place
 pub one_damage : (capacity capacity' at at' : ℕ) (before before' : List Record) (disk : List ℕ) → IsDamagedAt capacity at before disk → IsDamagedAt capacity' at' before' disk → at ≡ at'

@@ -241,10 +241,7 @@ answered_on P (Err e) is p = subst P (sym is) p
 
 pub fault_hinders : {T : Type 0} (damaged : ℕ → Type 0) (missing starved : Type 0) {old mid : Outside} (new : Outside) {first : Result T Fault} {f : Fault} → first ≡ Err f → first ≢ Err fault.Read
     → (first ≡ Err fault.Memory → starved) → NoFault old mid → HasCause f mid new → Hinders damaged missing starved (status_of f) old new
-fault_hinders damaged missing starved {old} {mid} new {first} {f} is unread short none cause =
-    let hungry : f ≡ fault.Memory → starved = λ memory. short (is ∙ ap (λ e. Err e) memory) in
-    let other : f ≢ fault.Read = λ read. unread (is ∙ ap (λ e. Err e) read) in
-    grind (arith, faultless)
+fault_hinders damaged missing starved {old} {mid} new {first} {f} is unread short none cause = grind (arith, faultless)
 
 pub hinders_on : (damaged worse : ℕ → Type 0) (missing absent hungry starved : Type 0) (old mid new : Outside) (s : Status) → NoFault old mid → ((at : ℕ) → damaged at → worse at) → (missing → absent) → (hungry → starved)
     → Hinders damaged missing hungry s mid new → Hinders worse absent starved s old new

@@ -28,7 +28,5 @@ regained_on old new before after batch limits gates has settled is passes record
       before = from.0;
       was = passes from.0 from.1;
       grown = grown_behind batch (omega (arith, has from.0 from.1))
-          (subst (λ (d : List ℕ). IsGrown before.capacity (before.gate + (length (frames_of batch) + 5)) records d image) (sym from.2)
-          (subst (λ (g : ℕ). IsGrown before.capacity g records r.before image) gates
-          (subst (λ (c : ℕ). IsGrown c after.gate records r.before image) limits r.grown)));
+          (subst (λ (d : List ℕ). IsGrown before.capacity (before.gate + (length (frames_of batch) + 5)) records d image) (sym from.2) (rw (limits, gates) at r.grown));
     }

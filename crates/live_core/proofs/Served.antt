@@ -47,8 +47,7 @@ use Rattle.live_core.proofs.Restoring.{one_disk, unbegun}
 
 -- what is allowed before the first frame is allowed for any
 first_stops : (start : Outside) (begin : Begin) (bodies : List (List ℕ)) (image bytes : List ℕ) → IsSafeOrPending start begin [] image bytes → IsSafeOrPending start begin bodies image bytes
-first_stops start begin bodies image bytes (inl safe) = inl (safe_more (λ records image. Holds image begin.capacity records) (start_of begin) [] bodies image bytes safe)
-first_stops start begin bodies image bytes (inr pending) = inr pending
+first_stops start begin bodies image bytes = ⊎_elim (λ safe. inl (safe_more (λ records image. Holds image begin.capacity records) (start_of begin) [] bodies image bytes safe)) (λ pending. inr pending)
 
 -- where nothing was pending, each stop is safe
 settle : {begin : Begin} {input : List ℕ} (start : Outside) → Begins begin input start → IsSettled start → (bodies : List (List ℕ)) (image bytes : List ℕ)
@@ -76,20 +75,6 @@ part_of start begin bodies image bytes (inr pending) =
     record { since = []; unsent = expected (start_of begin) bodies; sent = ap (λ (b : List ℕ). Some b) (pending.unsent ∙ sym (append-nil begin.sent)); prefix = refl }
 
 -- The answers.
-
--- a session without a fault, over a lawful journal, for which there is memory, comes to an end
-completes : (s : Status) (old new : Outside) → Told s old new → s ≢ NoMemory → s ≢ NoJournal → ((at : ℕ) → s ≢ Damaged at)
-    → ¬ (Rose old.read_faults new.read_faults) → ¬ (Rose old.send_faults new.send_faults) → ¬ (Rose old.disk_faults new.disk_faults) → IsEnd s
-completes s old new told memory journal whole no_reads no_sends no_disks = grind arith
-
-told_after : {old mid : Outside} (new : Outside) (s : Status) → NoFault old mid → Told s mid new → Told s old new
-told_after new s none told = grind (arith, faultless)
-
-hinders_told : (damaged : ℕ → Type 0) (missing starved : Type 0) (s : Status) (old new : Outside) → Hinders damaged missing starved s old new → Told s old new
-hinders_told damaged missing starved s old new why = grind arith
-
-hinders_no_end : (damaged : ℕ → Type 0) (missing starved : Type 0) (s : Status) (old new : Outside) → Hinders damaged missing starved s old new → IsEnd s → ⊥
-hinders_no_end damaged missing starved s old new why end = grind arith
 
 hinders_damage : (damaged : ℕ → Type 0) (missing starved : Type 0) (s : Status) (old new : Outside) (at : ℕ) → Hinders damaged missing starved s old new → ¬ missing → ((other : ℕ) → damaged other → other ≡ at)
     → TellsDamage at s
@@ -188,9 +173,9 @@ module _ (here : Type 0) (from : Option ℕ) (most : ℕ) (status : Status) (old
         stops = λ begin input same begins. (serves begin input same begins).stops;
       };
       bytes = bytes;
-      complete = λ begin input begins memory.
-          completes status old new told memory
-          (λ is. readable.header begins.disk begin.capacity begin.held begins.holds ((why NoJournal is tt).1 begins.disk begins.disk_known)) (undamaged begin input begins);
+      complete = λ begin input begins memory no_reads no_sends no_disks.
+          let journal : status ≢ NoJournal = λ is. readable.header begins.disk begin.capacity begin.held begins.holds ((why NoJournal is tt).1 begins.disk begins.disk_known) in
+          grind (arith, told, journal, undamaged begin input begins, memory, no_reads, no_sends, no_disks);
       read_cause = told_at ReadFault;
       send_cause = told_at SendFault;
       disk_cause = told_at DiskFault;
@@ -204,7 +189,7 @@ module _ (here : Type 0) (from : Option ℕ) (most : ℕ) (status : Status) (old
   unread_served u =
       served (λ begin input same begins. record {
         moments = widened (u.moments begin input same begins) _ (first_stops old begin (bodies_of (take most input)));
-        exact = λ end. absurd (hinders_no_end _ _ _ status old new u.hinders end);
+        exact = λ end. absurd (grind (arith, u.hinders));
         unread = λ is. absurd (why_at _ _ _ old new ReadFault is u.hinders);
         prompt = no_ask (start_of begin) input u.keeps.asks;
         starved = λ is. ⊎_elim (λ now. inl now) (λ hungry. inr (inl (hungry begins.disk begins.disk_known begin.held (covers_held begins.disk begin.capacity begin.held begins.holds))))
@@ -212,7 +197,7 @@ module _ (here : Type 0) (from : Option ℕ) (most : ℕ) (status : Status) (old
         unwritten = λ none. u.nothing begin input same begins;
         stops = widened (u.nothing begin input same begins).moments _ (λ image bytes left. inl left);
       })
-      u.keeps.continues (hinders_told _ _ _ status old new u.hinders) (λ un. u) (λ disk known un. u) (extends_same u.keeps.disk u.keeps.continues.storing)
+      u.keeps.continues (grind (arith, u.hinders)) (λ un. u) (λ disk known un. u) (extends_same u.keeps.disk u.keeps.continues.storing)
       (takes_none most old.input new.input u.keeps.input)
 
   -- A session that answered.
@@ -233,9 +218,8 @@ module _ (here : Type 0) (from : Option ℕ) (most : ℕ) (status : Status) (old
       kept {records} rest = record {
         settled = rest.settled;
         holds = λ disk known.
-            let last = read_passes disk known in
-            let now = held_now journal records new disk rest last in
-            subst (λ (capacity : ℕ). Holds disk capacity records) (alone.records disk journal.capacity begin.capacity records _ now (ended run last).recovered).0 now;
+            let now = held_now journal records new disk rest (read_passes disk known) in
+            subst (λ (capacity : ℕ). Holds disk capacity records) (alone.records disk journal.capacity begin.capacity records _ now (ended run (read_passes disk known)).recovered).0 now;
       }
 
       -- what grew from an image of the restored session grew from one of the start
@@ -271,7 +255,7 @@ module _ (here : Type 0) (from : Option ℕ) (most : ℕ) (status : Status) (old
 
     pub answered_served : Served here from most status old new
     answered_served =
-        served serves (further r.keeps.continues a.continues) (told_after new status r.none a.told) (λ un. absurd (a.served un)) (λ disk known un. absurd (un (r.sound disk known)))
+        served serves (further r.keeps.continues a.continues) (grind (arith, faultless, r.none, a.told)) (λ un. absurd (a.served un)) (λ disk known un. absurd (un (r.sound disk known)))
         (extends_on old mid new (extends_same r.keeps.disk r.keeps.continues.storing) a.extends) (takes_between most old.input mid.input new.input new.input r.keeps.input refl a.bytes)
 
 -- memory ran out before anything happened

@@ -1,4 +1,4 @@
-use Rattle.std.proofs.Common.{ℕ, [], sym, subst, arith}
+use Rattle.std.proofs.Common.{ℕ, [], sym, subst, arith, rules}
 use Rattle.host_core.proofs.Chains.{reads_nothing}
 use Rattle.engine_core.specs.declared.engine.Engine.{Engine}
 use Rattle.engine_core.specs.EngineState.{Represents}
@@ -28,15 +28,4 @@ returns-clause-recovers g c = λ from disk known. record {
 
 pub returns-clause-reading : goal.returns-clause-reading
 returns-clause-reading g c =
-    subst (λ (e : Engine). IsReading c.in_ok-scan.scan e 0 (g.H.Host.outside c.begin.new.host).disk) (sym c.limit-2.ensures) (record {
-      of_disk = c.in_ok-scan.ensures.of_disk;
-      capacity = sym c.limit.ensures.capacity;
-      count = omega (arith, c.in_ok-scan.ensures.begun, (c.in-Ok.ensures).none);
-      small = record {
-        range = omega (arith, c.limit.ensures.range);
-        within = omega (arith, (c.in-Ok.ensures).none);
-        evaluated = omega (arith, (c.in-Ok.ensures).none, (c.in-Ok.ensures).evaluated);
-        few = omega (arith, (c.in-Ok.ensures).published);
-      };
-      roomy = (c.in-Ok.ensures).roomy;
-    })
+    subst (λ (e : Engine). IsReading c.in_ok-scan.scan e 0 (g.H.Host.outside c.begin.new.host).disk) (sym c.limit-2.ensures) (search rules)

@@ -82,12 +82,10 @@ pub next-requires : goal.next-requires
 next-requires g c = scan_reaches c.batches.invariant.reading.of_disk
 
 pub returns-then-not-more-clause-reading : goal.returns-then-not-more-clause-reading
-returns-then-not-more-clause-reading g c =
-    let was = c.batches.invariant.reading in
-    record {
-      of_disk = subst (λ (known : Option (List ℕ)). IsScanOf c.next.new.self known) (sym c.greet.ensures.keeps.disk) (c.next.ensures.of_disk was.of_disk);
-      capacity = c.next.ensures.capacity ∙ was.capacity;
-      count = omega (arith, c.next.ensures.count, was.count, ap length (c.next.ensures.empty (not_more c.in_ok-more.was c.if-not-more.true)));
-      small = was.small;
-      roomy = was.roomy;
-    }
+returns-then-not-more-clause-reading g c = record {
+  of_disk = subst (λ (known : Option (List ℕ)). IsScanOf c.next.new.self known) (sym c.greet.ensures.keeps.disk) (c.next.ensures.of_disk c.batches.invariant.reading.of_disk);
+  capacity = c.next.ensures.capacity ∙ c.batches.invariant.reading.capacity;
+  count = omega (arith, c.next.ensures.count, c.batches.invariant.reading.count, ap length (c.next.ensures.empty (not_more c.in_ok-more.was c.if-not-more.true)));
+  small = c.batches.invariant.reading.small;
+  roomy = c.batches.invariant.reading.roomy;
+}

@@ -7,10 +7,7 @@ use Rattle.live_core.proofs.recovery.Recovery.resume.Goals as goal
 
 pub loop-x-init : goal.loop-x-init
 loop-x-init g c = record {
-  small = c.requires.small;
-  roomy = c.requires.roomy;
-  count = omega arith;
-  capacity = refl;
+  reading = search rules;
   scan = refl;
   resuming = λ begin disk first. first;
   moments = λ begin disk first. waits_there first (g.met.H.Host.sent_now c.args.host.now);
@@ -20,10 +17,7 @@ loop-x-init g c = record {
 
 pub loop-x-preserved : goal.loop-x-preserved
 loop-x-preserved g c = record {
-  small = c.in_ok-resume_record.ensures.small;
-  roomy = c.in_ok-resume_record.ensures.roomy;
-  count = omega (arith, c.in_ok-resume_record.ensures.count, c.loop-x.invariant.count);
-  capacity = c.resume_record.ensures.capacity ∙ c.loop-x.invariant.capacity;
+  reading = search rules;
   scan = c.loop-x.invariant.scan;
   resuming = λ begin disk first.
       resumed_next (c.loop-x.invariant.resuming begin disk first) c.x-item.result c.loop-x-test.true c.x-item.is c.verdict.result c.verdict.ensures.exact (search rules)
