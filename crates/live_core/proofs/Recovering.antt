@@ -165,12 +165,7 @@ module _ (from : Option ℕ) {begin : Option (List ℕ)} {disk : List ℕ} {reco
     rests_read = record { known = reads.disk ∙ r.rests.known; settled = still_settled reads.moments reads.disk r.rests.settled }
 
     resumes_read : (capacity : ℕ) → capacity ≡ recovery.scan.capacity → Resumes (again from) capacity (records_of r.batches) begin recovery.engine recovery.outbox new
-    resumes_read capacity same =
-        subst (λ (l : ℕ). Resumes (again from) l (records_of r.batches) begin recovery.engine recovery.outbox new) (sym same)
-        (record { engine_is = r.resumes.engine_is; lawful = r.resumes.lawful; pending_is = expects_still new.sent reads.sent r.resumes.pending_is })
-
-    leads_at : (capacity at : ℕ) → capacity ≡ recovery.scan.capacity → at ≡ recovery.scan.gate → LeadsTo capacity at r.batches disk (recovery.scan.ahead ++ r.read.rest)
-    leads_at capacity at same there = rw (same, there) r.read.leads
+    resumes_read capacity same = rw same (record { engine_is = r.resumes.engine_is; lawful = r.resumes.lawful; pending_is = expects_still new.sent reads.sent r.resumes.pending_is })
 
     -- neither a closed gate nor a batch
     pub bad_form_there : (at : ℕ) → at ≡ recovery.scan.gate
@@ -178,7 +173,7 @@ module _ (from : Option ℕ) {begin : Option (List ℕ)} {disk : List ℕ} {reco
     bad_form_there at there damaged = record {
       batches = r.batches;
       rest = recovery.scan.ahead ++ r.read.rest;
-      leads = leads_at recovery.scan.capacity at refl there;
+      leads = rw there r.read.leads;
       lawful = r.resumes.lawful;
       why = inl (record { same = refl; damaged = subst IsDamaged (ap (λ (g : ℕ). drop g disk) there ∙ from_gate r.read.leads) (damaged r.batches disk r.rests.known r.read) });
     }
@@ -202,7 +197,7 @@ module _ (from : Option ℕ) {first recovery : Recovery} {start old : Outside} (
           rests = rests_read from r reads;
           batches = r.batches;
           rest = recovery.scan.ahead ++ r.read.rest;
-          leads = leads_at from r reads scan.capacity scan.at same (at more);
+          leads = rw (same, at more) r.read.leads;
           read = subst (λ (b : List Record). HasRead scan (r.batches ++ b ∷ []) disk) (sym is) (read more r.batches disk r.rests.known r.read);
           resumes = resumes_read from r reads scan.capacity same;
         },
@@ -258,9 +253,6 @@ scan_hinders damaged missing starved first scan.NoMemory was reads none rose no_
 scan_hinders damaged missing starved first scan.DiskFault was reads none rose no_journal short there = rose was
 scan_hinders damaged missing starved first scan.NoJournal was reads none rose no_journal short there = (reads_faultless reads (none (λ is. cc)), no_journal was)
 scan_hinders damaged missing starved first (scan.Damaged at) was reads none rose no_journal short there = (reads_faultless reads (none (λ is. cc)), there at was)
-
-pub no_error : {T E : Type 0} {result : Result T E} {a : T} {e : E} → result ≡ Ok a → result ≢ Err e
-no_error was err = cc
 
 -- no message is asked for again where there are no records
 again_none : (from : Option ℕ) → again from [] ≡ []

@@ -85,9 +85,6 @@ pub answered_as : {most : ℕ} {before after : JournalState} {session : Session}
     → IsAnswered most before after session same old new
 answered_as {most} {before} {after} {session} {old} {new} is = subst (λ (s : Status). IsAnswered most before after session s old new) (sym is)
 
-pub no_end_unserved : (result : Result Status Fault) → IfOk result IsEnd → IsUnserved (answer_of result) → ⊥
-no_end_unserved result end unserved = grind arith
-
 module _ (here : Type 0) (from : Option ℕ) (most : ℕ) (status : Status) (old new : Outside)
     (sent_now : (image bytes : List ℕ) → new.leaves new.moment image bytes → Agrees new.sent bytes) (read_passes : (disk : List ℕ) → new.disk ≡ Some disk → MayLeave new disk)
     (stops_now : (sent : List ℕ) → new.sent ≡ Some sent → (image : List ℕ) × MayLeave new image) where

@@ -1,5 +1,6 @@
+use Rattle.std.proofs.Common.{arith}
 use Rattle.engine_core.proofs.Statuses.{at_an_end, at_a_read, at_no_memory, told_of}
-use Rattle.live_core.proofs.Served.{answered_as, no_end_unserved}
+use Rattle.live_core.proofs.Served.{answered_as}
 use Rattle.live_core.proofs.serving.answer.Goals as goal
 
 pub returns : goal.returns
@@ -13,6 +14,6 @@ returns g c = answered_as c.answer_of.ensures (record {
   starved = λ start input same reads is. c.serve_input.ensures.starved start input same reads (at_no_memory c.serve_input.result c.serve_input.ensures.end is);
   bytes = c.serve_input.ensures.bytes;
   continues = c.serve_input.ensures.continues;
-  served = no_end_unserved c.serve_input.result c.serve_input.ensures.end;
+  served = grind (arith, c.serve_input.ensures.end);
   told = told_of c.serve_input.result _ _ c.serve_input.ensures.end c.serve_input.ensures.causes;
 })
