@@ -1,6 +1,5 @@
 pub mod Again
 pub mod Recovering
-pub mod Finishing
 pub mod OneDamage
 pub mod Restoring
 pub mod Regaining

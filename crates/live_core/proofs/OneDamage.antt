@@ -1,7 +1,7 @@
 -- A journal is damaged at one place, and then it holds no lawful list.
-use Rattle.std.proofs.Common.{◌≡◌, ◌≢◌, ◌⊎◌, inl, inr, ℕ, List, [], ◌∷◌, ◌++◌, length, drop, sym, ap, subst, ◌∙◌, append_assoc, length-append, arith}
+use Rattle.std.proofs.Common.{◌≡◌, ◌≢◌, ◌⊎◌, inl, inr, ⊎_elim, ℕ, List, [], ◌∷◌, ◌++◌, length, drop, sym, ap, subst, ◌∙◌, append_assoc, length-append, arith}
 use Rattle.std.specs.Prelude.{None, reverse}
-use Rattle.std.proofs.lemmas.List.{append-nil, reverse-append, nil_from_length}
+use Rattle.std.proofs.lemmas.List.{append-nil, nil_from_length}
 use Rattle.wire_in.specs.declared.record.Record.{Record}
 use Rattle.journal_core.specs.Layout.{LeadsTo, Opens, Holds, records_of, with_batch}
 use Rattle.journal_core.proofs.OneList.{GoesOn, all_of, closed_gate, ends_there, no_batch_follows, one_gate, one_limit, one_on}
@@ -9,6 +9,7 @@ use Rattle.journal_core.proofs.Readable.{leads_first, leads_undamaged, records_f
 use Rattle.rulebook.specs.Admission.{verdict, IsLawful}
 use Rattle.live_core.specs.Damage.{IsDamagedAt, HasBadRecord, HasBadForm}
 use Rattle.live_core.specs.InternalRecovery.{IsPart, Covers}
+use Rattle.live_core.proofs.Recovering.{in_parts}
 
 lawful_at : (capacity : ℕ) (later : List Record) (x : Record) (before : List Record) → IsLawful capacity (later ++ x ∷ before) → verdict capacity before x ≡ None
 lawful_at capacity [] x before lawful = lawful.0
@@ -25,12 +26,11 @@ lawful_until capacity (m ∷ more) records (y ∷ later) x before is refused law
 -- What stands first among batches that no batch follows is among their records.
 covers_all : (disk : List ℕ) (capacity gate : ℕ) (batches : List (List Record)) (rest : List ℕ) → LeadsTo capacity gate batches disk rest
     → ((b : List Record) (tail : List ℕ) → ¬ Opens b rest tail) → Covers disk (records_of batches)
-covers_all disk capacity gate batches rest leads no_batch limit records first lawful =
-    let all = all_of leads first.leads no_batch in
+covers_all disk capacity gate batches rest leads no_batch limit at first more records stands part lawful =
+    let all = all_of leads stands no_batch in
     record {
-      more = records_of all.0 ++ first.part.more;
-      whole = append_assoc (records_of all.0) first.part.more records ∙ ap (λ (r : List Record). records_of all.0 ++ r) first.part.whole
-          ∙ sym (records_first first.batches all.0) ∙ ap records_of (sym all.1);
+      more = records_of all.0 ++ part.more;
+      whole = append_assoc (records_of all.0) part.more records ∙ ap (λ (r : List Record). records_of all.0 ++ r) part.whole ∙ sym (records_first first all.0) ∙ ap records_of (sym all.1);
     }
 
 pub covers_held : (disk : List ℕ) (capacity : ℕ) (held : List Record) → Holds disk capacity held → Covers disk held
@@ -52,10 +52,8 @@ module _ (disk : List ℕ) (capacity : ℕ) (batches : List (List Record)) (befo
     where
       backwards : with_batch (records_of batches) (bad.good ++ bad.bad ∷ bad.later) ≡ reverse bad.later ++ bad.bad ∷ with_batch (records_of batches) bad.good
       backwards =
-          ap (λ (r : List Record). r ++ records_of batches)
-          (reverse-append bad.good (bad.bad ∷ bad.later) ∙ ap (λ (r : List Record). r ++ reverse bad.good) (reverse-append (bad.bad ∷ []) bad.later))
-          ∙ append_assoc (reverse bad.later ++ bad.bad ∷ []) (reverse bad.good) (records_of batches)
-          ∙ append_assoc (reverse bad.later) (bad.bad ∷ []) (reverse bad.good ++ records_of batches)
+          in_parts (records_of batches) bad.good (bad.bad ∷ bad.later)
+          ∙ in_parts (with_batch (records_of batches) bad.good) (bad.bad ∷ []) bad.later
 
   not_lawful : (later : List (List Record)) (extra : List Record) → IsLawful capacity (extra ++ records_of (with_bad ++ later)) → ⊥
   not_lawful later extra lawful =
@@ -63,46 +61,42 @@ module _ (disk : List ℕ) (capacity : ℕ) (batches : List (List Record)) (befo
       bad.refused (lawful_at capacity (extra ++ (records_of later ++ reverse bad.later)) bad.bad before (subst (λ (r : List Record). IsLawful capacity r) is lawful))
 
   covers_bad : Covers disk before
-  covers_bad limit records first lawful = by (one_on bad.leads first.leads) where
-    covered : (a b : List (List Record)) → with_bad ++ a ≡ first.batches ++ b → IsPart records before
-    covered a b is =
-        lawful_until capacity (records_of b ++ first.part.more) records (records_of a ++ reverse bad.later) bad.bad before
-        (append_assoc (records_of b) first.part.more records ∙ ap (λ (r : List Record). records_of b ++ r) first.part.whole
-        ∙ sym (records_first first.batches b) ∙ ap records_of (sym is) ∙ has_bad a)
-        bad.refused (subst (λ (l : ℕ). IsLawful l records) (one_limit first.leads bad.leads) lawful)
-
-    by : GoesOn with_bad first.batches bad.rest first.rest ⊎ GoesOn first.batches with_bad first.rest bad.rest → IsPart records before
-    by (inl on) = covered on.later [] (sym on.same ∙ sym (append-nil first.batches))
-    by (inr on) = covered [] on.later (append-nil with_bad ∙ on.same)
+  covers_bad limit at first rest records stands part lawful =
+      ⊎_elim (λ on. covered on.later [] (sym on.same ∙ sym (append-nil first))) (λ on. covered [] on.later (append-nil with_bad ∙ on.same)) (one_on bad.leads stands)
+    where
+      covered : (a b : List (List Record)) → with_bad ++ a ≡ first ++ b → IsPart records before
+      covered a b is =
+          lawful_until capacity (records_of b ++ part.more) records (records_of a ++ reverse bad.later) bad.bad before
+          (append_assoc (records_of b) part.more records ∙ ap (λ (r : List Record). records_of b ++ r) part.whole
+          ∙ sym (records_first first b) ∙ ap records_of (sym is) ∙ has_bad a)
+          bad.refused (subst (λ (l : ℕ). IsLawful l records) (one_limit stands bad.leads) lawful)
 
 -- what stands before the damage covers what stands first
 pub covers_damaged : (capacity at : ℕ) (before : List Record) (disk : List ℕ) → IsDamagedAt capacity at before disk → Covers disk before
-covers_damaged capacity at before disk d = by d.why where
-  by : HasBadForm d.batches before d.rest ⊎ HasBadRecord capacity d.batches before disk → Covers disk before
-  by (inl form) = subst (λ (r : List Record). Covers disk r) (sym form.same) (covers_all disk capacity at d.batches d.rest d.leads form.damaged.no_batch)
-  by (inr bad) = covers_bad disk capacity d.batches before bad
+covers_damaged capacity at before disk d =
+    ⊎_elim (λ (form : HasBadForm d.batches before d.rest). subst (λ (r : List Record). Covers disk r) (sym form.same) (covers_all disk capacity at d.batches d.rest d.leads form.damaged.no_batch))
+    (covers_bad disk capacity d.batches before) d.why
 
 pub lawful_undamaged : (capacity at : ℕ) (before : List Record) (disk : List ℕ) (limit : ℕ) (held : List Record) → IsDamagedAt capacity at before disk → Holds disk limit held → IsLawful limit held → ⊥
-lawful_undamaged capacity at before disk limit held d holds lawful = by d.why where
-  by : HasBadForm d.batches before d.rest ⊎ HasBadRecord capacity d.batches before disk → ⊥
-  by (inl form) = leads_undamaged disk capacity at d.batches d.rest limit held d.leads holds form.damaged
-  by (inr bad) =
-      let first = leads_first disk capacity bad.next _ bad.rest limit held bad.leads holds in
-      not_lawful disk capacity d.batches before bad first.1.0 [] (subst (λ (r : List Record). IsLawful capacity r) (sym first.1.1) (subst (λ (l : ℕ). IsLawful l held) (sym first.0) lawful))
+lawful_undamaged capacity at before disk limit held d holds lawful =
+    ⊎_elim (λ (form : HasBadForm d.batches before d.rest). leads_undamaged disk capacity at d.batches d.rest limit held d.leads holds form.damaged) by d.why
+  where
+    by : HasBadRecord capacity d.batches before disk → ⊥
+    by bad =
+        let first = leads_first disk capacity bad.next _ bad.rest limit held bad.leads holds in
+        not_lawful disk capacity d.batches before bad first.1.0 [] (subst (λ (r : List Record). IsLawful capacity r) (sym first.1.1) (subst (λ (l : ℕ). IsLawful l held) (sym first.0) lawful))
 
 -- the records before a damage begin with those of its batches
 before_all : (capacity at : ℕ) (before : List Record) (disk : List ℕ) (d : IsDamagedAt capacity at before disk) → (extra : List Record) × (before ≡ extra ++ records_of d.batches)
-before_all capacity at before disk d = by d.why where
-  by : HasBadForm d.batches before d.rest ⊎ HasBadRecord capacity d.batches before disk → (extra : List Record) × (before ≡ extra ++ records_of d.batches)
-  by (inl form) = ([], form.same)
-  by (inr bad) = (reverse bad.good, bad.same)
+before_all capacity at before disk d =
+    ⊎_elim (λ (form : HasBadForm d.batches before d.rest). ([], form.same)) (λ (bad : HasBadRecord capacity d.batches before disk). (reverse bad.good, bad.same)) d.why
 
 -- no damage stands behind another
 none_behind : (capacity at at' : ℕ) (before before' : List Record) (disk : List ℕ) (d : IsDamagedAt capacity at before disk) (e : IsDamagedAt capacity at' before' disk) → GoesOn d.batches e.batches d.rest e.rest → at ≡ at'
 none_behind capacity at at' before before' disk d e on = one_gate d.leads e.leads (by d.why) where
   by : HasBadForm d.batches before d.rest ⊎ HasBadRecord capacity d.batches before disk → d.rest ≡ e.rest
   by (inl form) = (no_batch_follows on form.damaged.no_batch).1
-  by (inr bad) = at_record (one_on bad.leads e.leads) where
+  by (inr bad) = ⊎_elim (λ next. absurd (inside next.later next.same)) (λ next. shorter next.later next.same) (one_on bad.leads e.leads) where
     inside : (later : List (List Record)) → e.batches ≡ with_bad disk capacity d.batches before bad ++ later → ⊥
     inside later is =
         let all = before_all capacity at' before' disk e in
@@ -117,16 +111,8 @@ none_behind capacity at at' before before' disk d e on = one_gate d.leads e.lead
         (omega (arith, sizes, length-append d.batches ((bad.good ++ bad.bad ∷ bad.later) ∷ []), length-append e.batches (b ∷ later), ap length on.same, length-append d.batches on.later)) in
         (ends_there on none).1
 
-    at_record : GoesOn (with_bad disk capacity d.batches before bad) e.batches bad.rest e.rest ⊎ GoesOn e.batches (with_bad disk capacity d.batches before bad) e.rest bad.rest → d.rest ≡ e.rest
-    at_record (inl next) = absurd (inside next.later next.same)
-    at_record (inr next) = shorter next.later next.same
-
 -- a disk is damaged at one place
 pub one_damage : (capacity capacity' at at' : ℕ) (before before' : List Record) (disk : List ℕ) → IsDamagedAt capacity at before disk → IsDamagedAt capacity' at' before' disk → at ≡ at'
-one_damage capacity capacity' at at' before before' disk d other = by (subst (λ (l : ℕ). IsDamagedAt l at' before' disk) (one_limit other.leads d.leads) other) where
-  either : (e : IsDamagedAt capacity at' before' disk) → GoesOn d.batches e.batches d.rest e.rest ⊎ GoesOn e.batches d.batches e.rest d.rest → at ≡ at'
-  either e (inl on) = none_behind capacity at at' before before' disk d e on
-  either e (inr on) = sym (none_behind capacity at' at before' before disk e d on)
-
-  by : IsDamagedAt capacity at' before' disk → at ≡ at'
-  by e = either e (one_on d.leads e.leads)
+one_damage capacity capacity' at at' before before' disk d other =
+    let e = subst (λ (l : ℕ). IsDamagedAt l at' before' disk) (one_limit other.leads d.leads) other in
+    ⊎_elim (none_behind capacity at at' before before' disk d e) (λ on. sym (none_behind capacity at' at before' before disk e d on)) (one_on d.leads e.leads)

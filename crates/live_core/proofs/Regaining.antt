@@ -1,25 +1,22 @@
 -- An append by its keeper, and what a stop of it leaves.
-use Rattle.std.proofs.Common.{◌≡◌, ◌⊎◌, inl, inr, ℕ, ◌+◌, ◌≤◌, List, length, sym, subst, ◌∙◌, arith}
-use Rattle.std.specs.Prelude.{Option, Some, option_map}
+use Rattle.std.proofs.Common.{◌≡◌, inl, inr, ⊎_elim, ℕ, ◌+◌, List, length, sym, subst, ◌∙◌, arith}
+use Rattle.std.specs.Prelude.{Some, option_map}
 use Rattle.host_core.specs.Outside.{Outside, MayLeave, IsSettled, written}
 use Rattle.host_core.proofs.Known.{mapped}
 use Rattle.wire_in.specs.declared.record.Record.{Record}
-use Rattle.journal_core.specs.Layout.{Holds, frames_of, stored_batch, with_batch}
+use Rattle.journal_core.specs.Layout.{frames_of, stored_batch}
 use Rattle.journal_core.specs.Journal.{JournalState, HasBytes, Appends}
 use Rattle.journal_core.specs.Extended.{IsGrown}
 use Rattle.journal_core.proofs.Extending.{grown_behind}
 use Rattle.engine_core.specs.Serving.{Keeps}
-use Rattle.engine_core.specs.Sessions.{Start, IsSafe}
 use Rattle.live_core.specs.InternalKeeping.{Regains}
 
 pub kept_by : (journal : JournalState) (records batch : List Record) (old : Outside) (image bytes : List ℕ) → Appends journal.capacity journal.gate records batch old image bytes
     → Keeps (λ r i. Regains journal old r i) records batch old image bytes
-kept_by journal records batch old image bytes stop = record { either = by stop.grown; sent = stop.sent }
-  where
-    by : IsGrown journal.capacity journal.gate records stop.before image ⊎ IsGrown journal.capacity journal.gate (with_batch records batch) stop.before image
-        → Regains journal old records image ⊎ Regains journal old (with_batch records batch) image
-    by (inl same) = inl (record { before = stop.before; was = stop.was; grown = same })
-    by (inr more) = inr (record { before = stop.before; was = stop.was; grown = more })
+kept_by journal records batch old image bytes stop = record {
+  either = ⊎_elim (λ same. inl (record { before = stop.before; was = stop.was; grown = same })) (λ more. inr (record { before = stop.before; was = stop.was; grown = more })) stop.grown;
+  sent = stop.sent;
+}
 
 -- what grew from the image after an append grew from the one before it
 pub regained_on : (old new : Outside) (before after : JournalState) (batch : List Record) → after.capacity ≡ before.capacity → after.gate ≡ before.gate + (length (frames_of batch) + 5)
@@ -31,20 +28,5 @@ regained_on old new before after batch limits gates has settled is passes record
       before = from.0;
       was = passes from.0 from.1;
       grown = grown_behind batch (omega (arith, has from.0 from.1))
-          (subst (λ (d : List ℕ). IsGrown before.capacity (before.gate + (length (frames_of batch) + 5)) records d image) (sym from.2)
-          (subst (λ (g : ℕ). IsGrown before.capacity g records r.before image) gates
-          (subst (λ (c : ℕ). IsGrown c after.gate records r.before image) limits r.grown)));
+          (subst (λ (d : List ℕ). IsGrown before.capacity (before.gate + (length (frames_of batch) + 5)) records d image) (sym from.2) (rw (limits, gates) at r.grown));
     }
-
--- what is regained is held
-pub as_held : {journal : JournalState} {start : Start} {bodies : List (List ℕ)} {now : Outside} {image bytes : List ℕ} → IsSafe (λ r i. Regains journal now r i) start bodies image bytes
-    → IsSafe (λ records image. Holds image journal.capacity records) start bodies image bytes
-as_held safe = record {
-  count = safe.count;
-  within = safe.within;
-  recovered = record { gate = safe.recovered.grown.next; held = safe.recovered.grown.holds };
-  since = safe.since;
-  unsent = safe.unsent;
-  sent = safe.sent;
-  prefix = safe.prefix;
-}

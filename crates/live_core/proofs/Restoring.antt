@@ -1,5 +1,5 @@
 -- A session over a journal that was read to its end, or was not.
-use Rattle.std.proofs.Common.{◌≡◌, inl, inr, ℕ, List, [], ◌++◌, refl, sym, ap, subst, ◌∙◌, append_assoc}
+use Rattle.std.proofs.Common.{◌≡◌, inl, inr, ℕ, List, [], ◌++◌, refl, sym, ap, subst, ◌∙◌}
 use Rattle.std.specs.Prelude.{Option, Some, IsTrue}
 use Rattle.host_core.specs.declared.status.Status.{Status}
 use Rattle.host_core.specs.declared.status.Status.TheVariants.{NoJournal, NoMemory}
@@ -18,7 +18,8 @@ use Rattle.engine_core.specs.Pending.{SendsPrefix}
 use Rattle.engine_core.specs.Sessions.{expected}
 use Rattle.engine_core.specs.Serving.{Reads}
 use Rattle.engine_core.proofs.Pending.{sends_none}
-use Rattle.engine_core.proofs.Expecting.{expected-none, safe_of}
+use Rattle.engine_core.proofs.Expecting.{expected-none, safe_sends}
+use Rattle.engine_core.proofs.Sending.{prefix_of_longer}
 use Rattle.engine_core.proofs.Beginning as engine
 use Rattle.engine_core.specs.Unwritten.{WritesNothing}
 use Rattle.engine_core.proofs.Unwritten.{sending, still_nothing}
@@ -44,15 +45,13 @@ module _ (begin : Begin) {input : List ℕ} {old : Outside} (begins : Begins beg
   safe_opening : (from : Option ℕ) → begin.from ≡ from → {mid : Outside} → mid.disk ≡ old.disk → IsSettled mid → (image bytes : List ℕ)
       → SendsPrefix (Some begin.sent) (again from begin.held) mid image bytes → IsSafeOrPending old begin [] image bytes
   safe_opening from same {mid} disk settled image bytes stop =
-      inl (safe_of (λ records image. Holds image begin.capacity records) (start_of begin) [] [] image bytes stop.sent (stop.rest ++ spelling (hello begin.held)) held stop.known whole)
+      inl (safe_sends (λ records image. Holds image begin.capacity records) (start_of begin) [] mid image bytes held (prefix_of_longer (again from begin.held) (spelling (hello begin.held)) _ whole image bytes stop.was stop))
     where
       held : Holds image begin.capacity begin.held
       held = subst (λ (d : List ℕ). Holds d begin.capacity begin.held) (one_disk (disk ∙ begins.disk_known) (settled.only image stop.was)) begins.holds
 
-      whole : stop.sent ++ (stop.rest ++ spelling (hello begin.held)) ≡ expected (start_of begin) []
-      whole = sym (append_assoc stop.sent stop.rest (spelling (hello begin.held)))
-          ∙ ap (λ (b : List ℕ). b ++ spelling (hello begin.held)) (stop.prefix ∙ ap (λ (f : Option ℕ). again f begin.held) (sym same))
-          ∙ sym (expected-none (start_of begin))
+      whole : again from begin.held ++ spelling (hello begin.held) ≡ expected (start_of begin) []
+      whole = ap (λ (f : Option ℕ). again f begin.held ++ spelling (hello begin.held)) (sym same) ∙ sym (expected-none (start_of begin))
 
 -- while the disk is only read, nothing of a text is sent
 none_sent : {old mid : Outside} → OnlyReadsDisk old mid → (text : List ℕ) → Elapses old mid (SendsPrefix old.sent text old)
@@ -80,11 +79,11 @@ unbegun here from status {old} {mid} reads tells why = record {
 module _ (from : Option ℕ) {old mid new : Outside} {recovery : Recovery} (reads : OnlyReadsDisk old mid) (none : NoFault old mid)
     (begun : (from : Option ℕ) (disk : List ℕ) → mid.disk ≡ Some disk → Recovers (again from) mid.sent disk recovery mid) (keeps : OnlyRecovers mid new)
     (moments : (begin : Option (List ℕ)) (disk : List ℕ) → Recovers (again from) begin disk recovery mid → SendsAgain from begin disk mid new) where
-  begun_at : (disk : List ℕ) → old.disk ≡ Some disk → Recovers (again from) old.sent disk recovery mid
-  begun_at disk known = subst (λ (b : Option (List ℕ)). Recovers (again from) b disk recovery mid) reads.sent (begun from disk (reads.disk ∙ known))
+  begun_at : (sent : Option (List ℕ)) (disk : List ℕ) → old.sent ≡ sent → old.disk ≡ Some disk → Recovers (again from) sent disk recovery mid
+  begun_at sent disk is known = subst (λ (b : Option (List ℕ)). Recovers (again from) b disk recovery mid) (reads.sent ∙ is) (begun from disk (reads.disk ∙ known))
 
-  started : {begin : Begin} {input : List ℕ} → (begins : Begins begin input old) → Recovers (again from) (Some begin.sent) begins.disk recovery mid
-  started begins = subst (λ (b : Option (List ℕ)). Recovers (again from) b begins.disk recovery mid) begins.sent_known (begun_at begins.disk begins.disk_known)
+  abbrev started : {begin : Begin} {input : List ℕ} → (begins : Begins begin input old) → Recovers (again from) (Some begin.sent) begins.disk recovery mid
+  started begins = begun_at _ begins.disk begins.sent_known begins.disk_known
 
   start_moments : (begin : Begin) (input : List ℕ) → begin.from ≡ from → Begins begin input old → Elapses old new (IsSafeOrPending old begin [])
   start_moments begin input same begins =
@@ -104,14 +103,14 @@ module _ (from : Option ℕ) {old mid new : Outside} {recovery : Recovery} (read
     moments = start_moments;
     nothing = start_nothing;
     damage_moments = λ capacity at before disk known damaged.
-        sends_then (none_sent reads (again from before)) (moments old.sent disk (begun_at disk known) before (covers_damaged capacity at before disk damaged));
+        sends_then (none_sent reads (again from before)) (moments old.sent disk (begun_at old.sent disk refl known) before (covers_damaged capacity at before disk damaged));
     no_header = λ disk known missing. absurd (header disk (reads.disk ∙ known) missing);
     no_header_starved = λ disk known missing is. absurd (header disk (reads.disk ∙ known) missing);
     headless = λ disk known missing. absurd (header disk (reads.disk ∙ known) missing);
     unsent = λ is. absurd (why_at _ _ _ mid new NoJournal is why).1;
     keeps = recovers_on (only_read reads) keeps;
-    hinders = hinders_on _ _ _ _ _ _ old mid new status none (λ at there disk known. there old.sent disk (begun_at disk known)) (λ missing. absurd missing)
-        (λ hungry. inr (λ disk known. hungry old.sent disk (begun_at disk known))) why;
+    hinders = hinders_on _ _ _ _ _ _ old mid new status none (λ at there disk known. there old.sent disk (begun_at old.sent disk refl known)) (λ missing. absurd missing)
+        (λ hungry. inr (λ disk known. hungry old.sent disk (begun_at old.sent disk refl known))) why;
   }
 
   -- to its end
@@ -148,7 +147,7 @@ module _ (from : Option ℕ) {old mid new : Outside} {recovery : Recovery} (read
 
     sound : (disk : List ℕ) → old.disk ≡ Some disk → IsSound disk
     sound disk known =
-        let done = all_read old.sent disk (begun_at disk known) in
+        let done = all_read old.sent disk (begun_at old.sent disk refl known) in
         record { capacity = after.scan.capacity; held = records_of done.batches; holds = read_holds disk after.scan done.batches done.read is_closed; lawful = done.resumes.lawful }
 
     pub restored : IsReading after.scan after.engine 0 new.disk → NoFault mid new → IsRestored from serving old new

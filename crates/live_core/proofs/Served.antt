@@ -1,5 +1,5 @@
 -- What a session did, whatever ended it.
-use Rattle.std.proofs.Common.{◌≡◌, ◌≢◌, ◌⊎◌, inl, inr, ℕ, ◌<◌, List, [], ◌++◌, length, take, drop, refl, sym, ap, subst, ◌∙◌, append_assoc, arith}
+use Rattle.std.proofs.Common.{◌≡◌, ◌≢◌, ◌⊎◌, inl, inr, ⊎_elim, ℕ, List, [], ◌++◌, length, take, drop, refl, sym, ap, subst, ◌∙◌, append_assoc, arith}
 use Rattle.std.specs.Prelude.{Option, Some, min, Result, IfOk}
 use Rattle.std.proofs.lemmas.List.{append-nil, take-append-drop}
 use Rattle.host_core.specs.declared.status.Status.{Status}
@@ -12,20 +12,20 @@ use Rattle.host_core.proofs.Chains.{reads_nothing}
 use Rattle.wire_in.specs.declared.record.Record.{Record}
 use Rattle.wire_in.specs.Cutting.{bodies_of}
 use Rattle.journal_core.specs.Layout.{Holds, HoldsTo}
-use Rattle.journal_core.specs.Extended.{IsGrown}
+use Rattle.journal_core.specs.Extended.{Extends, IsGrown}
 use Rattle.engine_core.proofs.Reading.{held_all}
 use Rattle.journal_core.specs.Journal.{JournalState, IsAtRest}
 use Rattle.journal_core.specs.Scan.{HasNoHeader}
 use Rattle.journal_core.proofs.OneList.{alone}
 use Rattle.journal_core.proofs.Readable.{readable}
 use Rattle.engine_core.specs.declared.session.Session.{Session}
-use Rattle.engine_core.specs.Ends.{IsEnd, ReadsAtMost, Told, answer_of, end_of}
+use Rattle.engine_core.specs.Ends.{IsEnd, ReadsAtMost, Told, answer_of}
 use Rattle.engine_core.specs.Pending.{SendsPrefix, SentPrefix}
 use Rattle.engine_core.specs.Serving.{Reads}
 use Rattle.engine_core.specs.Sessions as engine
 use Rattle.engine_core.specs.Sessions.{Prompt, expected}
 use Rattle.engine_core.proofs.Asking.{no_ask, more_asks}
-use Rattle.engine_core.proofs.Expecting.{safe_of, safe_more, added, expected-more}
+use Rattle.engine_core.proofs.Expecting.{safe_of, safe_more, safe_further, added, expected-more}
 use Rattle.engine_core.proofs.Pending.{prefix_sent}
 use Rattle.engine_core.proofs.Taken.{takes_none, takes_between}
 use Rattle.engine_core.proofs.Unwritten.{still_nothing}
@@ -34,12 +34,11 @@ use Rattle.live_core.specs.declared.recovery.Serving.{Serving}
 use Rattle.live_core.specs.Safe.{Begin, Begins, start_of, IsSafe, IsSafeOrPending}
 use Rattle.live_core.specs.Damage.{IsDamagedAt, StopsAtDamage}
 use Rattle.live_core.specs.Ends.{Answered, IsKept, IsUnserved, TellsDamage}
-use Rattle.live_core.specs.Starved.{StarvedAtRecord}
-use Rattle.live_core.specs.Written.{Written, HasGrown}
+use Rattle.live_core.specs.Written.{HasGrown}
 use Rattle.live_core.specs.Served.{Served}
 use Rattle.live_core.specs.InternalKeeping.{Regains, held_now}
-use Rattle.live_core.specs.InternalRecovery.{again, Covers, StarvesAgain, HasDamage, Hinders}
-use Rattle.live_core.specs.InternalServing.{IsSound, IsRestored, IsUnread, IsAnswered}
+use Rattle.live_core.specs.InternalRecovery.{again, StarvesAgain, HasDamage, Hinders}
+use Rattle.live_core.specs.InternalServing.{IsSound, IsRestored, IsUnread, Serves, IsAnswered}
 use Rattle.live_core.proofs.OneDamage.{covers_held, covers_damaged, one_damage, lawful_undamaged}
 use Rattle.live_core.proofs.Recovering.{why_at}
 use Rattle.live_core.proofs.Restoring.{one_disk, unbegun}
@@ -48,8 +47,7 @@ use Rattle.live_core.proofs.Restoring.{one_disk, unbegun}
 
 -- what is allowed before the first frame is allowed for any
 first_stops : (start : Outside) (begin : Begin) (bodies : List (List ℕ)) (image bytes : List ℕ) → IsSafeOrPending start begin [] image bytes → IsSafeOrPending start begin bodies image bytes
-first_stops start begin bodies image bytes (inl safe) = inl (safe_more (λ records image. Holds image begin.capacity records) (start_of begin) [] bodies image bytes safe)
-first_stops start begin bodies image bytes (inr pending) = inr pending
+first_stops start begin bodies image bytes = ⊎_elim (λ safe. inl (safe_more (λ records image. Holds image begin.capacity records) (start_of begin) [] bodies image bytes safe)) (λ pending. inr pending)
 
 -- where nothing was pending, each stop is safe
 settle : {begin : Begin} {input : List ℕ} (start : Outside) → Begins begin input start → IsSettled start → (bodies : List (List ℕ)) (image bytes : List ℕ)
@@ -78,54 +76,27 @@ part_of start begin bodies image bytes (inr pending) =
 
 -- The answers.
 
--- a session without a fault, over a lawful journal, for which there is memory, comes to an end
-completes : (s : Status) (old new : Outside) → Told s old new → s ≢ NoMemory → s ≢ NoJournal → ((at : ℕ) → s ≢ Damaged at)
-    → ¬ (Rose old.read_faults new.read_faults) → ¬ (Rose old.send_faults new.send_faults) → ¬ (Rose old.disk_faults new.disk_faults) → IsEnd s
-completes s old new told memory journal whole no_reads no_sends no_disks = grind arith
-
-told_after : {old mid : Outside} (new : Outside) (s : Status) → NoFault old mid → Told s mid new → Told s old new
-told_after new s none told = grind (arith, faultless)
-
-hinders_told : (damaged : ℕ → Type 0) (missing starved : Type 0) (s : Status) (old new : Outside) → Hinders damaged missing starved s old new → Told s old new
-hinders_told damaged missing starved s old new why = grind arith
-
-hinders_no_end : (damaged : ℕ → Type 0) (missing starved : Type 0) (s : Status) (old new : Outside) → Hinders damaged missing starved s old new → IsEnd s → ⊥
-hinders_no_end damaged missing starved s old new why end = grind arith
-
 hinders_damage : (damaged : ℕ → Type 0) (missing starved : Type 0) (s : Status) (old new : Outside) (at : ℕ) → Hinders damaged missing starved s old new → ¬ missing → ((other : ℕ) → damaged other → other ≡ at)
     → TellsDamage at s
 hinders_damage damaged missing starved (Damaged other) old new at why has place = inl (ap (λ (k : ℕ). Damaged k) (place other why.1))
 hinders_damage damaged missing starved s old new at why has place = grind arith
 
--- where memory was short while the journal was read, by one of the lists that cover the disk
-starved_among : {here : Type 0} (from : Option ℕ) (all : List Record) {disk : List ℕ} (old new : Outside) → old.disk ≡ Some disk → Covers disk all
-    → here ⊎ ((disk : List ℕ) → old.disk ≡ Some disk → StarvesAgain from old.sent disk new) → here ⊎ StarvedAtRecord from all old.sent new.sent
-starved_among from all old new known covers (inl before) = inl before
-starved_among from all {disk} old new known covers (inr hungry) = inr (hungry disk known all covers)
-
-or_else : {A B : Type 0} (C : Type 0) → A ⊎ B → A ⊎ B ⊎ C
-or_else C (inl a) = inl a
-or_else C (inr b) = inr (inl b)
-
 pub answered_as : {most : ℕ} {before after : JournalState} {session : Session} {old new : Outside} {s same : Status} → same ≡ s → IsAnswered most before after session s old new
     → IsAnswered most before after session same old new
 answered_as {most} {before} {after} {session} {old} {new} is = subst (λ (s : Status). IsAnswered most before after session s old new) (sym is)
-
-pub no_end_unserved : (result : Result Status Fault) → IfOk result IsEnd → IsUnserved (answer_of result) → ⊥
-no_end_unserved result end unserved = grind arith
 
 module _ (here : Type 0) (from : Option ℕ) (most : ℕ) (status : Status) (old new : Outside)
     (sent_now : (image bytes : List ℕ) → new.leaves new.moment image bytes → Agrees new.sent bytes) (read_passes : (disk : List ℕ) → new.disk ≡ Some disk → MayLeave new disk)
     (stops_now : (sent : List ℕ) → new.sent ≡ Some sent → (image : List ℕ) × MayLeave new image) where
   -- A session, by its stops and its status, and by what it left where no session was served.
-  module _ (moments : (begin : Begin) (input : List ℕ) → begin.from ≡ from → Begins begin input old → Elapses old new (IsSafeOrPending old begin (bodies_of (take most input))))
+  module _ (serves : (begin : Begin) (input : List ℕ) → begin.from ≡ from → Begins begin input old → Serves here from begin input most status old new)
       (continues : Continues old new) (told : Told status old new)
       (unserved : IsUnserved status → IsUnread here from status old new) (unsound : (disk : List ℕ) → old.disk ≡ Some disk → ¬ IsSound disk → IsUnread here from status old new) where
     told_at : (s : Status) → status ≡ s → Told s old new
     told_at s is = subst (λ (s : Status). Told s old new) is told
 
     ends : (begin : Begin) (input : List ℕ) → begin.from ≡ from → Begins begin input old → Ends (IsSafeOrPending old begin (bodies_of (take most input))) new
-    ends begin input same begins = returned (moments begin input same begins) continues sent_now read_passes begins.disk begin.sent begins.disk_known begins.sent_known
+    ends begin input same begins = returned (serves begin input same begins).moments continues sent_now read_passes begins.disk begin.sent begins.disk_known begins.sent_known
 
     part : (begin : Begin) (input : List ℕ) → begin.from ≡ from → Begins begin input old → SentPrefix old.sent new.sent (expected (start_of begin) (bodies_of (take most input)))
     part begin input same begins =
@@ -162,22 +133,16 @@ module _ (here : Type 0) (from : Option ℕ) (most : ℕ) (status : Status) (old
         let damage = stops at is begins.disk begins.disk_known in
         lawful_undamaged damage.capacity at damage.before begins.disk begin.capacity begin.held damage.damaged begins.holds begins.lawful
 
-    pub served : ((begin : Begin) (input : List ℕ) → begin.from ≡ from → Begins begin input old → IsEnd status → (status ≡ end_of most input) × Answered begin input (min most (length input)) new)
-        → ((begin : Begin) (input : List ℕ) → begin.from ≡ from → Begins begin input old → status ≡ ReadFault → (count : ℕ) × (count < most) × Answered begin input count new)
-        → ((begin : Begin) (input : List ℕ) → begin.from ≡ from → Begins begin input old → Prompt (start_of begin) input old.asks new.asks)
-        → ((begin : Begin) (input : List ℕ) → begin.from ≡ from → Begins begin input old → status ≡ NoMemory
-        → here ⊎ StarvedAtRecord from begin.held old.sent new.sent ⊎ engine.Starved (start_of begin) (bodies_of (take most input)) new)
-        → Written from most old new
-        → ReadsAtMost most old.input new.input → Served here from most status old new
-    served exact unread prompt starved written bytes = record {
-      moments = moments;
-      settled = λ begin input same begins settled. widened (moments begin input same begins) _ (settle old begins settled (bodies_of (take most input)));
+    pub served : Extends old new → ReadsAtMost most old.input new.input → Served here from most status old new
+    served extends bytes = record {
+      moments = λ begin input same begins. (serves begin input same begins).moments;
+      settled = λ begin input same begins settled. widened (serves begin input same begins).moments _ (settle old begins settled (bodies_of (take most input)));
       at_return = ends;
-      exact = exact;
-      unread = unread;
+      exact = λ begin input same begins. (serves begin input same begins).exact;
+      unread = λ begin input same begins. (serves begin input same begins).unread;
       part = part;
-      prompt = prompt;
-      starved = starved;
+      prompt = λ begin input same begins. (serves begin input same begins).prompt;
+      starved = λ begin input same begins. (serves begin input same begins).starved;
       no_journal = λ is. (why NoJournal is tt).1;
       no_header = λ disk known none. ((headless disk known none).no_header disk known none).0;
       no_header_starved = λ disk known none. (headless disk known none).no_header_starved disk known none;
@@ -195,14 +160,19 @@ module _ (here : Type 0) (from : Option ℕ) (most : ℕ) (status : Status) (old
       damage_part = damage_part;
       damage_moments = λ capacity at before disk known damage. (damaged known damage).damage_moments capacity at before disk known damage;
       damage_starved = λ capacity at before disk known damage is.
-          starved_among from before old new known (covers_damaged capacity at before disk damage) (why_at _ _ _ old new NoMemory is (damaged known damage).hinders).1;
+          ⊎_elim (λ now. inl now) (λ hungry. inr (hungry disk known before (covers_damaged capacity at before disk damage))) (why_at _ _ _ old new NoMemory is (damaged known damage).hinders).1;
       untouched = λ un. (unserved un).keeps.disk;
       input_is_left = λ un. (unserved un).keeps.input;
-      written = written;
+      written = record {
+        extends = extends;
+        unwritten = λ begin input same begins. (serves begin input same begins).unwritten;
+        headless = λ disk known none. (headless disk known none).headless disk known none;
+        stops = λ begin input same begins. (serves begin input same begins).stops;
+      };
       bytes = bytes;
-      complete = λ begin input begins memory.
-          completes status old new told memory
-          (λ is. readable.header begins.disk begin.capacity begin.held begins.holds ((why NoJournal is tt).1 begins.disk begins.disk_known)) (undamaged begin input begins);
+      complete = λ begin input begins memory no_reads no_sends no_disks.
+          let journal : status ≢ NoJournal = λ is. readable.header begins.disk begin.capacity begin.held begins.holds ((why NoJournal is tt).1 begins.disk begins.disk_known) in
+          grind (arith, told, journal, undamaged begin input begins, memory, no_reads, no_sends, no_disks);
       read_cause = told_at ReadFault;
       send_cause = told_at SendFault;
       disk_cause = told_at DiskFault;
@@ -214,14 +184,17 @@ module _ (here : Type 0) (from : Option ℕ) (most : ℕ) (status : Status) (old
   -- A session that did not begin.
   pub unread_served : IsUnread here from status old new → Served here from most status old new
   unread_served u =
-      served (λ begin input same begins. widened (u.moments begin input same begins) _ (first_stops old begin (bodies_of (take most input))))
-      u.keeps.continues (hinders_told _ _ _ status old new u.hinders) (λ un. u) (λ disk known un. u)
-      (λ begin input same begins end. absurd (hinders_no_end _ _ _ status old new u.hinders end))
-      (λ begin input same begins is. absurd (why_at _ _ _ old new ReadFault is u.hinders))
-      (λ begin input same begins. no_ask (start_of begin) input u.keeps.asks)
-      (λ begin input same begins is.
-      or_else _ (starved_among from begin.held old new begins.disk_known (covers_held begins.disk begin.capacity begin.held begins.holds) (why_at _ _ _ old new NoMemory is u.hinders).1))
-      (record { extends = extends_same u.keeps.disk u.keeps.continues.storing; unwritten = λ begin input same begins none. u.nothing begin input same begins; headless = u.headless; stops = λ begin input same begins. widened (u.nothing begin input same begins).moments _ (λ image bytes left. inl left) })
+      served (λ begin input same begins. record {
+        moments = widened (u.moments begin input same begins) _ (first_stops old begin (bodies_of (take most input)));
+        exact = λ end. absurd (grind (arith, u.hinders));
+        unread = λ is. absurd (why_at _ _ _ old new ReadFault is u.hinders);
+        prompt = no_ask (start_of begin) input u.keeps.asks;
+        starved = λ is. ⊎_elim (λ now. inl now) (λ hungry. inr (inl (hungry begins.disk begins.disk_known begin.held (covers_held begins.disk begin.capacity begin.held begins.holds))))
+            (why_at _ _ _ old new NoMemory is u.hinders).1;
+        unwritten = λ none. u.nothing begin input same begins;
+        stops = widened (u.nothing begin input same begins).moments _ (λ image bytes left. inl left);
+      })
+      u.keeps.continues (grind (arith, u.hinders)) (λ un. u) (λ disk known un. u) (extends_same u.keeps.disk u.keeps.continues.storing)
       (takes_none most old.input new.input u.keeps.input)
 
   -- A session that answered.
@@ -232,17 +205,18 @@ module _ (here : Type 0) (from : Option ℕ) (most : ℕ) (status : Status) (old
       reads = r.reads begin input same begins
 
       run : Elapses mid new (IsSafe begin (bodies_of (take most input)))
-      run = subst (λ (capacity : ℕ). Elapses mid new (engine.IsSafe (λ records image. Holds image capacity records) (start_of begin) (bodies_of (take most input)))) (r.capacity begin input same begins)
-          (a.moments (start_of begin) input refl reads)
+      run =
+          widened (a.grows (start_of begin) input refl reads) _
+          (safe_further _ (start_of begin) {front = take most input} {all = take most input} (record { more = []; whole = append-nil (take most input) }) (λ records image. Holds image begin.capacity records)
+          (λ records image g. subst (λ (c : ℕ). Holds image c records) (r.capacity begin input same begins) (record { gate = g.grown.next; held = g.grown.holds })))
 
       -- the last stop shows what capacity the journal has
       kept : {records : List Record} → IsAtRest journal records new → IsKept begin.capacity records new
       kept {records} rest = record {
         settled = rest.settled;
         holds = λ disk known.
-            let last = read_passes disk known in
-            let now = held_now journal records new disk rest last in
-            subst (λ (capacity : ℕ). Holds disk capacity records) (alone.records disk journal.capacity begin.capacity records _ now (ended run last).recovered).0 now;
+            let now = held_now journal records new disk rest (read_passes disk known) in
+            subst (λ (capacity : ℕ). Holds disk capacity records) (alone.records disk journal.capacity begin.capacity records _ now (ended run (read_passes disk known)).recovered).0 now;
       }
 
       -- what grew from an image of the restored session grew from one of the start
@@ -261,31 +235,25 @@ module _ (here : Type 0) (from : Option ℕ) (most : ℕ) (status : Status) (old
       all_answered : (count : ℕ) → engine.Answered (λ records now. IsAtRest journal records now) (start_of begin) input count new → Answered begin input count new
       all_answered count answered = record { input_left = answered.input_left; there = answered.there; sent = answered.sent; held = kept answered.held }
 
+      serves : Serves here from begin input most status old new
+      serves = record {
+        moments = goes_on (widened (r.moments begin input same begins) (IsSafeOrPending old begin (bodies_of (take most input))) (first_stops old begin (bodies_of (take most input)))) run (λ image bytes safe. inl safe);
+        exact = λ end.
+            let all = a.exact (start_of begin) input refl reads end in
+            (all.0, all_answered (min most (length input)) all.1);
+        unread = λ is.
+            let all = a.unread (start_of begin) input refl reads is in
+            (all.0, all.1, all_answered all.0 all.2);
+        prompt = more_asks (start_of begin) input (no_ask (start_of begin) input r.keeps.asks) (a.prompt (start_of begin) input refl reads);
+        starved = λ is. inr (inr (a.starved (start_of begin) input refl reads is));
+        unwritten = λ none. still_nothing (r.nothing begin input same begins) (a.nothing (start_of begin) input refl reads none);
+        stops = goes_on (widened (r.nothing begin input same begins).moments _ (λ image bytes left. inl left)) (a.grows (start_of begin) input refl reads) (λ image bytes safe. inr (has_grown safe.recovered));
+      }
+
     pub answered_served : Served here from most status old new
     answered_served =
-        served
-        (λ begin input same begins.
-        goes_on (widened (r.moments begin input same begins) (IsSafeOrPending old begin (bodies_of (take most input))) (first_stops old begin (bodies_of (take most input))))
-        (run begin input same begins) (λ image bytes safe. inl safe))
-        (further r.keeps.continues a.continues) (told_after new status r.none a.told) (λ un. absurd (a.served un)) (λ disk known un. absurd (un (r.sound disk known)))
-        (λ begin input same begins end.
-        let all = a.exact (start_of begin) input refl (reads begin input same begins) end in
-        (all.0, all_answered begin input same begins (min most (length input)) all.1))
-        (λ begin input same begins is.
-        let all = a.unread (start_of begin) input refl (reads begin input same begins) is in
-        (all.0, all.1, all_answered begin input same begins all.0 all.2))
-        (λ begin input same begins. more_asks (start_of begin) input (no_ask (start_of begin) input r.keeps.asks) (a.prompt (start_of begin) input refl (reads begin input same begins)))
-        (λ begin input same begins is. inr (inr (a.starved (start_of begin) input refl (reads begin input same begins) is)))
-        (record {
-          extends = extends_on old mid new (extends_same r.keeps.disk r.keeps.continues.storing) a.extends;
-          unwritten = λ begin input same begins none.
-              still_nothing (r.nothing begin input same begins) (a.nothing (start_of begin) input refl (reads begin input same begins) none);
-          headless = λ disk known none. let sound = r.sound disk known in absurd (readable.header disk sound.capacity sound.held sound.holds none);
-          stops = λ begin input same begins.
-              goes_on (widened (r.nothing begin input same begins).moments _ (λ image bytes left. inl left)) (a.grows (start_of begin) input refl (reads begin input same begins))
-              (λ image bytes safe. inr (has_grown begin input same begins safe.recovered));
-        })
-        (takes_between most old.input mid.input new.input new.input r.keeps.input refl a.bytes)
+        served serves (further r.keeps.continues a.continues) (grind (arith, faultless, r.none, a.told)) (λ un. absurd (a.served un)) (λ disk known un. absurd (un (r.sound disk known)))
+        (extends_on old mid new (extends_same r.keeps.disk r.keeps.continues.storing) a.extends) (takes_between most old.input mid.input new.input new.input r.keeps.input refl a.bytes)
 
 -- memory ran out before anything happened
 pub roomless : (here : Type 0) → here → (from : Option ℕ) (now : Outside) → ((image bytes : List ℕ) → now.leaves now.moment image bytes → Agrees now.sent bytes) → IsUnread here from NoMemory now now

@@ -42,17 +42,10 @@ pub record IsPart (records all : List Record) : Type 0 where
   pub more : List Record
   pub whole : more ++ records ≡ all
 
--- batches stand at the begin of the disk, and these records are the first of theirs
-pub record StandsFirst (capacity : ℕ) (records : List Record) (disk : List ℕ) : Type 0 where
-  pub gate : ℕ
-  pub batches : List (List Record)
-  pub rest : List ℕ
-  pub leads : LeadsTo capacity gate batches disk rest
-  pub part : IsPart records (records_of batches)
-
--- wherever the first records of the disk are lawful, they stand in the list
+-- wherever batches stand at the begin of the disk and the first of their records are lawful, these stand in the list
 abbrev pub Covers : List ℕ → List Record → Type 0
-Covers disk all = (capacity : ℕ) (records : List Record) → StandsFirst capacity records disk → IsLawful capacity records → IsPart records all
+Covers disk all = (capacity gate : ℕ) (batches : List (List Record)) (rest : List ℕ) (records : List Record) → LeadsTo capacity gate batches disk rest
+    → IsPart records (records_of batches) → IsLawful capacity records → IsPart records all
 
 -- of each list that covers the disk, a prefix was sent of the messages that are asked for again
 abbrev pub SendsAgain : Option ℕ → Option (List ℕ) → List ℕ → Outside → Outside → Type 0

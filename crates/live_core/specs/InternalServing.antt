@@ -2,7 +2,7 @@
 use Rattle.std.specs.Prelude.{◌≡◌, ◌⊎◌, ℕ, ◌<◌, List, [], length, min, take, true, Option, Some}
 use Rattle.host_core.specs.declared.status.Status.{Status}
 use Rattle.host_core.specs.declared.status.Status.TheVariants.{ReadFault, NoJournal, NoMemory}
-use Rattle.host_core.specs.Outside.{Outside, Elapses, NoFault, Continues}
+use Rattle.host_core.specs.Outside.{Outside, MayLeave, Elapses, NoFault, Continues}
 use Rattle.wire_in.specs.Cutting.{bodies_of}
 use Rattle.wire_in.specs.declared.record.Record.{Record}
 use Rattle.journal_core.specs.Journal.{JournalState, IsAtRest}
@@ -21,7 +21,10 @@ use Rattle.live_core.specs.declared.recovery.Recovery.{Recovery}
 use Rattle.live_core.specs.declared.recovery.Serving.{Serving}
 use Rattle.live_core.specs.Safe.{Begin, Begins, start_of, IsSafeOrPending}
 use Rattle.live_core.specs.Damage.{IsDamagedAt}
+use Rattle.live_core.specs.Ends as ends
 use Rattle.live_core.specs.Ends.{IsUnserved, TellsNoJournal}
+use Rattle.live_core.specs.Starved.{StarvedAtRecord}
+use Rattle.live_core.specs.Written.{HasGrown}
 use Rattle.live_core.specs.InternalKeeping.{HasRoom, Regains}
 use Rattle.live_core.specs.InternalRecovery.{again, HasDamage, StarvesAgain, IsReading, OnlyRecovers, Hinders}
 
@@ -67,14 +70,22 @@ pub record IsUnread (unbegun : Type 0) (from : Option ℕ) (status : Status) (ol
   pub hinders : Hinders (λ at. (disk : List ℕ) → old.disk ≡ Some disk → HasDamage at disk) ((disk : List ℕ) → old.disk ≡ Some disk → HasNoHeader disk)
       (unbegun ⊎ ((disk : List ℕ) → old.disk ≡ Some disk → StarvesAgain from old.sent disk new)) status old new
 
+-- what a session did that began so, up to so many bytes of this input
+pub record Serves (unbegun : Type 0) (from : Option ℕ) (begin : Begin) (input : List ℕ) (most : ℕ) (status : Status) (old new : Outside) : Type 0 where
+  pub moments : Elapses old new (IsSafeOrPending old begin (bodies_of (take most input)))
+  pub exact : IsEnd status → (status ≡ end_of most input) × ends.Answered begin input (min most (length input)) new
+  pub unread : status ≡ ReadFault → (count : ℕ) × (count < most) × ends.Answered begin input count new
+  pub prompt : Prompt (start_of begin) input old.asks new.asks
+  pub starved : status ≡ NoMemory → unbegun ⊎ StarvedAtRecord from begin.held old.sent new.sent ⊎ Starved (start_of begin) (bodies_of (take most input)) new
+  pub unwritten : AcceptsNone (start_of begin) (bodies_of (take most input)) → WritesNothing old new
+  pub stops : Elapses old new (λ image bytes. MayLeave old image ⊎ HasGrown begin old image)
+
 -- the input was answered, up to so many bytes
 pub record IsAnswered (most : ℕ) (before after : JournalState) (session : Session) (status : Status) (old new : Outside) : Type 0 where
   pub exact : (start : Start) (input : List ℕ) → start.acknowledges ≡ true → Reads (λ records now. IsAtRest before records now) start input 0 session old
       → IsEnd status → (status ≡ end_of most input) × Answered (λ records now. IsAtRest after records now) start input (min most (length input)) new
   pub unread : (start : Start) (input : List ℕ) → start.acknowledges ≡ true → Reads (λ records now. IsAtRest before records now) start input 0 session old
       → status ≡ ReadFault → (count : ℕ) × (count < most) × Answered (λ records now. IsAtRest after records now) start input count new
-  pub moments : (start : Start) (input : List ℕ) → start.acknowledges ≡ true → Reads (λ records now. IsAtRest before records now) start input 0 session old
-      → Elapses old new (IsSafe (λ records image. Holds image before.capacity records) start (bodies_of (take most input)))
   pub nothing : (start : Start) (input : List ℕ) → start.acknowledges ≡ true → Reads (λ records now. IsAtRest before records now) start input 0 session old
       → AcceptsNone start (bodies_of (take most input)) → WritesNothing old new
   pub extends : Extends old new

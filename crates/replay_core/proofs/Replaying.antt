@@ -24,11 +24,6 @@ use Rattle.engine_core.proofs.Statuses.{at_an_end, at_a_read, at_no_memory, told
 use Rattle.replay_core.specs.InternalSession.{IsFresh}
 use Rattle.replay_core.specs.Replayed.{replay_start, replay_text, Answered, LeavesDisk, IsAnswer, Replayed}
 
--- what is expected doesn't depend on what was sent before
-text_is : (sent : Option (List ℕ)) (read : List ℕ) → expected (replay_start sent) (bodies_of read) ≡ replay_text read
-unfolding expected replay_text
-text_is sent read = refl
-
 -- nothing of the input is read yet
 pub reads_none : (input : List ℕ) (session : Session) (now : Outside) → IsFresh session → now.input ≡ Some input → Reads (λ _ _. Unit {0}) (replay_start now.sent) input 0 session now
 reads_none input session now fresh left =
@@ -36,11 +31,8 @@ reads_none input session now fresh left =
     (expects_nothing now.sent now.sent session.outbox [] fresh.outbox (sym (append_known-nil now.sent))) left
 
 pub answered_as : (begin : Option (List ℕ)) (input : List ℕ) (count : ℕ) (now : Outside) → engine.Answered (λ _ _. Unit {0}) (replay_start begin) input count now → Answered begin input count now
-answered_as begin input count now answered = record {
-  input_left = answered.input_left;
-  there = answered.there;
-  sent = answered.sent ∙ ap (append_known begin) (text_is begin (take count input));
-}
+unfolding expected replay_text
+answered_as begin input count now answered = record { input_left = answered.input_left; there = answered.there; sent = answered.sent }
 
 -- the end of a replay
 pub ends_as : (r : Result Status Fault) (begin : Option (List ℕ)) (input : List ℕ) (most : ℕ) (now : Outside)
@@ -52,11 +44,9 @@ ends_as (Err fault) begin input most now end = tt
 -- the stops of a replay
 pub stops_as : (read : List ℕ) (old new : Outside) → Elapses old new (engine.IsSafe (λ _ image. MayLeave old image) (replay_start old.sent) (bodies_of read))
     → Elapses old new (SendsPrefix old.sent (replay_text read) old)
+unfolding expected replay_text
 stops_as read old new run =
-    widened run (SendsPrefix old.sent (replay_text read) old)
-    (λ image bytes safe.
-    subst (λ (text : List ℕ). SendsPrefix old.sent text old image bytes) (text_is old.sent read)
-    (safe_prefix (replay_start old.sent) (bodies_of read) old image bytes (λ _ image. MayLeave old image) (λ _ image left. left) safe))
+    widened run _ (λ image bytes safe. safe_prefix (replay_start old.sent) (bodies_of read) old image bytes (λ _ image. MayLeave old image) (λ _ image left. left) safe)
 
 -- no answer of a replay is one of the disk, or of a journal
 answers : (result : Result Status Fault) → IfOk result IsEnd → result ≢ Err fault.Disk → IsAnswer (answer_of result)
@@ -74,11 +64,8 @@ module _ (unbegun : Type 0) (most : ℕ) (old new : Outside) (result : Result St
     (sent_now : (image bytes : List ℕ) → new.leaves new.moment image bytes → Agrees new.sent bytes)
     (stops_now : (sent : List ℕ) → new.sent ≡ Some sent → (image : List ℕ) × MayLeave new image)
     (end : IfOk result IsEnd) (unkept : result ≢ Err fault.Disk) (causes : Causes result old new) where
-  told : Told (answer_of result) old new
-  told = told_of result old new end causes
-
   told_at : (s : Status) → answer_of result ≡ s → Told s old new
-  told_at s is = subst (λ (s : Status). Told s old new) is told
+  told_at s is = subst (λ (s : Status). Told s old new) is (told_of result old new end causes)
 
   -- a run that returned is one that was stopped at its end
   sent_part : (input : List ℕ) → old.input ≡ Some input → SentPrefix old.sent new.sent (replay_text (take most input))
@@ -100,7 +87,7 @@ module _ (unbegun : Type 0) (most : ℕ) (old new : Outside) (result : Result St
     prompt = prompt;
     starved = λ input is failed. starved input is (at_no_memory result end failed);
     bytes = bytes;
-    complete = completes (answer_of result) old new (answers result end unkept) told;
+    complete = completes (answer_of result) old new (answers result end unkept) (told_at _ refl);
     read_cause = told_at ReadFault;
     send_cause = told_at SendFault;
     memory = told_at NoMemory;

@@ -16,9 +16,7 @@ returns-in_err-evaluate-clause-moments g c = λ capacity held begin resumes pass
 
 pub returns-in_err-evaluate-clause-starved : goal.returns-in_err-evaluate-clause-starved
 returns-in_err-evaluate-clause-starved g c = λ capacity held begin resumes is.
-    let failed : c.evaluate.result ≡ Err Memory = search rules in
-    let roomy = subst IsRoomy (sym c.admit.ensures.rest) c.requires.roomy in
-    let short = c.evaluate.ensures.starved begin (again c.args.from held) roomy resumes.pending_is failed in
+    let short = c.evaluate.ensures.starved begin (again c.args.from held) (subst IsRoomy (sym c.admit.ensures.rest) c.requires.roomy) resumes.pending_is (search rules) in
     (takes_of c.args.x.now short, short.sent)
 
 pub returns-clause-resumes : goal.returns-clause-resumes

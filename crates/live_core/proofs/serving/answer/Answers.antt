@@ -1,14 +1,12 @@
+use Rattle.std.proofs.Common.{arith}
 use Rattle.engine_core.proofs.Statuses.{at_an_end, at_a_read, at_no_memory, told_of}
-use Rattle.live_core.proofs.Served.{answered_as, no_end_unserved}
-use Rattle.host_core.proofs.Moments.{widened}
-use Rattle.live_core.proofs.Regaining.{as_held}
+use Rattle.live_core.proofs.Served.{answered_as}
 use Rattle.live_core.proofs.serving.answer.Goals as goal
 
 pub returns : goal.returns
 returns g c = answered_as c.answer_of.ensures (record {
   exact = λ start input same reads. at_an_end c.serve_input.result _ (c.serve_input.ensures.exact start input same reads);
   unread = λ start input same reads is. c.serve_input.ensures.unread start input same reads (at_a_read c.serve_input.result c.serve_input.ensures.end is);
-  moments = λ start input same reads. widened (c.serve_input.ensures.moments start input same reads) _ (λ image bytes safe. as_held safe);
   grows = c.serve_input.ensures.moments;
   nothing = c.serve_input.ensures.nothing;
   extends = c.serve_input.ensures.touches;
@@ -16,6 +14,6 @@ returns g c = answered_as c.answer_of.ensures (record {
   starved = λ start input same reads is. c.serve_input.ensures.starved start input same reads (at_no_memory c.serve_input.result c.serve_input.ensures.end is);
   bytes = c.serve_input.ensures.bytes;
   continues = c.serve_input.ensures.continues;
-  served = no_end_unserved c.serve_input.result c.serve_input.ensures.end;
+  served = grind (arith, c.serve_input.ensures.end);
   told = told_of c.serve_input.result _ _ c.serve_input.ensures.end c.serve_input.ensures.causes;
 })

@@ -1,7 +1,8 @@
-use Rattle.std.proofs.Common.{ℕ, [], sym, ap, subst, ◌∙◌, arith}
+use Rattle.std.proofs.Common.{ℕ, [], sym, subst, arith, rules}
 use Rattle.host_core.proofs.Chains.{reads_nothing}
 use Rattle.engine_core.specs.declared.engine.Engine.{Engine}
-use Rattle.engine_core.specs.EngineState.{Represents, IsRoomy}
+use Rattle.engine_core.specs.EngineState.{Represents}
+use Rattle.live_core.specs.InternalRecovery.{IsReading}
 use Rattle.live_core.proofs.Recovering.{answered_on, scan_hinders, limited, nothing_again}
 use Rattle.live_core.proofs.recovery.Recovery.begin.Goals as goal
 
@@ -27,19 +28,4 @@ returns-clause-recovers g c = λ from disk known. record {
 
 pub returns-clause-reading : goal.returns-clause-reading
 returns-clause-reading g c =
-    let capacity = ap (λ (e : Engine). e.admission.capacity) c.limit-2.ensures in
-    let count = ap (λ (e : Engine). e.admission.count) c.limit-2.ensures in
-    let evaluated = ap (λ (e : Engine). e.evaluated) c.limit-2.ensures in
-    let published = ap (λ (e : Engine). e.published) c.limit-2.ensures in
-    record {
-      of_disk = c.in_ok-scan.ensures.of_disk;
-      capacity = sym (capacity ∙ c.limit.ensures.capacity);
-      count = omega (arith, c.in_ok-scan.ensures.begun, (c.in-Ok.ensures).none, count);
-      small = record {
-        range = omega (arith, capacity, c.limit.ensures.range);
-        within = omega (arith, (c.in-Ok.ensures).none, count);
-        evaluated = omega (arith, (c.in-Ok.ensures).none, (c.in-Ok.ensures).evaluated, count, evaluated);
-        few = omega (arith, (c.in-Ok.ensures).published, published);
-      };
-      roomy = subst IsRoomy (sym c.limit-2.ensures) (c.in-Ok.ensures).roomy;
-    }
+    subst (λ (e : Engine). IsReading c.in_ok-scan.scan e 0 (g.H.Host.outside c.begin.new.host).disk) (sym c.limit-2.ensures) (search rules)

@@ -1,5 +1,7 @@
-use Rattle.std.proofs.Common.{◌≡◌, [], ◌∙◌}
-use Rattle.live_core.proofs.Finishing.{ready_of}
+use Rattle.std.proofs.Common.{◌≡◌, [], sym, subst, ◌∙◌, arith, rules}
+use Rattle.engine_core.specs.declared.session.Session.{Session}
+use Rattle.engine_core.specs.Serving.{IsReady}
+use Rattle.live_core.specs.InternalKeeping.{HasRoom}
 use Rattle.live_core.proofs.recovery.Recovery.finish.Goals as goal
 
 pub returns : goal.returns
@@ -14,8 +16,13 @@ returns c =
     record {
       keeps = c.finish.ensures.keeps;
       capacity = c.finish.ensures.capacity;
-      ready = λ known reading.
-          ready_of c.args.self known reading c.new.result session
-          c.finish.result c.finish.ensures.whole (c.finish.ensures.of_disk known reading.of_disk) c.finish.ensures.capacity c.finish.ensures.count;
+      ready = λ known reading. subst (λ (s : Session). IsReady (HasRoom c.finish.result known) s) (sym session) (record {
+        sound = search rules;
+        room = record {
+          whole = c.finish.ensures.whole;
+          of_disk = c.finish.ensures.of_disk known reading.of_disk;
+          room = λ n le. omega (arith, le, reading.small, c.finish.ensures.capacity, c.finish.ensures.count, reading.capacity, reading.count);
+        };
+      });
       session = session;
     }

@@ -1,29 +1,24 @@
-use Rattle.std.proofs.Common.{◌≡◌, ◌≢◌, Bool, List, ℕ, length, true, false, sym, ap, subst, ◌∙◌, arith}
+use Rattle.std.proofs.Common.{◌≡◌, ◌≢◌, Bool, List, ℕ, length, true, false, sym, ap, subst, ◌∙◌, arith, rules}
 use Rattle.std.specs.Prelude.{Option, Result, Ok}
 use Rattle.host_core.proofs.Causes.{no_fault, faultless}
 use Rattle.host_core.proofs.Chains.{reads_nothing, reads_faultless}
 use Rattle.engine_core.proofs.Starving.{not_read, not_short}
 use Rattle.live_core.proofs.Again.{sends_then}
-use Rattle.live_core.proofs.Recovering.{sends_read, greeted, reads_again, has_next, has_end, bad_form_there, only_read, only_sent, recovers_on, answered_on, fault_hinders, hinders_on, scan_hinders, no_error}
+use Rattle.live_core.proofs.Recovering.{sends_read, greeted, reads_again, read_on, has_next, has_end, bad_form_there, only_read, only_sent, recovers_on, answered_on, fault_hinders, hinders_on, scan_hinders}
 use Rattle.journal_core.specs.Scan.{IsScanOf}
 use Rattle.journal_core.proofs.Places.{scan_reaches}
 use Rattle.live_core.proofs.recovery.Recovery.recover.Goals as goal
 
-not_more : {E : Type 0} {result : Result Bool E} {more : Bool} → result ≡ Ok more → more ≡ false → result ≢ Ok true
-not_more was none is = cc
-
 pub batches-init : goal.batches-init
 batches-init g c = record {
   reading = c.requires;
-  recovers = λ begin disk first. first;
-  moments = λ begin disk first. reads_again c.args.from first (reads_nothing _ (g.met.H.Host.sent_now c.args.host.now));
+  advances = λ begin disk first. (first, reads_again c.args.from first (reads_nothing _ (g.met.H.Host.sent_now c.args.host.now)));
   keeps = only_read (reads_nothing _ (g.met.H.Host.sent_now c.args.host.now));
   none = no_fault _;
 }
 
 pub returns-in_err-more-clause-moments : goal.returns-in_err-more-clause-moments
-returns-in_err-more-clause-moments g c = λ begin disk first all covers.
-    sends_then (c.batches.invariant.moments begin disk first all covers) (reads_again c.args.from (c.batches.invariant.recovers begin disk first) c.next.ensures.keeps all covers)
+returns-in_err-more-clause-moments g c = read_on c.args.from c.batches.invariant.advances c.next.ensures.keeps
 
 pub returns-in_err-more-clause-hindered : goal.returns-in_err-more-clause-hindered
 returns-in_err-more-clause-hindered g c =
@@ -31,75 +26,53 @@ returns-in_err-more-clause-hindered g c =
     (hinders_on _ _ _ _ _ _ _ _ _ _ c.batches.invariant.none (λ at there. there) (λ missing. missing) (λ hungry. hungry)
     (scan_hinders _ _ _ c.next.result _ c.in_err-more.was c.next.ensures.keeps c.next.ensures.faultless c.next.ensures.cause c.next.ensures.no_journal (λ short. absurd (c.next.ensures.no_memory short))
     (λ at is begin disk first.
-    bad_form_there c.args.from (c.batches.invariant.recovers begin disk first) c.next.ensures.keeps at (c.next.ensures.at_damage at is) (c.next.ensures.damaged at is))))
+    (_, _, bad_form_there c.args.from (c.batches.invariant.advances begin disk first).0 c.next.ensures.keeps at (c.next.ensures.at_damage at is) (c.next.ensures.damaged at is)))))
 
 -- the gate is closed
 pub returns-in_err-greet-clause-moments : goal.returns-in_err-greet-clause-moments
 returns-in_err-greet-clause-moments g c = λ begin disk first all covers.
-    let so_far = c.batches.invariant.recovers begin disk first in
-    let end = has_end c.args.from so_far c.next.ensures.keeps c.next.new.self c.next.ensures.capacity (c.next.ensures.same (not_more c.in_ok-more.was c.if-not-more.true)) in
-    sends_then (sends_then (c.batches.invariant.moments begin disk first all covers) (reads_again c.args.from so_far c.next.ensures.keeps all covers))
-    (sends_read c.args.from end (c.greet.ensures.moments begin _ end.resumes.pending_is) all covers)
+    let end = has_end c.args.from c.batches.invariant.advances c.next.ensures.keeps c.next.new.self c.next.ensures.capacity (c.next.ensures.same (λ is. cc (c.in_ok-more.was, c.if-not-more.true))) begin disk first in
+    sends_then (end.1 all covers) (sends_read c.args.from end.0 c.greet.ensures.moments all covers)
 
 pub returns-in_err-greet-clause-hindered : goal.returns-in_err-greet-clause-hindered
 returns-in_err-greet-clause-hindered g c =
     answered_on _ c.from_residual-in_err-greet.result c.from_residual-in_err-greet.ensures.1
     (fault_hinders _ _ _ _ c.in_err-greet.was (not_read c.greet.result c.greet.ensures.fault) (λ short. absurd (not_short c.greet.result c.greet.ensures.fault short))
-    (faultless c.batches.invariant.none (reads_faultless c.next.ensures.keeps (c.next.ensures.faultless (no_error c.in_ok-more.was)))) c.in_err-greet.ensures.causes)
+    (faultless c.batches.invariant.none (reads_faultless c.next.ensures.keeps (c.next.ensures.faultless (λ is. cc c.in_ok-more.was)))) c.in_err-greet.ensures.causes)
 
 pub returns-then-not-more-clause-moments : goal.returns-then-not-more-clause-moments
 returns-then-not-more-clause-moments g c = λ begin disk first all covers.
-    let so_far = c.batches.invariant.recovers begin disk first in
-    let end = has_end c.args.from so_far c.next.ensures.keeps c.next.new.self c.next.ensures.capacity (c.next.ensures.same (not_more c.in_ok-more.was c.if-not-more.true)) in
-    sends_then (sends_then (c.batches.invariant.moments begin disk first all covers) (reads_again c.args.from so_far c.next.ensures.keeps all covers))
-    (sends_read c.args.from end (c.greet.ensures.moments begin _ end.resumes.pending_is) all covers)
+    let end = has_end c.args.from c.batches.invariant.advances c.next.ensures.keeps c.next.new.self c.next.ensures.capacity (c.next.ensures.same (λ is. cc (c.in_ok-more.was, c.if-not-more.true))) begin disk first in
+    sends_then (end.1 all covers) (sends_read c.args.from end.0 c.greet.ensures.moments all covers)
 
 pub returns-then-not-more-clause-recovers : goal.returns-then-not-more-clause-recovers
 returns-then-not-more-clause-recovers g c = λ begin disk first.
-    let so_far = c.batches.invariant.recovers begin disk first in
-    let end = has_end c.args.from so_far c.next.ensures.keeps c.next.new.self c.next.ensures.capacity (c.next.ensures.same (not_more c.in_ok-more.was c.if-not-more.true)) in
-    greeted c.args.from end c.greet.ensures.keeps c.greet.new.outbox (c.in_ok-greet.ensures.pending c.next.new.self.capacity _ begin _ end.resumes.engine_is end.resumes.pending_is)
+    let end = has_end c.args.from c.batches.invariant.advances c.next.ensures.keeps c.next.new.self c.next.ensures.capacity (c.next.ensures.same (λ is. cc (c.in_ok-more.was, c.if-not-more.true))) begin disk first in
+    greeted c.args.from end.0 c.greet.ensures.keeps c.greet.new.outbox c.in_ok-greet.ensures.pending
 
 -- there is a batch
 pub returns-in_err-resume-clause-moments : goal.returns-in_err-resume-clause-moments
 returns-in_err-resume-clause-moments g c = λ begin disk first all covers.
-    let so_far = c.batches.invariant.recovers begin disk first in
-    let more = c.in_ok-more.was ∙ ap (λ b. Ok b) c.if-not-more.false in
-    let next = has_next c.args.from so_far c.next.ensures.keeps c.next.new.self c.list.result.now c.list.ensures.records (c.next.ensures.at_batch more) c.next.ensures.capacity (c.next.ensures.batch more) in
-    sends_then (sends_then (c.batches.invariant.moments begin disk first all covers) (reads_again c.args.from so_far c.next.ensures.keeps all covers))
-    (c.resume.ensures.moments begin disk next all covers)
+    let next = has_next c.args.from c.batches.invariant.advances c.next.ensures.keeps c.next.new.self c.list.result.now c.list.ensures.records (c.in_ok-more.was ∙ ap (λ b. Ok b) c.if-not-more.false) c.next.ensures.at_batch c.next.ensures.capacity c.next.ensures.batch begin disk first in
+    sends_then (next.1 all covers) (c.resume.ensures.moments begin disk next.0 all covers)
 
 pub returns-in_err-resume-clause-hindered : goal.returns-in_err-resume-clause-hindered
 returns-in_err-resume-clause-hindered g c =
+    let next = has_next c.args.from c.batches.invariant.advances c.next.ensures.keeps c.next.new.self c.list.result.now c.list.ensures.records (c.in_ok-more.was ∙ ap (λ b. Ok b) c.if-not-more.false) c.next.ensures.at_batch c.next.ensures.capacity c.next.ensures.batch in
     answered_on _ c.from_residual-in_err-resume.result c.from_residual-in_err-resume.ensures.1
-    (hinders_on _ _ _ _ _ _ _ _ _ _ (faultless c.batches.invariant.none (reads_faultless c.next.ensures.keeps (c.next.ensures.faultless (no_error c.in_ok-more.was))))
-    (λ at there begin disk first.
-    let so_far = c.batches.invariant.recovers begin disk first in
-    let more = c.in_ok-more.was ∙ ap (λ b. Ok b) c.if-not-more.false in
-    there begin disk (has_next c.args.from so_far c.next.ensures.keeps c.next.new.self c.list.result.now c.list.ensures.records (c.next.ensures.at_batch more) c.next.ensures.capacity (c.next.ensures.batch more)))
-    (λ missing. missing)
-    (λ hungry begin disk first.
-    let so_far = c.batches.invariant.recovers begin disk first in
-    let more = c.in_ok-more.was ∙ ap (λ b. Ok b) c.if-not-more.false in
-    hungry begin disk (has_next c.args.from so_far c.next.ensures.keeps c.next.new.self c.list.result.now c.list.ensures.records (c.next.ensures.at_batch more) c.next.ensures.capacity (c.next.ensures.batch more)))
-    c.in_err-resume.ensures.hindered)
+    (hinders_on _ _ _ _ _ _ _ _ _ _ (faultless c.batches.invariant.none (reads_faultless c.next.ensures.keeps (c.next.ensures.faultless (λ is. cc c.in_ok-more.was))))
+    (λ at there begin disk first. there begin disk (next begin disk first).0) (λ missing. missing) (λ hungry begin disk first. hungry begin disk (next begin disk first).0) c.in_err-resume.ensures.hindered)
 
 pub batches-preserved : goal.batches-preserved
 batches-preserved g c =
-    let more = c.in_ok-more.was ∙ ap (λ b. Ok b) c.if-not-more.false in
+    let next = has_next c.args.from c.batches.invariant.advances c.next.ensures.keeps c.next.new.self c.list.result.now c.list.ensures.records (c.in_ok-more.was ∙ ap (λ b. Ok b) c.if-not-more.false) c.next.ensures.at_batch c.next.ensures.capacity c.next.ensures.batch in
     record {
       reading = c.in_ok-resume.ensures.reading;
-      recovers = λ begin disk first.
-          let so_far = c.batches.invariant.recovers begin disk first in
-          c.in_ok-resume.ensures.recovers begin disk
-          (has_next c.args.from so_far c.next.ensures.keeps c.next.new.self c.list.result.now c.list.ensures.records (c.next.ensures.at_batch more) c.next.ensures.capacity (c.next.ensures.batch more));
-      moments = λ begin disk first all covers.
-          let so_far = c.batches.invariant.recovers begin disk first in
-          let next = has_next c.args.from so_far c.next.ensures.keeps c.next.new.self c.list.result.now c.list.ensures.records (c.next.ensures.at_batch more) c.next.ensures.capacity (c.next.ensures.batch more) in
-          sends_then (sends_then (c.batches.invariant.moments begin disk first all covers) (reads_again c.args.from so_far c.next.ensures.keeps all covers))
-          (c.resume.ensures.moments begin disk next all covers);
+      advances = λ begin disk first.
+          let at = next begin disk first in
+          (c.in_ok-resume.ensures.recovers begin disk at.0, λ all covers. sends_then (at.1 all covers) (c.resume.ensures.moments begin disk at.0 all covers));
       keeps = recovers_on (recovers_on c.batches.invariant.keeps (only_read c.next.ensures.keeps)) (only_sent c.resume.ensures.keeps);
-      none = faultless (faultless c.batches.invariant.none (reads_faultless c.next.ensures.keeps (c.next.ensures.faultless (no_error c.in_ok-more.was)))) c.in_ok-resume.ensures.none;
+      none = faultless (faultless c.batches.invariant.none (reads_faultless c.next.ensures.keeps (c.next.ensures.faultless (λ is. cc c.in_ok-more.was)))) c.in_ok-resume.ensures.none;
     }
 
 pub next-requires : goal.next-requires
@@ -107,11 +80,7 @@ next-requires g c = scan_reaches c.batches.invariant.reading.of_disk
 
 pub returns-then-not-more-clause-reading : goal.returns-then-not-more-clause-reading
 returns-then-not-more-clause-reading g c =
-    let was = c.batches.invariant.reading in
-    record {
-      of_disk = subst (λ (known : Option (List ℕ)). IsScanOf c.next.new.self known) (sym c.greet.ensures.keeps.disk) (c.next.ensures.of_disk was.of_disk);
-      capacity = c.next.ensures.capacity ∙ was.capacity;
-      count = omega (arith, c.next.ensures.count, was.count, ap length (c.next.ensures.empty (not_more c.in_ok-more.was c.if-not-more.true)));
-      small = was.small;
-      roomy = was.roomy;
-    }
+    let of_disk : IsScanOf c.next.new.self (g.H.Host.outside c.greet.new.host).disk = subst (λ (known : Option (List ℕ)). IsScanOf c.next.new.self known) (sym c.greet.ensures.keeps.disk)
+    (c.next.ensures.of_disk c.batches.invariant.reading.of_disk) in
+    let none : length c.next.new.into ≡ 0 = ap length (c.next.ensures.empty (λ is. cc (c.in_ok-more.was, c.if-not-more.true))) in
+    search rules

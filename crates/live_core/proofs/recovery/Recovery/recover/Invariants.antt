@@ -7,10 +7,8 @@ use Rattle.live_core.proofs.recovery.Recovery.recover.Given as goal
 abbrev pub invariant-batches : goal.invariant-batches
 invariant-batches g l = record {
   reading : IsReading l.self.scan l.self.engine 0 (g.H.Host.outside l.host).disk;
-  recovers : (begin : Option (List ℕ)) (disk : List ℕ) → Recovers (again l.from) begin disk l.initial.self (g.H.Host.outside l.initial.host)
-      → Recovers (again l.from) begin disk l.self (g.H.Host.outside l.host);
-  moments : (begin : Option (List ℕ)) (disk : List ℕ) → Recovers (again l.from) begin disk l.initial.self (g.H.Host.outside l.initial.host)
-      → SendsAgain l.from begin disk (g.H.Host.outside l.initial.host) (g.H.Host.outside l.host);
+  advances : (begin : Option (List ℕ)) (disk : List ℕ) → Recovers (again l.from) begin disk l.initial.self (g.H.Host.outside l.initial.host)
+      → Recovers (again l.from) begin disk l.self (g.H.Host.outside l.host) × SendsAgain l.from begin disk (g.H.Host.outside l.initial.host) (g.H.Host.outside l.host);
   keeps : OnlyRecovers (g.H.Host.outside l.initial.host) (g.H.Host.outside l.host);
   none : NoFault (g.H.Host.outside l.initial.host) (g.H.Host.outside l.host);
 }

@@ -1,17 +1,13 @@
-use Rattle.std.proofs.Common.{◌≡◌, ◌+◌, ℕ, List}
+use Rattle.std.proofs.Common.{◌≡◌, ◌-◌, ℕ, List, length}
 use Rattle.std.specs.Prelude.{Option}
 use Rattle.host_core.specs.Outside.{NoFault}
 use Rattle.host_core.specs.Frames.{OnlySends}
-use Rattle.engine_core.specs.EngineState.{IsRoomy}
-use Rattle.live_core.specs.InternalRecovery.{IsSmall, Resuming, SendsAgain}
+use Rattle.live_core.specs.InternalRecovery.{IsReading, Resuming, SendsAgain}
 use Rattle.live_core.proofs.recovery.Recovery.resume.Given as goal
 
 abbrev pub invariant-loop-x : goal.invariant-loop-x
 invariant-loop-x g l = record {
-  small : IsSmall l.self.engine;
-  roomy : IsRoomy l.self.engine;
-  count : l.self.engine.admission.count ≡ l.initial.self.engine.admission.count + l.x-index;
-  capacity : l.self.engine.admission.capacity ≡ l.initial.self.engine.admission.capacity;
+  reading : IsReading l.self.scan l.self.engine (length l.records - l.x-index) (g.H.Host.outside l.host).disk;
   scan : l.self.scan ≡ l.initial.self.scan;
   resuming : (begin : Option (List ℕ)) (disk : List ℕ) → Resuming l.from begin disk l.records 0 l.initial.self (g.H.Host.outside l.initial.host)
       → Resuming l.from begin disk l.records l.x-index l.self (g.H.Host.outside l.host);
