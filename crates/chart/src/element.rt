@@ -83,18 +83,56 @@ fn bar(alloc: Global, style: &str, place: &Place) -> Result<String, NoMemory> {
 /// The moment at which a span begins, and words, in its lane.
 fn words_at(
     alloc: Global,
+    style: &str,
     x: u64,
     place: &Place,
     moment: Moment,
     words: &str,
 ) -> Result<String, NoMemory> {
-    let x = x.saturating_add(20);
     let y = place.heights.top.saturating_add(54);
     let begin = time(alloc, moment)?;
-    Ok(format!(in alloc; "<text class=\"plate\" x=\"{x}\" y=\"{y}\">{begin} {words}</text>\n")?)
+    Ok(format!(in alloc; "<text class=\"{style}\" x=\"{x}\" y=\"{y}\">{begin} {words}</text>\n")?)
 }
 
-/// A bar in a lane, and its words behind it.
+/// The words of a bar: behind it where there is room, else before it, else over it.
+fn words_of_bar(
+    alloc: Global,
+    place: &Place,
+    moment: Moment,
+    words: &str,
+) -> Result<String, NoMemory> {
+    let Place { left, right, .. } = *place;
+    if right <= 5500 {
+        words_at(
+            alloc,
+            "plate",
+            right.saturating_add(20),
+            place,
+            moment,
+            words,
+        )
+    } else if left >= 1600 {
+        words_at(
+            alloc,
+            "plate left",
+            left.saturating_sub(20),
+            place,
+            moment,
+            words,
+        )
+    } else {
+        words_at(
+            alloc,
+            "plate",
+            left.saturating_add(20),
+            place,
+            moment,
+            words,
+        )
+    }
+}
+
+/// A bar in a lane, and its words.
 fn named(
     alloc: Global,
     style: &str,
@@ -103,7 +141,7 @@ fn named(
     words: &str,
 ) -> Result<String, NoMemory> {
     let bar = bar(alloc, style, place)?;
-    let words = words_at(alloc, place.right, place, moment, words)?;
+    let words = words_of_bar(alloc, place, moment, words)?;
     Ok(format!(in alloc; "{bar}{words}")?)
 }
 
@@ -154,7 +192,8 @@ fn short(
         ShortKind::Carried => "carried from the day before",
     };
     let bar = bar(alloc, "short", place)?;
-    let words = words_at(alloc, place.left, place, moment, words)?;
+    let x = place.left.saturating_add(20);
+    let words = words_at(alloc, "plate", x, place, moment, words)?;
     Ok(format!(in alloc; "{bar}{words}")?)
 }
 
