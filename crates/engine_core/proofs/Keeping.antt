@@ -19,12 +19,6 @@ use Rattle.engine_core.proofs.Rounds.{batch_of}
 use Rattle.engine_core.proofs.Answering.{none_waits}
 use Rattle.engine_core.proofs.Expecting.{added, expected-more, held-more, Begins, safe_of, safe_further}
 
--- where no record is to be kept, nothing is done
-pub keeps_none : (recovers : List Record → List ℕ → Type 0) (records batch : List Record) (now : Outside) → ((image bytes : List ℕ) → now.leaves now.moment image bytes → Agrees now.sent bytes)
-    → ((image : List ℕ) → MayLeave now image → recovers records image) → Elapses now now (Keeps recovers records batch now)
-keeps_none recovers records batch now sent_now left =
-    widened (nothing now sent_now) (Keeps recovers records batch now) (λ image bytes stays. record { either = inl (left image stays.was); sent = stays.sent })
-
 module _ {holds : List Record → Outside → Type 0} {start : Start} {read : List ℕ} {session : Session} {now : Outside} (serves : Serves holds start read session now) where
   -- what the accepted records of the round make of those that are held
   pub kept_is : with_batch (held_after start serves.answered) (records_in session.round) ≡ held_after start (bodies_of read)

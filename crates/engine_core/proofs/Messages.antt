@@ -10,12 +10,6 @@ use Rattle.rulebook.proofs.Histories.{messages-step}
 use Rattle.rulebook.proofs.Sending.{spelled-append, unacknowledged-step}
 use Rattle.engine_core.specs.Sessions.{with_acknowledgements}
 
--- how many messages there are after a step
-pub published_more : (x : Record) (held : List Record) (before n : ℕ) (messages : List Stamped) → before ≡ length (messages_of held) → messages ≡ newest_messages (x ∷ held) → n ≡ length messages
-    → before + n ≡ length (messages_of (x ∷ held))
-published_more x held before n messages said gave many =
-    omega (arith, simp length-append at (ap length (messages-step x (history held))), said, many, ap length gave)
-
 -- the messages of a record, and then its acknowledgement, where there is one
 pub acknowledged : (acknowledges : Bool) (text : List ℕ) (held : List Record) (x : Record)
     → (text ++ spelled (numbered (length (messages_of held)) (newest_messages (x ∷ held)))) ++ spelled (with_acknowledgements acknowledges (Ack (length held + 1) ∷ []))
