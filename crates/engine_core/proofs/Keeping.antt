@@ -1,5 +1,5 @@
 -- A session that serves: a round of it is kept and then answered, and what its stops leave.
-use Rattle.std.proofs.Common.{◌≡◌, ◌⊎◌, inl, inr, ℕ, List, [], ◌++◌, sym, ap, subst, ◌∙◌, append_assoc}
+use Rattle.std.proofs.Common.{◌≡◌, inl, inr, ℕ, List, [], ◌++◌, sym, ap, subst, ◌∙◌, append_assoc}
 use Rattle.std.specs.Prelude.{Option}
 use Rattle.std.proofs.lemmas.List.{append-nil}
 use Rattle.host_core.specs.Outside.{Outside, Agrees, MayLeave, Elapses}
@@ -62,8 +62,8 @@ module _ {holds : List Record → Outside → Type 0} {start : Start} {read : Li
       let whole = sym (expected-more start serves.answered serves.judges.waits.waiting) ∙ ap (expected start) serves.judges.waits.whole in
       let sent = sym (append_assoc _ _ more) ∙ ap (λ (b : List ℕ). b ++ more) serves.pending_is.whole ∙ whole in
       elim stop.either [
-        inl before ↦ safe_held recovers image bytes before stop.sent
-      | inr after ↦ rw append-nil at (safe_of recovers start (bodies_of read) [] image bytes _ (session.outbox ++ more) (rw kept_is at after) (rw serves.pending_is.known at stop.sent) sent)
+        | inl before ↦ safe_held recovers image bytes before stop.sent
+        | inr after ↦ rw append-nil at (safe_of recovers start (bodies_of read) [] image bytes _ (session.outbox ++ more) (rw kept_is at after) (rw serves.pending_is.known at stop.sent) sent)
       ]
 
   -- no time has passed

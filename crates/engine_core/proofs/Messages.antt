@@ -1,12 +1,10 @@
 -- The messages of a record, and its acknowledgement behind them.
-use Rattle.std.proofs.Common.{◌≡◌, ℕ, Bool, true, false, ◌+◌, List, [], ◌∷◌, ◌++◌, length, sym, ap, ◌∙◌, append_assoc, length-append, arith}
+use Rattle.std.proofs.Common.{◌≡◌, ℕ, Bool, true, false, ◌+◌, List, [], ◌∷◌, ◌++◌, length, append_assoc}
 use Rattle.std.proofs.lemmas.List.{append-nil}
 use Rattle.wire_in.specs.declared.record.Record.{Record}
 use Rattle.wire_out.specs.declared.message.Frame.TheVariants.{Ack}
-use Rattle.wire_out.specs.declared.message.Stamped.{Stamped}
 use Rattle.rulebook.specs.Sent.{spelled, numbered, accepted}
-use Rattle.rulebook.specs.Book.{messages_of, newest_messages, history}
-use Rattle.rulebook.proofs.Histories.{messages-step}
+use Rattle.rulebook.specs.Book.{messages_of, newest_messages}
 use Rattle.rulebook.proofs.Sending.{spelled-append, unacknowledged-step}
 use Rattle.engine_core.specs.Sessions.{with_acknowledgements}
 
