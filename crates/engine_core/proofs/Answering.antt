@@ -5,7 +5,6 @@ use Rattle.std.proofs.lemmas.List.{append-nil, drop_more}
 use Rattle.host_core.specs.Outside.{Outside, Elapses}
 use Rattle.wire_in.specs.declared.record.Record.{Record}
 use Rattle.rulebook.specs.Sent.{spelled, reply, judged, with_record}
-use Rattle.market_core.specs.AdmissionState.{AdmissionState}
 use Rattle.market_core.specs.MarketState.{most_messages}
 use Rattle.engine_core.specs.declared.engine.Engine.{Engine}
 use Rattle.engine_core.specs.Pending.{Expects, SendsPrefix}

@@ -1,7 +1,7 @@
 -- What is expected for more frames, and what is safe for them.
 use Rattle.std.proofs.Common.{◌≡◌, ℕ, ◌+◌, Bool, true, false, List, [], ◌∷◌, ◌++◌, length, take, drop, refl, sym, ap, subst, ◌∙◌, append_assoc, length-append, arith}
 use Rattle.std.specs.Io.KnownBytes.{append_known}
-use Rattle.std.proofs.lemmas.List.{append-nil, take_at, take-append-le, take-append-drop}
+use Rattle.std.proofs.lemmas.List.{append-nil, take_at, take-append-drop}
 use Rattle.std.proofs.Math.Nat.{add_comm}
 use Rattle.host_core.specs.Outside.{Outside, Agrees, MayLeave}
 use Rattle.wire_in.specs.declared.record.Record.{Record}

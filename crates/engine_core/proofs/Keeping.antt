@@ -1,5 +1,5 @@
 -- A session that serves: a round of it is kept and then answered, and what its stops leave.
-use Rattle.std.proofs.Common.{◌≡◌, ◌⊎◌, inl, inr, ℕ, List, [], ◌++◌, sym, ap, subst, ◌∙◌, append_assoc}
+use Rattle.std.proofs.Common.{◌≡◌, inl, inr, ℕ, List, [], ◌++◌, sym, ap, subst, ◌∙◌, append_assoc}
 use Rattle.std.specs.Prelude.{Option}
 use Rattle.std.proofs.lemmas.List.{append-nil}
 use Rattle.host_core.specs.Outside.{Outside, Agrees, MayLeave, Elapses}
@@ -18,12 +18,6 @@ use Rattle.engine_core.proofs.Pending.{expects_still}
 use Rattle.engine_core.proofs.Rounds.{batch_of}
 use Rattle.engine_core.proofs.Answering.{none_waits}
 use Rattle.engine_core.proofs.Expecting.{added, expected-more, held-more, Begins, safe_of, safe_further}
-
--- where no record is to be kept, nothing is done
-pub keeps_none : (recovers : List Record → List ℕ → Type 0) (records batch : List Record) (now : Outside) → ((image bytes : List ℕ) → now.leaves now.moment image bytes → Agrees now.sent bytes)
-    → ((image : List ℕ) → MayLeave now image → recovers records image) → Elapses now now (Keeps recovers records batch now)
-keeps_none recovers records batch now sent_now left =
-    widened (nothing now sent_now) (Keeps recovers records batch now) (λ image bytes stays. record { either = inl (left image stays.was); sent = stays.sent })
 
 module _ {holds : List Record → Outside → Type 0} {start : Start} {read : List ℕ} {session : Session} {now : Outside} (serves : Serves holds start read session now) where
   -- what the accepted records of the round make of those that are held
@@ -68,8 +62,8 @@ module _ {holds : List Record → Outside → Type 0} {start : Start} {read : Li
       let whole = sym (expected-more start serves.answered serves.judges.waits.waiting) ∙ ap (expected start) serves.judges.waits.whole in
       let sent = sym (append_assoc _ _ more) ∙ ap (λ (b : List ℕ). b ++ more) serves.pending_is.whole ∙ whole in
       elim stop.either [
-        inl before ↦ safe_held recovers image bytes before stop.sent
-      | inr after ↦ rw append-nil at (safe_of recovers start (bodies_of read) [] image bytes _ (session.outbox ++ more) (rw kept_is at after) (rw serves.pending_is.known at stop.sent) sent)
+        | inl before ↦ safe_held recovers image bytes before stop.sent
+        | inr after ↦ rw append-nil at (safe_of recovers start (bodies_of read) [] image bytes _ (session.outbox ++ more) (rw kept_is at after) (rw serves.pending_is.known at stop.sent) sent)
       ]
 
   -- no time has passed

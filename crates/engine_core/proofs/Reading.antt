@@ -92,9 +92,6 @@ pub record Polls (holds : List Record → Outside → Type 0) (recovers : List R
 -- n bytes more were read
 module _ {holds : List Record → Outside → Type 0} {start : Start} {input : List ℕ} {count : ℕ} {session : Session} {old : Outside} (reads : Reads holds start input count session old)
     {most n : ℕ} {mid : Option (List ℕ)} {buffer : List ℕ} (takes : TakesPiece most old.input mid buffer n) where
-  still_there : count + n ≤ length input
-  still_there = omega (arith, takes.there (drop count input) reads.input_left, reads.there, length-drop count input)
-
   piece_is : take count input ++ take n buffer ≡ take (count + n) input
   piece_is = ap (λ (b : List ℕ). take count input ++ b) (takes.given (drop count input) reads.input_left) ∙ sym (take-add count n input)
 
@@ -105,7 +102,7 @@ module _ {holds : List Record → Outside → Type 0} {start : Start} {input : L
       → Reads keeps start input (count + n) after new
   reads_more keeps after new same serves = record {
     input_left = same ∙ takes.left ∙ ap (option_map (λ (bytes : List ℕ). drop n bytes)) reads.input_left ∙ ap (λ (bytes : List ℕ). Some bytes) (drop-drop n count input);
-    there = still_there;
+    there = omega (arith, takes.there (drop count input) reads.input_left, reads.there, length-drop count input);
     serves = subst (λ (b : List ℕ). Serves keeps start b after new) piece_is serves;
   }
 

@@ -1,13 +1,10 @@
 -- Memory that is short.
-use Rattle.std.proofs.Common.{◌≡◌, ◌≢◌, ℕ, ◌+◌, ◌≤◌, false, sym, subst, arith}
-use Rattle.std.specs.Prelude.{List, Option, None, Result, Ok, Err, IfErr, IsOk, OnErr}
+use Rattle.std.proofs.Common.{◌≡◌, ◌≢◌, ℕ, subst, arith}
+use Rattle.std.specs.Prelude.{List, Option, Result, Ok, Err, IfErr}
 use Rattle.host_core.specs.declared.fault.Fault.{Fault}
 use Rattle.host_core.specs.declared.fault.Fault.TheVariants as fault
 use Rattle.wire_in.specs.declared.record.Record.{Record}
-use Rattle.wire_in.specs.Records.{name_of}
-use Rattle.market_core.specs.Kinds.{is_trade, TakesMemory}
-use Rattle.market_core.specs.MarketState.{most_of_names}
-use Rattle.engine_core.specs.EngineState.{HasRoomFor}
+use Rattle.market_core.specs.Kinds.{TakesMemory}
 use Rattle.engine_core.specs.Answering.{IsShort}
 
 -- a call that fails for sending alone

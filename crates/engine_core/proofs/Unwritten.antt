@@ -1,8 +1,8 @@
 -- What is accepted only grows, and where nothing is, nothing is written.
-use Rattle.std.proofs.Common.{◌≡◌, ℕ, ◌≤◌, List, [], ◌∷◌, ◌++◌, length, refl, sym, ap, subst, ◌∙◌, append_assoc, length-append, arith}
-use Rattle.std.specs.Prelude.{Option, Ok, Err, reverse}
+use Rattle.std.proofs.Common.{◌≡◌, ℕ, List, [], ◌∷◌, ◌++◌, length, refl, sym, ap, ◌∙◌, append_assoc, length-append, arith}
+use Rattle.std.specs.Prelude.{Option, Ok, Err}
 use Rattle.std.proofs.lemmas.List.{nil_from_length, length-reverse}
-use Rattle.host_core.specs.Outside.{Outside, Agrees, MayLeave, Elapses}
+use Rattle.host_core.specs.Outside.{Outside, Agrees, Elapses}
 use Rattle.host_core.proofs.Moments.{nothing, widened, goes_on, ended}
 use Rattle.wire_in.specs.declared.record.Record.{Record}
 use Rattle.wire_in.specs.Cutting.{bodies_of, rest_of}

@@ -1,8 +1,7 @@
-use Rattle.std.proofs.Common.{inr, refl, sym, ◌∙◌, arith}
-use Rattle.engine_core.proofs.Asking.{no_ask, one_ask}
-use Rattle.engine_core.proofs.Reading.{takes_piece, exchanges_on}
+use Rattle.std.proofs.Common.{◌∙◌}
+use Rattle.engine_core.proofs.Asking.{one_ask}
+use Rattle.engine_core.proofs.Reading.{takes_piece}
 use Rattle.engine_core.proofs.Sending.{sends_stays}
-use Rattle.engine_core.proofs.Taken.{drop-none}
 use Rattle.engine_core.proofs.input.exchange.Goals as goal
 
 pub returns-in_default-read_piece-clause-moments : goal.returns-in_default-read_piece-clause-moments

@@ -3,7 +3,7 @@ use Rattle.std.specs.Prelude.{Err}
 use Rattle.std.proofs.lemmas.Bool.Decides.{nat_tests}
 use Rattle.std.proofs.lemmas.List.{length-take}
 use Rattle.std.specs.Io.KnownBytes.{append_known}
-use Rattle.host_core.specs.declared.fault.Fault.TheVariants.{Read, Memory}
+use Rattle.host_core.specs.declared.fault.Fault.TheVariants.{Read}
 use Rattle.host_core.proofs.Moments.{unchanged, further}
 use Rattle.host_core.proofs.Causes.{no_fault, faultless}
 use Rattle.wire_in.specs.Cutting.{bodies_of}

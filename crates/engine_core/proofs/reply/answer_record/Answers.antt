@@ -1,9 +1,8 @@
-use Rattle.std.proofs.Common.{◌≡◌, ℕ, ◌+◌, ◌∷◌, [], ◌++◌, length, ap, ◌∙◌, arith}
+use Rattle.std.proofs.Common.{◌≡◌, ◌+◌, ◌∷◌, [], length, arith}
 use Rattle.wire_out.specs.declared.message.Frame.TheVariants.{Ack}
-use Rattle.rulebook.specs.Sent.{spelled, numbered}
-use Rattle.rulebook.specs.Book.{messages_of, newest_messages}
+use Rattle.rulebook.specs.Sent.{spelled}
 use Rattle.engine_core.specs.Sessions.{with_acknowledgements}
-use Rattle.engine_core.proofs.Pending.{whenever_ok, on_ok, expects_same}
+use Rattle.engine_core.proofs.Pending.{whenever_ok}
 use Rattle.engine_core.proofs.Sending.{sends_longer, sends_on}
 use Rattle.engine_core.proofs.Messages.{acknowledged}
 use Rattle.engine_core.proofs.reply.answer_record.Goals as goal

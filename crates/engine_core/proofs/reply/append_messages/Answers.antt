@@ -1,12 +1,10 @@
-use Rattle.std.proofs.Common.{◌+◌, ◌++◌, List, drop, refl, sym, ap, ◌∙◌, append_assoc, arith}
-use Rattle.std.proofs.lemmas.List.{append-nil, drop_all}
+use Rattle.std.proofs.Common.{◌+◌, ◌++◌, List, refl, sym, ap, ◌∙◌, append_assoc, arith}
 use Rattle.host_core.proofs.Chains.{onward, sends_nothing}
 use Rattle.host_core.proofs.Causes.{no_fault, faultless}
 use Rattle.wire_out.specs.declared.message.Frame.TheVariants.{Numbered}
 use Rattle.wire_out.specs.declared.message.Stamped.{Stamped}
 use Rattle.wire_out.specs.Spelling.{spelling}
 use Rattle.rulebook.specs.Sent.{spelled, numbered}
-use Rattle.engine_core.proofs.Pending.{expects_same}
 use Rattle.engine_core.proofs.Sending.{sends_none, sends_longer, sends_on}
 use Rattle.engine_core.proofs.Answering.{drop_one}
 use Rattle.engine_core.proofs.reply.append_messages.Goals as goal

@@ -1,4 +1,3 @@
-use Rattle.std.proofs.Common.{refl}
 use Rattle.engine_core.proofs.Sending.{sends_none}
 use Rattle.engine_core.proofs.reply.evaluate.Goals as goal
 

@@ -1,7 +1,4 @@
-use Rattle.std.proofs.Common.{◌≡◌, ◌+◌, length, refl, sym, ap, ◌∙◌, arith, rules}
-use Rattle.std.specs.Prelude.{Err}
-use Rattle.host_core.specs.declared.fault.Fault.TheVariants.{Memory}
-use Rattle.std.proofs.lemmas.List.{drop_all}
+use Rattle.std.proofs.Common.{refl, sym, ap, ◌∙◌, arith, rules}
 use Rattle.host_core.proofs.Chains.{onward, sends_nothing}
 use Rattle.host_core.proofs.Causes.{no_fault, faultless}
 use Rattle.engine_core.specs.Sessions.{expected}

@@ -1,6 +1,6 @@
-use Rattle.std.proofs.Common.{◌∷◌, ◌++◌, length, ap, ◌∙◌, arith}
-use Rattle.rulebook.specs.Book.{newest_messages}
-use Rattle.engine_core.proofs.Messages.{published_more}
+use Rattle.std.proofs.Common.{◌∷◌, ◌++◌, length, ap, ◌∙◌, length-append, arith}
+use Rattle.rulebook.specs.Book.{newest_messages, history}
+use Rattle.rulebook.proofs.Histories.{messages-step}
 use Rattle.engine_core.proofs.engine.Engine.evaluate.Goals as goal
 
 pub returns-clause-represents : goal.returns-clause-represents
@@ -11,5 +11,5 @@ returns-clause-represents c = λ capacity accepted evaluated s passed.
       admission = s.admission;
       market = c.in_ok-apply.ensures.stands capacity evaluated s.market passed;
       evaluated_is = omega (arith, s.evaluated_is);
-      published = published_more c.args.x.now evaluated c.args.self.now.published c.len.result c.apply.new.out.items s.published gave (omega (arith, c.len.ensures, c.apply.new.out.ok.0));
+      published = omega (arith, simp length-append at (ap length (messages-step c.args.x.now (history evaluated))), s.published, ap length gave, c.len.ensures, c.apply.new.out.ok.0);
     }

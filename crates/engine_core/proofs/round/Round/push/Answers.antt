@@ -1,6 +1,4 @@
-use Rattle.std.proofs.Common.{rules, ◌≡◌, ◌≤◌, ◌++◌, length, [], ◌∷◌, sym, ap, ◌∙◌, arith, length-append}
-use Rattle.std.specs.Prelude.{vec_capacity}
-use Rattle.engine_core.specs.Rounds.{records_in}
+use Rattle.std.proofs.Common.{rules, ◌≡◌, ◌++◌, length, [], ◌∷◌, ap, arith, length-append}
 use Rattle.engine_core.proofs.Rounds.{few_records, records-append}
 use Rattle.engine_core.proofs.round.Round.push.Goals as goal
 

@@ -1,4 +1,4 @@
-use Rattle.std.proofs.Common.{◌≡◌, ◌∷◌, [], ◌++◌, ℕ, List, Bool, true, false, not, cond, drop, sym, ap, subst, ◌∙◌, true≢false}
+use Rattle.std.proofs.Common.{◌≡◌, ◌∷◌, [], ◌++◌, ℕ, List, Bool, true, false, not, sym, ap, subst, ◌∙◌, true≢false}
 use Rattle.wire_core.specs.Frames.{framed}
 use Rattle.wire_in.specs.Cutting.{pending, bodies_of, is_frame, GoesOn}
 use Rattle.engine_core.specs.declared.session.Session.{Session}

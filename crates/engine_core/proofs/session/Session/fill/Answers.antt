@@ -1,7 +1,6 @@
-use Rattle.std.proofs.Common.{◌++◌, ℕ, List, length, take, drop, sym, ap, subst, ◌∙◌, append_assoc, arith}
+use Rattle.std.proofs.Common.{◌++◌, length, take, ap, ◌∙◌, append_assoc, arith}
 use Rattle.std.proofs.Math.Seq.{take-add}
 use Rattle.std.proofs.lemmas.List.{take_rest, length-drop}
-use Rattle.engine_core.specs.Serving.{Judges}
 use Rattle.engine_core.proofs.session.Session.fill.Goals as goal
 
 pub loop-at-preserved : goal.loop-at-preserved

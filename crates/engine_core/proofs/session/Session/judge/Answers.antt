@@ -1,4 +1,4 @@
-use Rattle.std.proofs.Common.{◌≡◌, ℕ, ◌∷◌, [], List, length, ap, ◌∙◌, length-append, arith}
+use Rattle.std.proofs.Common.{◌≡◌, ℕ, List, length, ap, ◌∙◌, length-append, arith}
 use Rattle.std.specs.Prelude.{vec_capacity}
 use Rattle.rulebook.specs.Sent.{judged}
 use Rattle.engine_core.specs.declared.engine.Engine.{Engine}
