@@ -7,7 +7,7 @@ use Rattle.engine_core.proofs.Sending.{sends_same}
 use Rattle.engine_core.proofs.Starving.{not_short, takes_of}
 use Rattle.live_core.specs.InternalRecovery.{again}
 use Rattle.rulebook.proofs.Sending.{again_one}
-use Rattle.live_core.proofs.Again.{sends_part, sends_then}
+use Rattle.live_core.proofs.Recovering.{sends_part, sends_then}
 use Rattle.live_core.proofs.recovery.resume_record.Goals as goal
 
 pub returns-in_err-evaluate-clause-moments : goal.returns-in_err-evaluate-clause-moments

@@ -20,7 +20,7 @@ returns-clause-recovers g c = λ from disk known. record {
   batches = [];
   read = c.in_ok-scan.ensures.read disk known;
   resumes = record {
-    engine_is = subst (λ (l : ℕ). Represents c.limit-2.new.self l [] []) c.limit.ensures.capacity (limited c.limit.result c.limit-2.new.self c.limit-2.ensures (c.in-Ok.ensures).represents);
+    engine_is = subst (λ l. Represents c.limit-2.new.self l [] []) c.limit.ensures.capacity (limited c.limit.result c.limit-2.new.self c.limit-2.ensures (c.in-Ok.ensures).represents);
     lawful = tt;
     pending_is = nothing_again from (g.H.Host.outside c.begin.new.host).sent c.args.outbox c.requires;
   };
@@ -28,4 +28,4 @@ returns-clause-recovers g c = λ from disk known. record {
 
 pub returns-clause-reading : goal.returns-clause-reading
 returns-clause-reading g c =
-    subst (λ (e : Engine). IsReading c.in_ok-scan.scan e 0 (g.H.Host.outside c.begin.new.host).disk) (sym c.limit-2.ensures) (search rules)
+    subst (λ e. IsReading c.in_ok-scan.scan e 0 (g.H.Host.outside c.begin.new.host).disk) (sym c.limit-2.ensures) (search rules)

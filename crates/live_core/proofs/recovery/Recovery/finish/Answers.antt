@@ -16,7 +16,7 @@ returns c =
     record {
       keeps = c.finish.ensures.keeps;
       capacity = c.finish.ensures.capacity;
-      ready = λ known reading. subst (λ (s : Session). IsReady (HasRoom c.finish.result known) s) (sym session) (record {
+      ready = λ known reading. subst (λ s. IsReady (HasRoom c.finish.result known) s) (sym session) (record {
         sound = search rules;
         room = record {
           whole = c.finish.ensures.whole;
