@@ -74,12 +74,12 @@ module _ (disk : List ℕ) (capacity : ℕ) (batches : List (List Record)) (befo
 -- what stands before the damage covers what stands first
 pub covers_damaged : {capacity at : ℕ} {before : List Record} {disk : List ℕ} → IsDamagedAt capacity at before disk → Covers disk before
 covers_damaged {capacity} {at} {before} {disk} d =
-    ⊎_elim (λ (form : HasBadForm d.batches before d.rest). subst (λ r. Covers disk r) (sym form.same) (covers_all disk capacity at d.batches d.rest d.leads form.damaged.no_batch))
+    ⊎_elim (λ form. subst (λ r. Covers disk r) (sym form.same) (covers_all disk capacity at d.batches d.rest d.leads form.damaged.no_batch))
     (covers_bad disk capacity d.batches before) d.why
 
 pub lawful_undamaged : {capacity at : ℕ} {before : List Record} {disk : List ℕ} {limit : ℕ} {held : List Record} → IsDamagedAt capacity at before disk → Holds disk limit held → IsLawful limit held → ⊥
 lawful_undamaged {capacity} {at} {before} {disk} {limit} {held} d holds lawful =
-    ⊎_elim (λ (form : HasBadForm d.batches before d.rest). leads_undamaged disk capacity at d.batches d.rest limit held d.leads holds form.damaged) by d.why
+    ⊎_elim (λ form. leads_undamaged disk capacity at d.batches d.rest limit held d.leads holds form.damaged) by d.why
   where
     by : HasBadRecord capacity d.batches before disk → ⊥
     by bad =
@@ -89,7 +89,7 @@ lawful_undamaged {capacity} {at} {before} {disk} {limit} {held} d holds lawful =
 -- the records before a damage begin with those of its batches
 before_all : (capacity at : ℕ) (before : List Record) (disk : List ℕ) (d : IsDamagedAt capacity at before disk) → (extra : List Record) × (before ≡ extra ++ records_of d.batches)
 before_all capacity at before disk d =
-    ⊎_elim (λ (form : HasBadForm d.batches before d.rest). ([], form.same)) (λ (bad : HasBadRecord capacity d.batches before disk). (reverse bad.good, bad.same)) d.why
+    ⊎_elim (λ form. ([], form.same)) (λ bad. (reverse bad.good, bad.same)) d.why
 
 -- no damage stands behind another
 none_behind : (capacity at at' : ℕ) (before before' : List Record) (disk : List ℕ) (d : IsDamagedAt capacity at before disk) (e : IsDamagedAt capacity at' before' disk) → GoesOn d.batches e.batches d.rest e.rest → at ≡ at'

@@ -66,10 +66,10 @@ in_parts records first second = ap (λ r. r ++ records) (reverse-append first se
 
 -- A batch, record by record.
 module _ {from : Option ℕ} {begin : Option (List ℕ)} {disk : List ℕ} {batch : List Record} {count : ℕ} {recovery : Recovery} {now : Outside} (s : Resuming from begin disk batch count recovery now) where
-  abbrev held : List Record
-  held = with_batch (records_of s.batches) (take count batch)
+  abbrev held : ℕ → List Record
+  held n = with_batch (records_of s.batches) (take n batch)
 
-  stands : (n : ℕ) → IsPart (with_batch (records_of s.batches) (take n batch)) (records_of (s.batches ++ batch ∷ []))
+  stands : (n : ℕ) → IsPart (held n) (records_of (s.batches ++ batch ∷ []))
   stands n = record {
     more = reverse (drop n batch);
     whole = sym (in_parts (records_of s.batches) (take n batch) (drop n batch))
@@ -78,7 +78,7 @@ module _ {from : Option ℕ} {begin : Option (List ℕ)} {disk : List ℕ} {batc
 
   pub waits_there : ((image bytes : List ℕ) → now.leaves now.moment image bytes → Agrees now.sent bytes) → SendsAgain from begin disk now now
   waits_there sent_now all covers =
-      sends_part from (covers _ _ _ _ _ s.read.leads (stands count) s.resumes.lawful) (sends_none now sent_now recovery.outbox (again from held) s.resumes.pending_is)
+      sends_part from (covers _ _ _ _ _ s.read.leads (stands count) s.resumes.lawful) (sends_none now sent_now recovery.outbox (again from (held count)) s.resumes.pending_is)
 
   pub all_resumed : length batch ≤ count → Recovers (again from) begin disk recovery now
   all_resumed le = record {
@@ -95,34 +95,34 @@ module _ {from : Option ℕ} {begin : Option (List ℕ)} {disk : List ℕ} {batc
     next_of : take (count + 1) batch ≡ take count batch ++ x ∷ []
     next_of = take_more batch count x lt ∙ ap (λ y. take count batch ++ y ∷ []) (sym is)
 
-    with_next : with_batch (records_of s.batches) (take (count + 1) batch) ≡ x ∷ held
+    with_next : held (count + 1) ≡ x ∷ held count
     with_next = ap (λ b. with_batch (records_of s.batches) b) next_of ∙ in_parts (records_of s.batches) (take count batch) (x ∷ [])
 
-    passes : found ≡ verdict recovery.scan.capacity held x
-    passes = exact held s.resumes.engine_is.admission ∙ ap (λ l. verdict l held x) s.resumes.engine_is.within
+    passes : found ≡ verdict recovery.scan.capacity (held count) x
+    passes = exact (held count) s.resumes.engine_is.admission ∙ ap (λ l. verdict l (held count) x) s.resumes.engine_is.within
 
     -- it stands in each list that covers the disk
-    covered : found ≡ None → (all : List Record) → Covers disk all → IsPart (x ∷ held) all
+    covered : found ≡ None → (all : List Record) → Covers disk all → IsPart (x ∷ held count) all
     covered none all covers =
         let first = subst (λ r. IsPart r (records_of (s.batches ++ batch ∷ []))) with_next (stands (count + 1)) in
         covers _ _ _ _ _ s.read.leads first (sym passes ∙ none, s.resumes.lawful)
 
     -- memory is short for it
-    pub starves_there : found ≡ None → (new : Outside) → TakesMemory x × (new.sent ≡ append_known begin (again from held)) → StarvesAgain from begin disk new
+    pub starves_there : found ≡ None → (new : Outside) → TakesMemory x × (new.sent ≡ append_known begin (again from (held count))) → StarvesAgain from begin disk new
     starves_there none new short all covers =
         let part = covered none all covers in
-        record { before = held; x = x; later = part.more; parts = sym part.whole; takes = short.0; sent = short.1 }
+        record { before = held count; x = x; later = part.more; parts = sym part.whole; takes = short.0; sent = short.1 }
 
     -- its messages are sent
     pub sends_next : {start new : Outside} → SendsAgain from begin disk start now → found ≡ None
-        → ((capacity : ℕ) (held : List Record) (begin : Option (List ℕ)) → Resumes (again from) capacity held begin recovery.engine recovery.outbox now
-        → verdict capacity held x ≡ None → Elapses now new (SendsPrefix begin (again from (x ∷ held)) now)) → SendsAgain from begin disk start new
+        → ((capacity : ℕ) (before : List Record) (begin : Option (List ℕ)) → Resumes (again from) capacity before begin recovery.engine recovery.outbox now
+        → verdict capacity before x ≡ None → Elapses now new (SendsPrefix begin (again from (x ∷ before)) now)) → SendsAgain from begin disk start new
     sends_next first none run all covers =
-        sends_then (first all covers) (sends_part from (covered none all covers) (run recovery.scan.capacity held begin s.resumes (sym passes ∙ none)))
+        sends_then (first all covers) (sends_part from (covered none all covers) (run recovery.scan.capacity (held count) begin s.resumes (sym passes ∙ none)))
 
     pub resumed_next : found ≡ None → (engine : Engine) (outbox : List ℕ) {new : Outside} → OnlySends now new
-        → ((capacity : ℕ) (held : List Record) (begin : Option (List ℕ)) → Resumes (again from) capacity held begin recovery.engine recovery.outbox now
-        → verdict capacity held x ≡ None → Resumes (again from) capacity (x ∷ held) begin engine outbox new) → Resuming from begin disk batch (count + 1) (record recovery { engine = engine; outbox = outbox }) new
+        → ((capacity : ℕ) (before : List Record) (begin : Option (List ℕ)) → Resumes (again from) capacity before begin recovery.engine recovery.outbox now
+        → verdict capacity before x ≡ None → Resumes (again from) capacity (x ∷ before) begin engine outbox new) → Resuming from begin disk batch (count + 1) (record recovery { engine = engine; outbox = outbox }) new
     resumed_next none engine outbox {new} sends resumes = record {
       rests = sends_rests sends s.rests;
       batches = s.batches;
@@ -130,11 +130,11 @@ module _ {from : Option ℕ} {begin : Option (List ℕ)} {disk : List ℕ} {batc
       leads = s.leads;
       read = s.read;
       resumes = subst (λ r. Resumes (again from) recovery.scan.capacity r begin engine outbox new) (sym with_next)
-          (resumes recovery.scan.capacity held begin s.resumes (sym passes ∙ none));
+          (resumes recovery.scan.capacity (held count) begin s.resumes (sym passes ∙ none));
     }
 
     -- it may not follow
-    pub bad_there : found ≢ None → IsDamagedAt recovery.scan.capacity recovery.scan.at held disk
+    pub bad_there : found ≢ None → IsDamagedAt recovery.scan.capacity recovery.scan.at (held count) disk
     bad_there some = record {
       batches = s.batches;
       rest = s.rest;
@@ -181,7 +181,7 @@ module _ (from : Option ℕ) {begin : Option (List ℕ)} {disk : List ℕ} {reco
 
     -- neither a closed gate nor a batch
     pub bad_form_there : (at : ℕ) → at ≡ recovery.scan.gate
-        → ((batches : List (List Record)) (disk : List ℕ) → old.disk ≡ Some disk → HasRead recovery.scan batches disk → IsDamaged (drop at disk)) → IsDamagedAt recovery.scan.capacity at (records_of r.batches) disk
+        → ((batches : _) (disk : _) → old.disk ≡ Some disk → HasRead recovery.scan batches disk → IsDamaged (drop at disk)) → IsDamagedAt recovery.scan.capacity at (records_of r.batches) disk
     bad_form_there at there damaged = record {
       batches = r.batches;
       rest = recovery.scan.ahead ++ r.read.rest;
@@ -201,7 +201,7 @@ module _ (from : Option ℕ) {first recovery : Recovery} {start old : Outside} (
   -- a batch
   pub has_next : (scan : ScanState) → scan.capacity ≡ recovery.scan.capacity → {batch records : List Record} → records ≡ batch → {answer : Result Bool ScanError} {more : Bool} → answer ≡ Ok more → more ≡ true
       → (answer ≡ Ok true → scan.at ≡ recovery.scan.gate)
-      → (answer ≡ Ok true → (batches : List (List Record)) (disk : List ℕ) → old.disk ≡ Some disk → HasRead recovery.scan batches disk → HasRead scan (batches ++ batch ∷ []) disk)
+      → (answer ≡ Ok true → (batches : _) (disk : _) → old.disk ≡ Some disk → HasRead recovery.scan batches disk → HasRead scan (batches ++ batch ∷ []) disk)
       → (begin : Option (List ℕ)) (disk : List ℕ) → Recovers (again from) begin disk first start
       → Resuming from begin disk records 0 (record recovery { scan = scan }) new × SendsAgain from begin disk start new
   has_next scan same is was found at read begin disk given =
@@ -219,7 +219,7 @@ module _ (from : Option ℕ) {first recovery : Recovery} {start old : Outside} (
 
   -- the end
   pub has_end : (scan : ScanState) → scan.capacity ≡ recovery.scan.capacity
-      → {answer : Result Bool ScanError} → (answer ≢ Ok true → (batches : List (List Record)) (disk : List ℕ) → old.disk ≡ Some disk → HasRead recovery.scan batches disk → HasRead scan batches disk)
+      → {answer : Result Bool ScanError} → (answer ≢ Ok true → (batches : _) (disk : _) → old.disk ≡ Some disk → HasRead recovery.scan batches disk → HasRead scan batches disk)
       → {more : Bool} → answer ≡ Ok more → more ≡ false
       → (begin : Option (List ℕ)) (disk : List ℕ) → Recovers (again from) begin disk first start
       → Recovers (again from) begin disk (record recovery { scan = scan }) new × SendsAgain from begin disk start new
@@ -255,9 +255,9 @@ pub fault_hinders : {T : Type 0} (damaged : ℕ → Type 0) (missing starved : T
     → (first ≡ Err fault.Memory → starved) → NoFault old mid → HasCause f mid new → Hinders damaged missing starved (status_of f) old new
 fault_hinders damaged missing starved {old} {mid} new {first} {f} is unread short none cause = grind (arith, faultless)
 
-pub hinders_on : (damaged worse : ℕ → Type 0) (missing absent hungry starved : Type 0) (old mid new : Outside) (s : Status) → NoFault old mid → ((at : ℕ) → damaged at → worse at) → (missing → absent) → (hungry → starved)
+pub hinders_on : {damaged worse : ℕ → Type 0} {missing absent hungry starved : Type 0} {old mid : Outside} (new : Outside) (s : Status) → NoFault old mid → ((at : ℕ) → damaged at → worse at) → (missing → absent) → (hungry → starved)
     → Hinders damaged missing hungry s mid new → Hinders worse absent starved s old new
-hinders_on damaged worse missing absent hungry starved old mid new s none more other still why = grind (arith, faultless)
+hinders_on new s none more other still why = grind (arith, faultless)
 
 pub why_at : (damaged : ℕ → Type 0) (missing starved : Type 0) (old new : Outside) {s : Status} (same : Status) → s ≡ same → Hinders damaged missing starved s old new → Hinders damaged missing starved same old new
 why_at damaged missing starved old new same is = subst (λ s. Hinders damaged missing starved s old new) is

@@ -71,7 +71,7 @@ unbegun here from status {old} {mid} reads tells why = record {
   headless = λ disk known none. reads_only reads;
   unsent = λ is. reads.sent;
   keeps = only_read reads;
-  hinders = hinders_on _ _ _ _ _ _ old old mid status (no_fault old) (λ at none. absurd none) (λ missing disk known. missing disk (reads.disk ∙ known)) (λ before. inl before) why;
+  hinders = hinders_on _ _ (no_fault old) (λ at none. absurd none) (λ missing disk known. missing disk (reads.disk ∙ known)) (λ before. inl before) why;
 }
 
 -- A journal was begun, and then read.
@@ -108,7 +108,7 @@ module _ (from : Option ℕ) {old mid new : Outside} {recovery : Recovery} (read
     headless = λ disk known missing. absurd (header disk (reads.disk ∙ known) missing);
     unsent = λ is. absurd (why_at _ _ _ mid new NoJournal is why).1;
     keeps = recovers_on (only_read reads) keeps;
-    hinders = hinders_on _ _ _ _ _ _ old mid new status none (λ at there disk known. there old.sent disk (begun_at old.sent disk refl known)) (λ missing. absurd missing)
+    hinders = hinders_on _ _ none (λ at there disk known. there old.sent disk (begun_at old.sent disk refl known)) (λ missing. absurd missing)
         (λ hungry. inr (λ disk known. hungry old.sent disk (begun_at old.sent disk refl known))) why;
   }
 

@@ -22,7 +22,7 @@ returns-in_err-more-clause-moments g c = read_on c.args.from c.batches.invariant
 pub returns-in_err-more-clause-hindered : goal.returns-in_err-more-clause-hindered
 returns-in_err-more-clause-hindered g c =
     answered_on _ c.from_residual.result c.from_residual.ensures.1
-    (hinders_on _ _ _ _ _ _ _ _ _ _ c.batches.invariant.none (λ at there. there) (λ missing. missing) (λ hungry. hungry)
+    (hinders_on _ _ c.batches.invariant.none (λ at there. there) (λ missing. missing) (λ hungry. hungry)
     (scan_hinders _ _ _ c.next.result _ c.in_err-more.was c.next.ensures.keeps c.next.ensures.faultless c.next.ensures.cause c.next.ensures.no_journal (λ short. absurd (c.next.ensures.no_memory short))
     (λ at is begin disk first.
     (_, _, bad_form_there c.args.from (c.batches.invariant.advances begin disk first).0 c.next.ensures.keeps at (c.next.ensures.at_damage at is) (c.next.ensures.damaged at is)))))
@@ -61,7 +61,7 @@ returns-in_err-resume-clause-hindered g c =
     let next = has_next c.args.from c.batches.invariant.advances c.next.ensures.keeps c.next.new.self c.next.ensures.capacity c.list.ensures.records c.in_ok-more.was c.if-not-more.false
     c.next.ensures.at_batch c.next.ensures.batch in
     answered_on _ c.from_residual-in_err-resume.result c.from_residual-in_err-resume.ensures.1
-    (hinders_on _ _ _ _ _ _ _ _ _ _ (faultless c.batches.invariant.none (reads_faultless c.next.ensures.keeps (c.next.ensures.faultless (λ is. cc c.in_ok-more.was))))
+    (hinders_on _ _ (faultless c.batches.invariant.none (reads_faultless c.next.ensures.keeps (c.next.ensures.faultless (λ is. cc c.in_ok-more.was))))
     (λ at there begin disk first. there begin disk (next begin disk first).0) (λ missing. missing) (λ hungry begin disk first. hungry begin disk (next begin disk first).0) c.in_err-resume.ensures.hindered)
 
 pub batches-preserved : goal.batches-preserved
