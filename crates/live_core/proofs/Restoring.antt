@@ -13,7 +13,6 @@ use Rattle.journal_core.specs.Journal.{IsAtRest}
 use Rattle.journal_core.specs.Scan.{HasRead, HasNoHeader}
 use Rattle.journal_core.proofs.Readable.{readable, read_holds}
 use Rattle.rulebook.specs.Sent.{hello}
-use Rattle.engine_core.specs.declared.session.Session.{Session}
 use Rattle.engine_core.specs.Pending.{SendsPrefix}
 use Rattle.engine_core.specs.Sessions.{expected}
 use Rattle.engine_core.specs.Serving.{Reads}

@@ -1,11 +1,10 @@
 -- What a session did, whatever ended it.
 use Rattle.std.proofs.Common.{◌≡◌, ◌≢◌, ◌⊎◌, inl, inr, ⊎_elim, ℕ, List, [], ◌++◌, length, take, drop, refl, sym, ap, subst, ◌∙◌, append_assoc, arith}
-use Rattle.std.specs.Prelude.{Option, Some, min, Result, IfOk}
+use Rattle.std.specs.Prelude.{Option, Some, min}
 use Rattle.std.proofs.lemmas.List.{append-nil, take-append-drop}
 use Rattle.host_core.specs.declared.status.Status.{Status}
 use Rattle.host_core.specs.declared.status.Status.TheVariants.{Usage, ReadFault, SendFault, DiskFault, Damaged, NoJournal, NoMemory, BadText}
-use Rattle.host_core.specs.declared.fault.Fault.{Fault}
-use Rattle.host_core.specs.Outside.{Outside, Agrees, MayLeave, Elapses, Ends, IsSettled, Rose, NoFault, Continues}
+use Rattle.host_core.specs.Outside.{Outside, Agrees, MayLeave, Elapses, Ends, IsSettled, Continues}
 use Rattle.host_core.proofs.Moments.{widened, goes_on, ended, returned, further}
 use Rattle.host_core.proofs.Causes.{faultless, no_fault}
 use Rattle.host_core.proofs.Chains.{reads_nothing}
@@ -19,7 +18,7 @@ use Rattle.journal_core.specs.Scan.{HasNoHeader}
 use Rattle.journal_core.proofs.OneList.{alone}
 use Rattle.journal_core.proofs.Readable.{readable}
 use Rattle.engine_core.specs.declared.session.Session.{Session}
-use Rattle.engine_core.specs.Ends.{IsEnd, ReadsAtMost, Told, answer_of}
+use Rattle.engine_core.specs.Ends.{ReadsAtMost, Told}
 use Rattle.engine_core.specs.Pending.{SendsPrefix, SentPrefix}
 use Rattle.engine_core.specs.Serving.{Reads}
 use Rattle.engine_core.specs.Sessions as engine

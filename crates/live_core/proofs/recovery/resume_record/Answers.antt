@@ -1,6 +1,4 @@
-use Rattle.std.proofs.Common.{◌≡◌, [], ◌∷◌, refl, sym, subst, ◌∙◌, rules}
-use Rattle.std.specs.Prelude.{Err}
-use Rattle.host_core.specs.declared.fault.Fault.TheVariants.{Memory}
+use Rattle.std.proofs.Common.{[], ◌∷◌, refl, sym, subst, ◌∙◌, rules}
 use Rattle.engine_core.specs.EngineState.{IsRoomy}
 use Rattle.engine_core.proofs.Pending.{on_ok, whenever_ok, expects_same}
 use Rattle.engine_core.proofs.Sending.{sends_same}

@@ -1,6 +1,5 @@
-use Rattle.std.proofs.Common.{ℕ, [], sym, subst, arith, rules}
+use Rattle.std.proofs.Common.{[], sym, subst, rules}
 use Rattle.host_core.proofs.Chains.{reads_nothing}
-use Rattle.engine_core.specs.declared.engine.Engine.{Engine}
 use Rattle.engine_core.specs.EngineState.{Represents}
 use Rattle.live_core.specs.InternalRecovery.{IsReading}
 use Rattle.live_core.proofs.Recovering.{answered_on, scan_hinders, limited, nothing_again}

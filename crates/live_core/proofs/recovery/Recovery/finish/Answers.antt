@@ -1,5 +1,4 @@
 use Rattle.std.proofs.Common.{◌≡◌, [], sym, subst, ◌∙◌, arith, rules}
-use Rattle.engine_core.specs.declared.session.Session.{Session}
 use Rattle.engine_core.specs.Serving.{IsReady}
 use Rattle.live_core.specs.InternalKeeping.{HasRoom}
 use Rattle.live_core.proofs.recovery.Recovery.finish.Goals as goal
