@@ -31,9 +31,8 @@ module _ {start : Start} {answered all : List (List ℕ)} {number : ℕ} {outcom
     waiting = waits.waiting ++ body ∷ [];
     whole = sym (append_assoc answered waits.waiting (body ∷ [])) ∙ ap (λ (b : List (List ℕ)). b ++ body ∷ []) waits.whole;
     number_is = waits.number_is;
-    outcomes_are = more ∙ (λ i. waits.outcomes_are i ++ is i ∷ [])
-        ∙ ap (λ (h : _). outcomes_of start.capacity (held_after start answered) waits.waiting ++ judged start.capacity h body ∷ []) (ap (held_after start) (sym waits.whole) ∙ held-more start answered waits.waiting)
-        ∙ sym (outcomes-append start.capacity (held_after start answered) waits.waiting (body ∷ []));
+    outcomes_are = more ∙ (λ i. waits.outcomes_are i ++ (is ∙ ap (λ (b : _). judged start.capacity (held_after start b) body) (sym waits.whole)) i ∷ [])
+        ∙ simp (outcomes-append, held-more);
     engine_is = subst (λ (h : _). Represents next start.capacity h (held_after start answered)) (ap (with_record (held_after start all)) is ∙ sym (held-one start all body)) represents;
   }
 
@@ -76,9 +75,7 @@ module _ {start : Start} {all : List (List ℕ)} {number : ℕ} {outcome : Outco
   }
 
   text_is : text ≡ expected start (answers.answered ++ first.0 ∷ [])
-  text_is =
-      (λ j. expected start answers.answered ++ spelled (with_acknowledgements start.acknowledges (reply (answers.waits.number_is j + 1) held (first.3 j))))
-      ∙ sym (expected-one start answers.answered first.0)
+  text_is = rw (expected-one, ← answers.waits.number_is, ← first.3)
 
   pub answers_next : (next : Engine) (pending : List ℕ) (now : Option (List ℕ)) → Represents next start.capacity (held_after start all) (with_record (held_after start answers.answered) outcome)
       → Expects start.sent now pending (expected start answers.answered ++ spelled (with_acknowledgements start.acknowledges (reply (number + 1) (held_after start answers.answered) outcome)))
@@ -108,13 +105,11 @@ pub sound_next : {engine : Engine} {outcome : Outcome} {later : List Outcome} {n
     → next.evaluated ≡ engine.evaluated + length (records_in (outcome ∷ [])) → next.published ≤ engine.published + most_messages * length (records_in (outcome ∷ [])) → IsRoomy next
     → IsSound next later (number + 1)
 sound_next {outcome = outcome} {later = later} next sound same evaluated published roomy =
-    let one = few_records (outcome ∷ []) in
-    let both = ap length (records-append (outcome ∷ []) later) ∙ length-append (records_in (outcome ∷ [])) (records_in later) in
-    let counted = ap (λ (a : AdmissionState). a.count) same in
+    let both = simp length-append at (ap length (records-append (outcome ∷ []) later)) in
     record {
-      within = omega (arith, sound.within, counted, ap (λ (a : AdmissionState). a.capacity) same);
-      count = omega (arith, sound.count, counted, evaluated, both);
+      within = rw same sound.within;
+      count = rw same (omega (arith, sound.count, evaluated, both));
       few = omega (arith, sound.few, evaluated, published);
-      small = omega (arith, sound.small, evaluated, one);
+      small = omega (arith, sound.small, evaluated, few_records (outcome ∷ []));
       roomy = roomy;
     }

@@ -15,11 +15,7 @@ use Rattle.engine_core.specs.Sessions.{Start, Answered}
 pub ends : {holds : List Record → Outside → Type 0} {start : Start} {input : List ℕ} {read : ℕ} {now : Outside} (most : ℕ) (status : Status) → read ≤ most → Answered holds start input read now
     → (read ≡ length input) ⊎ (read ≡ most) → status ≡ cond (nat_le most read) SessionFull (cond (length (rest_of (take read input)) == 0) Done Truncated)
     → (status ≡ end_of most input) × Answered holds start input (min most (length input)) now
-ends {holds} {start} {input} {read} {now} most status le answered either is = (by either, subst (λ (k : ℕ). Answered holds start input k now) (fewer either) answered) where
-  fewer : (read ≡ length input) ⊎ (read ≡ most) → read ≡ min most (length input)
-  fewer (inl all) = omega (arith, le, all)
-  fewer (inr full) = omega (arith, full, answered.there)
-
+ends {holds} {start} {input} {read} {now} most status le answered either is = (by either, subst (λ (k : ℕ). Answered holds start input k now) (omega (arith, le, either, answered.there)) answered) where
   by : (read ≡ length input) ⊎ (read ≡ most) → status ≡ end_of most input
   by (inl all) =
       let whole : take read input ≡ input = take_all read input (omega (arith, all)) in

@@ -2,6 +2,7 @@
 use Rattle.std.proofs.Common.{◌≡◌, ℕ, ◌+◌, Bool, true, false, List, [], ◌∷◌, ◌++◌, length, take, drop, refl, sym, ap, subst, ◌∙◌, append_assoc, length-append, arith}
 use Rattle.std.specs.Io.KnownBytes.{append_known}
 use Rattle.std.proofs.lemmas.List.{append-nil, take_at, take-append-le, take-append-drop}
+use Rattle.std.proofs.Math.Nat.{add_comm}
 use Rattle.host_core.specs.Outside.{Outside, Agrees, MayLeave}
 use Rattle.wire_in.specs.declared.record.Record.{Record}
 use Rattle.wire_in.specs.Cutting.{bodies_of, rest_of}
@@ -24,20 +25,12 @@ added start a b = spelled (with_acknowledgements start.acknowledges (replies sta
 pub expected-more : (start : Start) (a b : List (List ℕ)) → expected start (a ++ b) ≡ expected start a ++ added start a b
 unfolding expected
 expected-more start a b =
-    let first = replies start.capacity 1 start.held a in
-    let later = replies start.capacity (length a + 1) (held_after start a) b in
-    ap (λ (frames : List Frame). start.opening ++ spelled (with_acknowledgements start.acknowledges frames))
-    (replies-append start.capacity 1 start.held a b ∙ ap (λ (k : ℕ). first ++ replies start.capacity k (held_after start a) b) (omega arith))
-    ∙ ap (λ (frames : List Frame). start.opening ++ spelled frames) (with_acknowledgements-append start.acknowledges first later)
-    ∙ ap (λ (bytes : List ℕ). start.opening ++ bytes) (spelled-append (with_acknowledgements start.acknowledges first) (with_acknowledgements start.acknowledges later))
-    ∙ sym (append_assoc start.opening (spelled (with_acknowledgements start.acknowledges first)) (spelled (with_acknowledgements start.acknowledges later)))
+    simp (replies-append, with_acknowledgements-append, spelled-append, append_assoc, add_comm 1 (length a))
 
 -- one frame more
 pub expected-one : (start : Start) (a : List (List ℕ)) (body : List ℕ)
     → expected start (a ++ body ∷ []) ≡ expected start a ++ spelled (with_acknowledgements start.acknowledges (reply (length a + 1) (held_after start a) (judged start.capacity (held_after start a) body)))
-expected-one start a body =
-    expected-more start a (body ∷ [])
-    ∙ ap (λ (frames : List Frame). expected start a ++ spelled (with_acknowledgements start.acknowledges frames)) (append-nil (reply (length a + 1) (held_after start a) (judged start.capacity (held_after start a) body)))
+expected-one start a body = expected-more start a (body ∷ []) ∙ simp append-nil
 
 pub held-more : (start : Start) (a b : List (List ℕ)) → held_after start (a ++ b) ≡ accepted_of start.capacity (held_after start a) b
 held-more start a b = accepted_of-append start.capacity start.held a b
@@ -50,36 +43,28 @@ pub record Begins (front all : List ℕ) : Type 0 where
   pub more : List ℕ
   pub whole : front ++ more ≡ all
 
-module _ (recovers : List Record → List ℕ → Type 0) (start : Start) where
-  -- what some frames gave is recovered, and a prefix of what is expected for them was sent
-  pub safe_of : (a b : List (List ℕ)) (image bytes since unsent : List ℕ) → recovers (held_after start a) image → Agrees (append_known start.sent since) bytes → since ++ unsent ≡ expected start a
-      → IsSafe recovers start (a ++ b) image bytes
-  safe_of a b image bytes since unsent recovered sent prefix =
-      let same : a ≡ take (length a) (a ++ b) = sym (take_at a b (length a) refl) in
-      record {
-        count = length a;
-        within = omega (arith, length-append a b);
-        recovered = subst (λ (bodies : List (List ℕ)). recovers (held_after start bodies) image) same recovered;
-        since = since;
-        unsent = unsent;
-        sent = sent;
-        prefix = prefix ∙ ap (expected start) same;
-      }
+-- what some frames gave is recovered, and a prefix of what is expected for them was sent
+pub safe_of : (recovers : List Record → List ℕ → Type 0) (start : Start) (a b : List (List ℕ)) (image bytes since unsent : List ℕ) → recovers (held_after start a) image
+    → Agrees (append_known start.sent since) bytes → since ++ unsent ≡ expected start a → IsSafe recovers start (a ++ b) image bytes
+safe_of recovers start a b image bytes since unsent recovered sent prefix =
+    let same : a ≡ take (length a) (a ++ b) = sym (take_at a b (length a) refl) in
+    record {
+      count = length a;
+      within = omega (arith, length-append a b);
+      recovered = subst (λ (bodies : List (List ℕ)). recovers (held_after start bodies) image) same recovered;
+      since = since;
+      unsent = unsent;
+      sent = sent;
+      prefix = prefix ∙ ap (expected start) same;
+    }
 
+module _ (recovers : List Record → List ℕ → Type 0) (start : Start) where
   -- what is safe for some frames is safe for more, and by a wider test of images
   safe_wider : (wider : List Record → List ℕ → Type 0) → ((records : List Record) (image : List ℕ) → recovers records image → wider records image)
       → (a b : List (List ℕ)) (image bytes : List ℕ) → IsSafe recovers start a image bytes → IsSafe wider start (a ++ b) image bytes
   safe_wider wider more a b image bytes safe =
-      let same : take safe.count a ≡ take safe.count (a ++ b) = sym (take-append-le safe.count a b safe.within) in
-      record {
-        count = safe.count;
-        within = omega (arith, safe.within, length-append a b);
-        recovered = more _ image (subst (λ (bodies : List (List ℕ)). recovers (held_after start bodies) image) same safe.recovered);
-        since = safe.since;
-        unsent = safe.unsent;
-        sent = safe.sent;
-        prefix = safe.prefix ∙ ap (expected start) same;
-      }
+      let whole : take safe.count a ++ (drop safe.count a ++ b) ≡ a ++ b = sym (append_assoc _ _ b) ∙ ap (λ (front : List (List ℕ)). front ++ b) (take-append-drop safe.count a) in
+      rw whole at (safe_of wider start (take safe.count a) (drop safe.count a ++ b) image bytes safe.since safe.unsent (more _ image safe.recovered) safe.sent safe.prefix)
 
   pub safe_more : (a b : List (List ℕ)) (image bytes : List ℕ) → IsSafe recovers start a image bytes → IsSafe recovers start (a ++ b) image bytes
   safe_more = safe_wider recovers (λ records image recovered. recovered)
@@ -95,8 +80,7 @@ module _ (recovers : List Record → List ℕ → Type 0) (start : Start) where
   pub safe_sends : (bodies : List (List ℕ)) (now : Outside) (image bytes : List ℕ) → recovers (held_after start bodies) image → SendsPrefix start.sent (expected start bodies) now image bytes
       → IsSafe recovers start bodies image bytes
   safe_sends bodies now image bytes recovered stop =
-      subst (λ (all : List (List ℕ)). IsSafe recovers start all image bytes) (append-nil bodies)
-      (safe_of bodies [] image bytes stop.sent stop.rest recovered stop.known stop.prefix)
+      rw append-nil at (safe_of recovers start bodies [] image bytes stop.sent stop.rest recovered stop.known stop.prefix)
 
 -- where memory was short among some frames, it was so among more
 pub starved_further : {start : Start} {front all : List ℕ} → Begins front all → {now : Outside} → Starved start (bodies_of front) now → Starved start (bodies_of all) now
@@ -129,7 +113,6 @@ pub safe_prefix : (start : Start) (bodies : List (List ℕ)) (now : Outside) (im
     → SendsPrefix start.sent (expected start bodies) now image bytes
 safe_prefix start bodies now image bytes recovers left safe =
     let first = take safe.count bodies in
-    let later = drop safe.count bodies in
     let was : MayLeave now image = left (held_after start first) image safe.recovered in
-    prefix_of_longer (expected start first) (added start first later) _ (sym (expected-more start first later) ∙ ap (expected start) (take-append-drop safe.count bodies)) image bytes
+    prefix_of_longer (expected start first) _ _ (sym (expected-more start first (drop safe.count bodies)) ∙ ap (expected start) (take-append-drop safe.count bodies)) image bytes
     was (record { was = was; sent = safe.since; rest = safe.unsent; known = safe.sent; prefix = safe.prefix })

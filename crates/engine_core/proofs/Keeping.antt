@@ -29,9 +29,8 @@ module _ {holds : List Record → Outside → Type 0} {start : Start} {read : Li
   -- what the accepted records of the round make of those that are held
   pub kept_is : with_batch (held_after start serves.answered) (records_in session.round) ≡ held_after start (bodies_of read)
   kept_is =
-      ap (λ (o : _). with_batch (held_after start serves.answered) (records_in o)) serves.judges.waits.outcomes_are
-      ∙ batch_of start.capacity (held_after start serves.answered) serves.judges.waits.waiting
-      ∙ sym (held-more start serves.answered serves.judges.waits.waiting) ∙ ap (held_after start) serves.judges.waits.whole
+      rw (serves.judges.waits.outcomes_are, ← serves.judges.waits.whole)
+      (batch_of start.capacity (held_after start serves.answered) serves.judges.waits.waiting ∙ sym (held-more start serves.answered serves.judges.waits.waiting))
 
   pub answers_of : (sent : Option (List ℕ)) → sent ≡ now.sent → Answers start (bodies_of read) session.answered session.round session.engine session.outbox sent
   answers_of sent same = record { answered = serves.answered; waits = serves.judges.waits; pending_is = expects_still sent same serves.pending_is }
@@ -58,23 +57,20 @@ module _ {holds : List Record → Outside → Type 0} {start : Start} {read : Li
   -- a stop that leaves what is held
   safe_held : (recovers : List Record → List ℕ → Type 0) (image bytes : List ℕ) → recovers (held_after start serves.answered) image → Agrees now.sent bytes → IsSafe recovers start (bodies_of read) image bytes
   safe_held recovers image bytes recovered sent =
-      subst (λ (b : List (List ℕ)). IsSafe recovers start b image bytes) serves.judges.waits.whole
-      (safe_of recovers start serves.answered serves.judges.waits.waiting image bytes serves.pending_is.sent session.outbox recovered
-      (subst (λ (known : Option (List ℕ)). Agrees known bytes) serves.pending_is.known sent) serves.pending_is.whole)
+      rw serves.judges.waits.whole at (safe_of recovers start serves.answered serves.judges.waits.waiting image bytes serves.pending_is.sent session.outbox recovered
+      (rw serves.pending_is.known at sent) serves.pending_is.whole)
 
   -- or the round kept
   pub safe_keeps : (recovers : List Record → List ℕ → Type 0) (image bytes : List ℕ) → Keeps recovers (held_after start serves.answered) (records_in session.round) now image bytes
       → IsSafe recovers start (bodies_of read) image bytes
-  safe_keeps recovers image bytes stop = by stop.either where
-    by : recovers (held_after start serves.answered) image ⊎ recovers (with_batch (held_after start serves.answered) (records_in session.round)) image → IsSafe recovers start (bodies_of read) image bytes
-    by (inl before) = safe_held recovers image bytes before stop.sent
-    by (inr after) =
-        let more = added start serves.answered serves.judges.waits.waiting in
-        subst (λ (b : List (List ℕ)). IsSafe recovers start b image bytes) (append-nil (bodies_of read))
-        (safe_of recovers start (bodies_of read) [] image bytes serves.pending_is.sent (session.outbox ++ more) (subst (λ (r : List Record). recovers r image) kept_is after)
-        (subst (λ (known : Option (List ℕ)). Agrees known bytes) serves.pending_is.known stop.sent)
-        (sym (append_assoc serves.pending_is.sent session.outbox more) ∙ ap (λ (b : List ℕ). b ++ more) serves.pending_is.whole
-        ∙ sym (expected-more start serves.answered serves.judges.waits.waiting) ∙ ap (expected start) serves.judges.waits.whole))
+  safe_keeps recovers image bytes stop =
+      let more = added start serves.answered serves.judges.waits.waiting in
+      let whole = sym (expected-more start serves.answered serves.judges.waits.waiting) ∙ ap (expected start) serves.judges.waits.whole in
+      let sent = sym (append_assoc _ _ more) ∙ ap (λ (b : List ℕ). b ++ more) serves.pending_is.whole ∙ whole in
+      elim stop.either [
+        inl before ↦ safe_held recovers image bytes before stop.sent
+      | inr after ↦ rw append-nil at (safe_of recovers start (bodies_of read) [] image bytes _ (session.outbox ++ more) (rw kept_is at after) (rw serves.pending_is.known at stop.sent) sent)
+      ]
 
   -- no time has passed
   pub idles : (recovers : List Record → List ℕ → Type 0) {all : List ℕ} → Begins read all → ((image bytes : List ℕ) → now.leaves now.moment image bytes → Agrees now.sent bytes)
@@ -88,10 +84,6 @@ pub runs_on : {recovers later : List Record → List ℕ → Type 0} {start : St
     → {old mid new : Outside} → Elapses old mid (IsSafe recovers start (bodies_of all)) → Elapses mid new (IsSafe later start (bodies_of front)) → Elapses old new (IsSafe recovers start (bodies_of all))
 runs_on {recovers} {later} {start} begins before first second =
     goes_on first second (safe_further later start begins recovers before)
-
--- the bytes read, by another spelling
-pub serves_as : {holds : List Record → Outside → Type 0} {start : Start} {read same : List ℕ} {session : Session} {now : Outside} → read ≡ same → Serves holds start read session now → Serves holds start same session now
-serves_as {holds} {start} {session = session} {now = now} is = subst (λ (b : List ℕ). Serves holds start b session now) is
 
 -- what is left alone by a keep, and by answers
 pub answers_writes : (touches : Outside → Outside → Type 0) {old new : Outside} → OnlyWrites old new → touches old new → OnlyAnswers touches old new

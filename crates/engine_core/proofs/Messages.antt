@@ -14,16 +14,11 @@ use Rattle.engine_core.specs.Sessions.{with_acknowledgements}
 pub published_more : (x : Record) (held : List Record) (before n : ℕ) (messages : List Stamped) → before ≡ length (messages_of held) → messages ≡ newest_messages (x ∷ held) → n ≡ length messages
     → before + n ≡ length (messages_of (x ∷ held))
 published_more x held before n messages said gave many =
-    let all = ap length (messages-step x (history held)) ∙ length-append (messages_of held) (newest_messages (x ∷ held)) in
-    omega (arith, all, said, many, ap length gave)
+    omega (arith, simp length-append at (ap length (messages-step x (history held))), said, many, ap length gave)
 
 -- the messages of a record, and then its acknowledgement, where there is one
 pub acknowledged : (acknowledges : Bool) (text : List ℕ) (held : List Record) (x : Record)
     → (text ++ spelled (numbered (length (messages_of held)) (newest_messages (x ∷ held)))) ++ spelled (with_acknowledgements acknowledges (Ack (length held + 1) ∷ []))
     ≡ text ++ spelled (with_acknowledgements acknowledges (accepted held x))
-acknowledged true text held x =
-    let messages = numbered (length (messages_of held)) (newest_messages (x ∷ held)) in
-    append_assoc text (spelled messages) (spelled (Ack (length held + 1) ∷ [])) ∙ ap (λ bytes. text ++ bytes) (sym (spelled-append messages (Ack (length held + 1) ∷ [])))
-acknowledged false text held x =
-    append-nil (text ++ spelled (numbered (length (messages_of held)) (newest_messages (x ∷ held))))
-    ∙ ap (λ frames. text ++ spelled frames) (sym (unacknowledged-step (length (messages_of held)) (length held + 1) (newest_messages (x ∷ held))))
+acknowledged true text held x = simp (append_assoc, spelled-append)
+acknowledged false text held x = simp (append-nil, unacknowledged-step)

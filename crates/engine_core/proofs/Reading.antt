@@ -13,6 +13,7 @@ use Rattle.wire_in.specs.Cutting.{bodies_of}
 use Rattle.engine_core.specs.declared.session.Session.{Session}
 use Rattle.engine_core.specs.Pending.{Expects, SendsPrefix}
 use Rattle.engine_core.specs.Sessions.{Start, held_after, expected, IsSafe, Answered, Prompt}
+use Rattle.engine_core.specs.Unwritten.{WritesNothing, AcceptsNone}
 use Rattle.engine_core.specs.Serving.{Serves, Reads, TakesPiece, OnlyExchanges}
 use Rattle.engine_core.proofs.Pending.{expects_nothing}
 use Rattle.engine_core.proofs.Answering.{none_waits}
@@ -76,11 +77,16 @@ module _ {holds : List Record → Outside → Type 0} {start : Start} {input : L
       → ((records : List Record) → holds records old → holds records new) → Answered holds start input count new
   answered_by new same sent still = record { input_left = same ∙ reads.input_left; there = reads.there; sent = sent; held = still _ held_all }
 
--- A session since it began: what it has read, what its stops may leave, when it asked, and once it is closed all of it answered.
-pub record Polls (holds : List Record → Outside → Type 0) (recovers : List Record → List ℕ → Type 0) (start : Start) (input : List ℕ) (most read : ℕ) (on : Bool) (session : Session) (old now : Outside) : Type 0 where
-  pub reads : Reads holds start input read session now
+-- What the stops of a run may leave, when it asked, and that it writes nothing where no record is accepted.
+pub record Runs (recovers : List Record → List ℕ → Type 0) (start : Start) (input : List ℕ) (most : ℕ) (old now : Outside) : Type 0 where
   pub moments : Elapses old now (IsSafe recovers start (bodies_of (take most input)))
   pub prompt : Prompt start input old.asks now.asks
+  pub nothing : AcceptsNone start (bodies_of (take most input)) → WritesNothing old now
+
+-- A session since it began: what it has read, its run, and once it is closed all of it answered.
+pub record Polls (holds : List Record → Outside → Type 0) (recovers : List Record → List ℕ → Type 0) (start : Start) (input : List ℕ) (most read : ℕ) (on : Bool) (session : Session) (old now : Outside) : Type 0 where
+  pub reads : Reads holds start input read session now
+  pub runs : Runs recovers start input most old now
   pub end : on ≡ false → ((read ≡ length input) ⊎ (read ≡ most)) × Answered holds start input read now
 
 -- n bytes more were read
@@ -105,7 +111,5 @@ module _ {holds : List Record → Outside → Type 0} {start : Start} {input : L
 
   -- none were, since the input is at its end or none may be
   pub none_left : n ≡ 0 → (count ≡ length input) ⊎ (most ≡ 0)
-  none_left none = by (takes.end (drop count input) reads.input_left none) where
-    by : (drop count input ≡ []) ⊎ (most ≡ 0) → (count ≡ length input) ⊎ (most ≡ 0)
-    by (inl nothing) = inl (omega (arith, reads.there, length-drop count input, ap length nothing))
-    by (inr full) = inr full
+  none_left none =
+      elim (takes.end (drop count input) reads.input_left none) [ inl nothing ↦ inl (omega (arith, reads.there, simp length-drop at (ap length nothing))) | inr full ↦ inr full ]

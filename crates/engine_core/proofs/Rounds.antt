@@ -12,8 +12,7 @@ use Rattle.engine_core.specs.Rounds.{Outcome, outcomes_of, records_in, IsAdmissi
 
 pub outcomes-append : (capacity : ℕ) (held : List Record) (a b : List (List ℕ)) → outcomes_of capacity held (a ++ b) ≡ outcomes_of capacity held a ++ outcomes_of capacity (accepted_of capacity held a) b
 outcomes-append capacity held [] b = refl
-outcomes-append capacity held (body ∷ a) b =
-    ap (λ (later : List Outcome). judged capacity held body ∷ later) (outcomes-append capacity (with_record held (judged capacity held body)) a b)
+outcomes-append capacity held (body ∷ a) b = rw (outcomes-append capacity (with_record held (judged capacity held body)) a b)
 
 pub no_outcome : (capacity : ℕ) (held : List Record) (bodies : List (List ℕ)) → [] ≡ outcomes_of capacity held bodies → bodies ≡ []
 no_outcome capacity held [] is = refl
@@ -21,8 +20,7 @@ no_outcome capacity held (body ∷ later) is = absurd cc
 
 -- a batch with one record less, held behind it
 one_record : (held : List Record) (outcome : Outcome) (later : List Outcome) → with_batch held (records_in (outcome ∷ later)) ≡ with_batch (with_record held outcome) (records_in later)
-one_record held (Ok x) later =
-    ap (λ (r : List Record). r ++ held) (reverse-append (x ∷ []) (records_in later)) ∙ append_assoc (reverse (records_in later)) (x ∷ []) held
+one_record held (Ok x) later = simp (reverse-append (x ∷ []) (records_in later), append_assoc)
 one_record held (Err refusal) later = refl
 
 -- the accepted records of a round, kept as a batch

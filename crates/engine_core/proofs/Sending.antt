@@ -26,14 +26,8 @@ sends_prefix begin old piece waiting text expects same image bytes stop = record
   was = stop.was;
   sent = expects.sent ++ take stop.count waiting;
   rest = drop stop.count waiting;
-  known = subst (λ known. Agrees known bytes)
-      (ap (λ p. append_known old.sent (take stop.count p)) same
-      ∙ ap (λ known. append_known known (take stop.count waiting)) expects.known
-      ∙ append_known-append begin expects.sent (take stop.count waiting))
-      stop.sent;
-  prefix = append_assoc expects.sent (take stop.count waiting) (drop stop.count waiting)
-      ∙ ap (λ b. expects.sent ++ b) (take-append-drop stop.count waiting)
-      ∙ expects.whole;
+  known = rw (same, expects.known, append_known-append begin expects.sent (take stop.count waiting)) at stop.sent;
+  prefix = rw (append_assoc, take-append-drop) expects.whole;
 }
 
 -- a prefix of a text is one of a longer text

@@ -15,14 +15,10 @@ at_an_end (Err fault.Read) P p end = absurd end
 at_an_end (Err f) P p end = absurd end
 
 pub at_a_read : (result : Result Status Fault) → IfOk result IsEnd → answer_of result ≡ ReadFault → result ≡ Err fault.Read
-at_a_read (Ok s) end is = absurd (subst IsEnd is end)
-at_a_read (Err fault.Read) end is = refl
-at_a_read (Err f) end is = absurd cc
+at_a_read result end is = grind arith
 
 pub at_no_memory : (result : Result Status Fault) → IfOk result IsEnd → answer_of result ≡ NoMemory → result ≡ Err fault.Memory
-at_no_memory (Ok s) end is = absurd (subst IsEnd is end)
-at_no_memory (Err fault.Memory) end is = refl
-at_no_memory (Err f) end is = absurd cc
+at_no_memory result end is = grind arith
 
 pub told_of : (result : Result Status Fault) (old new : Outside) → IfOk result IsEnd → Causes result old new → Told (answer_of result) old new
 told_of result old new end causes = grind arith

@@ -38,10 +38,8 @@ accepted_grows : (capacity : ℕ) (held : List Record) (bodies : List (List ℕ)
 accepted_grows capacity held [] = ([], refl)
 accepted_grows capacity held (body ∷ later) =
     let first = one_grows held (judged capacity held body) in
-    let rest = accepted_grows capacity (with_record held (judged capacity held body)) later in (
-      rest.0 ++ first.0,
-      rest.1 ∙ ap (λ (r : List Record). rest.0 ++ r) first.1 ∙ sym (append_assoc rest.0 first.0 held),
-    )
+    let rest = accepted_grows capacity (with_record held (judged capacity held body)) later in
+    (rest.0 ++ first.0, rw (append_assoc, ← first.1) rest.1)
 
 -- where no record of all bytes is accepted, none of the first ones is
 pub none_before : (start : Start) {front all : List ℕ} → Begins front all → AcceptsNone start (bodies_of all) → AcceptsNone start (bodies_of front)
@@ -51,8 +49,7 @@ none_before start {front} {all} begins none =
     let after = accepted_grows start.capacity (held_after start (bodies_of front)) rest in
     let whole : bodies_of all ≡ bodies_of front ++ rest = sym (ap bodies_of begins.whole) ∙ bodies_of-append front begins.more in
     let same : after.0 ++ held_after start (bodies_of front) ≡ start.held = sym after.1 ∙ sym (held-more start (bodies_of front) rest) ∙ ap (held_after start) (sym whole) ∙ none in
-    let empty : before.0 ≡ [] =
-    nil_from_length before.0 (omega (arith, ap length same, length-append after.0 (held_after start (bodies_of front)), ap length before.1, length-append before.0 start.held)) in
+    let empty : before.0 ≡ [] = nil_from_length before.0 (omega (arith, simp length-append at (ap length same), simp length-append at (ap length before.1))) in
     before.1 ∙ ap (λ (r : List Record). r ++ start.held) empty
 
 -- nor is one of the round
@@ -60,11 +57,5 @@ pub no_records : {holds : List Record → Outside → Type 0} {start : Start} {f
     → Begins front all → AcceptsNone start (bodies_of all) → records_in session.round ≡ []
 no_records {start = start} {session = session} serves begins none =
     let answered = accepted_grows start.capacity start.held serves.answered in
-    nil_from_length (records_in session.round) (omega (
-      arith,
-      ap length (kept_is serves ∙ none_before start begins none),
-      length-append (reverse (records_in session.round)) (held_after start serves.answered),
-      length-reverse (records_in session.round),
-      ap length answered.1,
-      length-append answered.0 start.held,
-    ))
+    let same = simp (length-append, length-reverse) at (ap length (kept_is serves ∙ none_before start begins none)) in
+    nil_from_length (records_in session.round) (omega (arith, same, simp length-append at (ap length answered.1)))

@@ -33,6 +33,7 @@ fn read_piece<H: Host>(host: &mut H, buffer: &mut [u8], most: usize) -> Result<u
 
 /// Sends all that waits, and then reads the next piece of at most so many bytes. It answers how many were read: 0 at the
 /// input's end, and where none may be read.
+#[tactic(auto, using(crate::proofs::Reading::exchanges_on, crate::proofs::Asking::no_ask))]
 fn exchange<H: Host>(
     outbox: &mut Outbox,
     host: &mut H,

@@ -5,31 +5,9 @@ use Rattle.engine_core.proofs.Sending.{sends_stays}
 use Rattle.engine_core.proofs.Taken.{drop-none}
 use Rattle.engine_core.proofs.input.exchange.Goals as goal
 
-pub returns-in_default-clause-prompt : goal.returns-in_default-clause-prompt
-returns-in_default-clause-prompt g c = λ start input count left there expects. no_ask start input c.flush.ensures.keeps.asks
-
-pub returns-then-most-eq0-clause-prompt : goal.returns-then-most-eq0-clause-prompt
-returns-then-most-eq0-clause-prompt g c = λ start input count left there expects. no_ask start input c.flush.ensures.keeps.asks
-
-pub returns-then-most-eq0-clause-taken : goal.returns-then-most-eq0-clause-taken
-returns-then-most-eq0-clause-taken g c = record {
-  within = omega arith;
-  left = c.flush.ensures.keeps.input ∙ sym (drop-none _);
-  given = λ input known. refl;
-  there = λ input known. omega arith;
-  end = λ input known none. inr c.if-most-eq0.true;
-}
-
 pub returns-in_default-read_piece-clause-moments : goal.returns-in_default-read_piece-clause-moments
 returns-in_default-read_piece-clause-moments g c = λ begin text expects.
     sends_stays (c.flush.ensures.moments begin text expects) ((c.in-Ok.ensures).sent begin text expects) c.read_piece.ensures.reads.keeps.moments
-
-pub returns-in_default-read_piece-clause-prompt : goal.returns-in_default-read_piece-clause-prompt
-returns-in_default-read_piece-clause-prompt g c = λ start input count left there expects.
-    no_ask start input ((c.in_default-read_piece.ensures).reads.asks ∙ c.flush.ensures.keeps.asks)
-
-pub returns-in_default-read_piece-clause-keeps : goal.returns-in_default-read_piece-clause-keeps
-returns-in_default-read_piece-clause-keeps g c = exchanges_on c.flush.ensures.keeps c.read_piece.ensures.reads.keeps
 
 pub returns-clause-moments : goal.returns-clause-moments
 returns-clause-moments g c = λ begin text expects.
@@ -42,6 +20,3 @@ returns-clause-prompt g c = λ start input count left there expects.
 
 pub returns-clause-taken : goal.returns-clause-taken
 returns-clause-taken g c = takes_piece _ _ _ _ c.args.most _ c.flush.ensures.keeps.input (c.in-Ok-read_piece.ensures).reads.read
-
-pub returns-clause-keeps : goal.returns-clause-keeps
-returns-clause-keeps g c = exchanges_on c.flush.ensures.keeps c.read_piece.ensures.reads.keeps

@@ -1,4 +1,4 @@
-use Rattle.std.proofs.Common.{◌≡◌, inl, inr, ℕ, take, refl, ap, ◌∙◌, arith, rules, true≢false}
+use Rattle.std.proofs.Common.{◌≡◌, inl, inr, ℕ, List, take, refl, ap, ◌∙◌, arith, rules, true≢false}
 use Rattle.std.specs.Prelude.{Err}
 use Rattle.std.proofs.lemmas.Bool.Decides.{nat_tests}
 use Rattle.std.proofs.lemmas.List.{length-take}
@@ -7,14 +7,17 @@ use Rattle.host_core.specs.declared.fault.Fault.TheVariants.{Read, Memory}
 use Rattle.host_core.proofs.Moments.{unchanged, further}
 use Rattle.host_core.proofs.Causes.{no_fault, faultless}
 use Rattle.wire_in.specs.Cutting.{bodies_of}
-use Rattle.engine_core.specs.Sessions.{expected}
+use Rattle.engine_core.specs.Sessions.{Start, expected}
+use Rattle.engine_core.specs.Serving.{Serves, Reads}
 use Rattle.engine_core.proofs.Taken.{takes_none, takes_on}
 use Rattle.engine_core.proofs.Keeping.{idles, runs_on}
-use Rattle.engine_core.proofs.Reading.{up_to, expects_all, serves_sent, safe_sent, answered_by, piece_begins, reads_more, none_left}
+use Rattle.engine_core.proofs.Reading.{Runs, up_to, expects_all, serves_sent, safe_sent, answered_by, piece_begins, reads_more, none_left}
 use Rattle.engine_core.proofs.Asking.{no_ask, more_asks}
 use Rattle.engine_core.proofs.Ending.{ends}
 use Rattle.engine_core.proofs.Expecting.{starved_further}
 use Rattle.engine_core.proofs.Unwritten.{idle, sending, still_nothing, none_before}
+use Rattle.engine_core.proofs.input.serve_input.Given.{Over}
+use Rattle.engine_core.proofs.input.serve_input.Goals.{After-feed}
 use Rattle.engine_core.proofs.input.serve_input.Goals as goal
 
 pub loop-open-init : goal.loop-open-init
@@ -26,11 +29,13 @@ loop-open-init g c = record {
   ready = c.requires.ready;
   polls = λ start input same reads. record {
     reads = reads;
-    moments = idles reads.serves _ (up_to 0 c.args.most input (omega arith)) (g.met.H.Host.sent_now c.args.host.now) (λ image left. g.K.Keeper.recovers_now c.args.keeper.now _ _ image reads.serves.held left);
-    prompt = no_ask start input refl;
+    runs = record {
+      moments = idles reads.serves _ (up_to 0 c.args.most input (omega arith)) (g.met.H.Host.sent_now c.args.host.now) (λ image left. g.K.Keeper.recovers_now c.args.keeper.now _ _ image reads.serves.held left);
+      prompt = no_ask start input refl;
+      nothing = λ none. idle _ (g.met.H.Host.sent_now c.args.host.now);
+    };
     end = λ closed. absurd (true≢false closed);
   };
-  nothing = λ start input same reads none. idle _ (g.met.H.Host.sent_now c.args.host.now);
   before = λ records image recovered. recovered;
   taken = takes_none 0 _ _ refl;
   touches = g.K.Keeper.untouched _ _ refl refl;
@@ -38,11 +43,36 @@ loop-open-init g c = record {
   none = no_fault _;
 }
 
+-- what the run is once a piece was read, however its frames are answered
+fed : (g : Over) (c : After-feed g) (start : Start) (input : List ℕ) → start.acknowledges ≡ g.K.Keeper.acknowledges
+    → Reads (g.K.Keeper.holds c.args.keeper.now) start input 0 c.args.session.now (g.H.Host.outside c.args.host.now)
+    → Runs (g.K.Keeper.recovers c.args.keeper.now (g.H.Host.outside c.args.host.now)) start input c.args.most (g.H.Host.outside c.args.host.now) (g.H.Host.outside c.feed.new.host)
+    × Serves (g.K.Keeper.holds c.loop-open.keeper) start (take c.loop-open.read input) (record c.loop-open.session { outbox = c.exchange.new.outbox }) (g.H.Host.outside c.exchange.new.host)
+fed g c start input same reads =
+    let was = c.loop-open.invariant.polls start input same reads in
+    let expects = expects_all was.reads c.loop-open.invariant.empty in
+    let held = g.K.Keeper.still_held c.loop-open.keeper _ _ _ was.reads.serves.held c.exchange.ensures.keeps.disk c.exchange.ensures.keeps.left in
+    let mid = serves_sent was.reads c.loop-open.invariant.empty c.exchange.new.outbox (g.H.Host.outside c.exchange.new.host) held c.in_ok-count.ensures.empty (c.in_ok-count.ensures.sent start.sent _ expects) in
+    let begins = piece_begins was.reads c.in_ok-count.ensures.taken c.args.most (omega (arith, c.loop-open.invariant.within, c.in_ok-count.ensures.taken.within, c.min-room.ensures)) in
+    let sent = c.exchange.ensures.moments start.sent _ expects in (
+      record {
+        moments = runs_on begins
+            (λ records image recovered. c.loop-open.invariant.before records image (g.K.Keeper.recovered_before c.loop-open.keeper records image _ _ c.exchange.ensures.keeps.left recovered))
+            (runs_on (up_to c.loop-open.read c.args.most input c.loop-open.invariant.within) c.loop-open.invariant.before was.runs.moments
+            (safe_sent was.reads c.loop-open.invariant.empty _ (λ records image held left. g.K.Keeper.recovers_now c.loop-open.keeper records _ image held left) sent))
+            (c.feed.ensures.moments start _ same mid);
+        prompt = more_asks start input (more_asks start input was.runs.prompt (c.exchange.ensures.prompt start input c.loop-open.read was.reads.input_left was.reads.there expects))
+            (no_ask start input c.feed.ensures.keeps.asks);
+        nothing = λ none. still_nothing (still_nothing (was.runs.nothing none) (sending sent c.exchange.ensures.keeps.disk))
+            (c.feed.ensures.nothing start _ same mid (none_before start begins none));
+      },
+      mid,
+    )
+
 pub loop-open-preserved : goal.loop-open-preserved
 loop-open-preserved g c =
     let n = c.in_ok-count.count in
     let took = c.in_ok-count.ensures.taken in
-    let empty = c.loop-open.invariant.empty in
     record {
       within = omega (arith, c.loop-open.invariant.within, took.within, c.min-room.ensures);
       answered = omega (arith, c.loop-open.invariant.answered, c.in_ok-feed.ensures.few, length-take n c.exchange.new.buffer);
@@ -51,19 +81,12 @@ loop-open-preserved g c =
       ready = c.in_ok-feed.ensures.ready;
       polls = λ start input same reads.
           let was = c.loop-open.invariant.polls start input same reads in
-          let expects = expects_all was.reads empty in
-          let sent = c.in_ok-count.ensures.sent start.sent _ expects in
-          let held = g.K.Keeper.still_held c.loop-open.keeper _ _ _ was.reads.serves.held c.exchange.ensures.keeps.disk c.exchange.ensures.keeps.left in
-          let mid = serves_sent was.reads empty c.exchange.new.outbox (g.H.Host.outside c.exchange.new.host) held c.in_ok-count.ensures.empty sent in
-          let next = reads_more was.reads took _ _ _ c.feed.ensures.keeps.input (c.in_ok-feed.ensures.serves start _ same mid) in
+          let sent = c.in_ok-count.ensures.sent start.sent _ (expects_all was.reads c.loop-open.invariant.empty) in
+          let after = fed g (goal.at.loop-open-preserved g c).After-feed start input same reads in
+          let next = reads_more was.reads took _ _ _ c.feed.ensures.keeps.input (c.in_ok-feed.ensures.serves start _ same after.1) in
           record {
             reads = next;
-            moments = runs_on (piece_begins was.reads took c.args.most (omega (arith, c.loop-open.invariant.within, took.within, c.min-room.ensures)))
-                (λ records image recovered. c.loop-open.invariant.before records image (g.K.Keeper.recovered_before c.loop-open.keeper records image _ _ c.exchange.ensures.keeps.left recovered))
-                (runs_on (up_to c.loop-open.read c.args.most input c.loop-open.invariant.within) c.loop-open.invariant.before was.moments
-                (safe_sent was.reads empty _ (λ records image held left. g.K.Keeper.recovers_now c.loop-open.keeper records _ image held left) (c.exchange.ensures.moments start.sent _ expects)))
-                (c.feed.ensures.moments start _ same mid);
-            prompt = more_asks start input (more_asks start input was.prompt (c.exchange.ensures.prompt start input c.loop-open.read was.reads.input_left was.reads.there expects)) (no_ask start input c.feed.ensures.keeps.asks);
+            runs = after.0;
             end = λ closed.
                 let none : n ≡ 0 = grind (arith, nat_tests) in (
                   elim (none_left was.reads took none) [ inl all ↦ inl (omega (arith, all, none)) | inr full ↦ inr (omega (arith, full, none, c.min-room.ensures, c.loop-open.invariant.buffer, c.loop-open.invariant.within)) ],
@@ -72,14 +95,6 @@ loop-open-preserved g c =
                       (λ records held. held),
                 );
           };
-      nothing = λ start input same reads none.
-          let was = c.loop-open.invariant.polls start input same reads in
-          let expects = expects_all was.reads empty in
-          let held = g.K.Keeper.still_held c.loop-open.keeper _ _ _ was.reads.serves.held c.exchange.ensures.keeps.disk c.exchange.ensures.keeps.left in
-          let mid = serves_sent was.reads empty c.exchange.new.outbox (g.H.Host.outside c.exchange.new.host) held c.in_ok-count.ensures.empty (c.in_ok-count.ensures.sent start.sent _ expects) in
-          still_nothing (still_nothing (c.loop-open.invariant.nothing start input same reads none) (sending (c.exchange.ensures.moments start.sent _ expects) c.exchange.ensures.keeps.disk))
-          (c.feed.ensures.nothing start _ same mid
-          (none_before start (piece_begins was.reads took c.args.most (omega (arith, c.loop-open.invariant.within, took.within, c.min-room.ensures))) none));
       before = λ records image recovered.
           c.loop-open.invariant.before records image (g.K.Keeper.recovered_before c.loop-open.keeper records image _ _ c.exchange.ensures.keeps.left (c.in_ok-feed.ensures.before records image recovered));
       taken = takes_on c.loop-open.read n _ _ _ _ (omega arith) c.loop-open.invariant.taken (record { count = n; within = omega arith; left = c.feed.ensures.keeps.input ∙ took.left });
@@ -93,14 +108,14 @@ loop-open-preserved g c =
 pub returns-in_err-count-clause-moments : goal.returns-in_err-count-clause-moments
 returns-in_err-count-clause-moments g c = λ start input same reads.
     let was = c.loop-open.invariant.polls start input same reads in
-    runs_on (up_to c.loop-open.read c.args.most input c.loop-open.invariant.within) c.loop-open.invariant.before was.moments
+    runs_on (up_to c.loop-open.read c.args.most input c.loop-open.invariant.within) c.loop-open.invariant.before was.runs.moments
     (safe_sent was.reads c.loop-open.invariant.empty _ (λ records image held left. g.K.Keeper.recovers_now c.loop-open.keeper records _ image held left)
     (c.exchange.ensures.moments start.sent _ (expects_all was.reads c.loop-open.invariant.empty)))
 
 pub returns-in_err-count-clause-prompt : goal.returns-in_err-count-clause-prompt
 returns-in_err-count-clause-prompt g c = λ start input same reads.
     let was = c.loop-open.invariant.polls start input same reads in
-    more_asks start input was.prompt (c.exchange.ensures.prompt start input c.loop-open.read was.reads.input_left was.reads.there (expects_all was.reads c.loop-open.invariant.empty))
+    more_asks start input was.runs.prompt (c.exchange.ensures.prompt start input c.loop-open.read was.reads.input_left was.reads.there (expects_all was.reads c.loop-open.invariant.empty))
 
 pub returns-in_err-count-clause-unread : goal.returns-in_err-count-clause-unread
 returns-in_err-count-clause-unread g c = λ start input same reads failed.
@@ -118,22 +133,10 @@ returns-in_err-count-clause-touches g c =
 
 -- a round could not be kept or answered
 pub returns-in_err-feed-clause-moments : goal.returns-in_err-feed-clause-moments
-returns-in_err-feed-clause-moments g c = λ start input same reads.
-    let was = c.loop-open.invariant.polls start input same reads in
-    let expects = expects_all was.reads c.loop-open.invariant.empty in
-    let held = g.K.Keeper.still_held c.loop-open.keeper _ _ _ was.reads.serves.held c.exchange.ensures.keeps.disk c.exchange.ensures.keeps.left in
-    let mid = serves_sent was.reads c.loop-open.invariant.empty c.exchange.new.outbox (g.H.Host.outside c.exchange.new.host) held c.in_ok-count.ensures.empty (c.in_ok-count.ensures.sent start.sent _ expects) in
-    runs_on (piece_begins was.reads c.in_ok-count.ensures.taken c.args.most (omega (arith, c.loop-open.invariant.within, c.in_ok-count.ensures.taken.within, c.min-room.ensures)))
-    (λ records image recovered. c.loop-open.invariant.before records image (g.K.Keeper.recovered_before c.loop-open.keeper records image _ _ c.exchange.ensures.keeps.left recovered))
-    (runs_on (up_to c.loop-open.read c.args.most input c.loop-open.invariant.within) c.loop-open.invariant.before was.moments
-    (safe_sent was.reads c.loop-open.invariant.empty _ (λ records image held left. g.K.Keeper.recovers_now c.loop-open.keeper records _ image held left) (c.exchange.ensures.moments start.sent _ expects)))
-    (c.feed.ensures.moments start _ same mid)
+returns-in_err-feed-clause-moments g c = λ start input same reads. (fed g (goal.at.returns-in_err-feed-clause-moments g c).After-feed start input same reads).0.moments
 
 pub returns-in_err-feed-clause-prompt : goal.returns-in_err-feed-clause-prompt
-returns-in_err-feed-clause-prompt g c = λ start input same reads.
-    let was = c.loop-open.invariant.polls start input same reads in
-    let expects = expects_all was.reads c.loop-open.invariant.empty in
-    more_asks start input (more_asks start input was.prompt (c.exchange.ensures.prompt start input c.loop-open.read was.reads.input_left was.reads.there expects)) (no_ask start input c.feed.ensures.keeps.asks)
+returns-in_err-feed-clause-prompt g c = λ start input same reads. (fed g (goal.at.returns-in_err-feed-clause-prompt g c).After-feed start input same reads).0.prompt
 
 pub returns-in_err-feed-clause-bytes : goal.returns-in_err-feed-clause-bytes
 returns-in_err-feed-clause-bytes g c =
@@ -153,40 +156,24 @@ returns-clause-exact g c = λ start input same reads.
     let at_end = was.end c.loop-open-test.false in
     ends c.args.most _ c.loop-open.invariant.within at_end.1 at_end.0 (c.ending.ensures.status (take c.loop-open.read input) was.reads.serves.judges.cutter)
 
-pub returns-clause-moments : goal.returns-clause-moments
-returns-clause-moments g c = λ start input same reads. (c.loop-open.invariant.polls start input same reads).moments
-
-pub returns-clause-prompt : goal.returns-clause-prompt
-returns-clause-prompt g c = λ start input same reads. (c.loop-open.invariant.polls start input same reads).prompt
-
 -- memory was short
-pub returns-in_err-count-clause-starved : goal.returns-in_err-count-clause-starved
-returns-in_err-count-clause-starved g c = λ start input same reads is.
-    let short : c.exchange.result ≡ Err Memory = search rules in
-    absurd (c.exchange.ensures.unstarved short)
-
 pub returns-in_err-feed-clause-starved : goal.returns-in_err-feed-clause-starved
 returns-in_err-feed-clause-starved g c = λ start input same reads is.
-    let was = c.loop-open.invariant.polls start input same reads in
-    let expects = expects_all was.reads c.loop-open.invariant.empty in
-    let held = g.K.Keeper.still_held c.loop-open.keeper _ _ _ was.reads.serves.held c.exchange.ensures.keeps.disk c.exchange.ensures.keeps.left in
-    let mid = serves_sent was.reads c.loop-open.invariant.empty c.exchange.new.outbox (g.H.Host.outside c.exchange.new.host) held c.in_ok-count.ensures.empty (c.in_ok-count.ensures.sent start.sent _ expects) in
-    let short : c.feed.result ≡ Err Memory = search rules in
-    starved_further (piece_begins was.reads c.in_ok-count.ensures.taken c.args.most (omega (arith, c.loop-open.invariant.within, c.in_ok-count.ensures.taken.within, c.min-room.ensures)))
-    (c.feed.ensures.starved start _ same mid short)
+    let was = (c.loop-open.invariant.polls start input same reads).reads in
+    starved_further (piece_begins was c.in_ok-count.ensures.taken c.args.most (omega (arith, c.loop-open.invariant.within, c.in_ok-count.ensures.taken.within, c.min-room.ensures)))
+    (c.feed.ensures.starved start _ same (fed g (goal.at.returns-in_err-feed-clause-starved g c).After-feed start input same reads).1 (search rules))
 
 pub returns-in_err-count-clause-nothing : goal.returns-in_err-count-clause-nothing
 returns-in_err-count-clause-nothing g c = λ start input same reads none.
     let was = c.loop-open.invariant.polls start input same reads in
-    still_nothing (c.loop-open.invariant.nothing start input same reads none)
+    still_nothing (was.runs.nothing none)
     (sending (c.exchange.ensures.moments start.sent _ (expects_all was.reads c.loop-open.invariant.empty)) c.exchange.ensures.keeps.disk)
 
 pub returns-in_err-feed-clause-nothing : goal.returns-in_err-feed-clause-nothing
-returns-in_err-feed-clause-nothing g c = λ start input same reads none.
-    let was = c.loop-open.invariant.polls start input same reads in
-    let expects = expects_all was.reads c.loop-open.invariant.empty in
-    let held = g.K.Keeper.still_held c.loop-open.keeper _ _ _ was.reads.serves.held c.exchange.ensures.keeps.disk c.exchange.ensures.keeps.left in
-    let mid = serves_sent was.reads c.loop-open.invariant.empty c.exchange.new.outbox (g.H.Host.outside c.exchange.new.host) held c.in_ok-count.ensures.empty (c.in_ok-count.ensures.sent start.sent _ expects) in
-    let begins = piece_begins was.reads c.in_ok-count.ensures.taken c.args.most (omega (arith, c.loop-open.invariant.within, c.in_ok-count.ensures.taken.within, c.min-room.ensures)) in
-    still_nothing (still_nothing (c.loop-open.invariant.nothing start input same reads none) (sending (c.exchange.ensures.moments start.sent _ expects) c.exchange.ensures.keeps.disk))
-    (c.feed.ensures.nothing start _ same mid (none_before start begins none))
+returns-in_err-feed-clause-nothing g c = λ start input same reads. (fed g (goal.at.returns-in_err-feed-clause-nothing g c).After-feed start input same reads).0.nothing
+
+pub returns-clause-moments : goal.returns-clause-moments
+returns-clause-moments g c = λ start input same reads. (c.loop-open.invariant.polls start input same reads).runs.moments
+
+pub returns-clause-prompt : goal.returns-clause-prompt
+returns-clause-prompt g c = λ start input same reads. (c.loop-open.invariant.polls start input same reads).runs.prompt

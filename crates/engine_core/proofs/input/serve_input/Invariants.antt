@@ -1,11 +1,9 @@
-use Rattle.std.proofs.Common.{◌≡◌, ◌+◌, ◌-◌, ◌<◌, ◌≤◌, [], ℕ, List, cond, length, take}
+use Rattle.std.proofs.Common.{◌≡◌, ◌+◌, ◌-◌, ◌<◌, ◌≤◌, [], ℕ, List, cond, length}
 use Rattle.host_core.specs.Outside.{Continues, NoFault}
 use Rattle.wire_in.specs.declared.record.Record.{Record}
 use Rattle.engine_core.specs.Ends.{ReadsAtMost}
 use Rattle.engine_core.specs.Sessions.{Start}
 use Rattle.engine_core.specs.Serving.{Reads, IsReady}
-use Rattle.engine_core.specs.Unwritten.{WritesNothing, AcceptsNone}
-use Rattle.wire_in.specs.Cutting.{bodies_of}
 use Rattle.engine_core.proofs.Reading.{Polls}
 use Rattle.engine_core.proofs.input.serve_input.Given as goal
 
@@ -19,8 +17,6 @@ invariant-loop-open g l = record {
   polls : (start : Start) (input : List ℕ) → start.acknowledges ≡ g.K.Keeper.acknowledges → Reads (g.K.Keeper.holds l.initial.keeper) start input 0 l.initial.session (g.H.Host.outside l.initial.host)
       → Polls (g.K.Keeper.holds l.keeper) (g.K.Keeper.recovers l.initial.keeper (g.H.Host.outside l.initial.host)) start input l.most l.read l.open l.session
       (g.H.Host.outside l.initial.host) (g.H.Host.outside l.host);
-  nothing : (start : Start) (input : List ℕ) → start.acknowledges ≡ g.K.Keeper.acknowledges → Reads (g.K.Keeper.holds l.initial.keeper) start input 0 l.initial.session (g.H.Host.outside l.initial.host)
-      → AcceptsNone start (bodies_of (take l.most input)) → WritesNothing (g.H.Host.outside l.initial.host) (g.H.Host.outside l.host);
   before : (records : List Record) (image : List ℕ) → g.K.Keeper.recovers l.keeper (g.H.Host.outside l.host) records image
       → g.K.Keeper.recovers l.initial.keeper (g.H.Host.outside l.initial.host) records image;
   taken : ReadsAtMost l.read (g.H.Host.outside l.initial.host).input (g.H.Host.outside l.host).input;

@@ -6,7 +6,6 @@ use Rattle.engine_core.specs.Sessions.{with_acknowledgements}
 use Rattle.engine_core.proofs.Pending.{whenever_ok, on_ok, expects_same}
 use Rattle.engine_core.proofs.Sending.{sends_longer, sends_on}
 use Rattle.engine_core.proofs.Messages.{acknowledged}
-use Rattle.engine_core.proofs.Starving.{not_short}
 use Rattle.engine_core.proofs.reply.answer_record.Goals as goal
 
 pub returns-in_err-publish-clause-moments : goal.returns-in_err-publish-clause-moments
@@ -20,10 +19,8 @@ returns-clause-represents g c = λ capacity held evaluated s passed. whenever_ok
 pub returns-clause-pending : goal.returns-clause-pending
 returns-clause-pending g c = λ capacity held evaluated begin text s passed expects.
     let number : c.publish.new.engine.evaluated ≡ length evaluated + 1 = omega (arith, c.in_ok-publish.ensures.evaluated, s.evaluated_is) in
-    let messages = spelled (numbered (length (messages_of evaluated)) (newest_messages (c.args.x.now ∷ evaluated))) in
-    on_ok c.acknowledge.result (c.acknowledge.ensures.pending begin _ (c.in_ok-publish.ensures.pending capacity held evaluated begin text s passed expects))
-    (expects_same _ _
-    (ap (λ (k : ℕ). (text ++ messages) ++ spelled (with_acknowledgements c.args.acknowledges (Ack k ∷ []))) number ∙ acknowledged c.args.acknowledges text evaluated c.args.x.now))
+    let pending = c.acknowledge.ensures.pending begin _ (c.in_ok-publish.ensures.pending capacity held evaluated begin text s passed expects) in
+    rw (number, acknowledged c.args.acknowledges text evaluated c.args.x.now) at pending
 
 pub returns-clause-moments : goal.returns-clause-moments
 returns-clause-moments g c = λ capacity held evaluated begin text s passed expects.
@@ -31,9 +28,3 @@ returns-clause-moments g c = λ capacity held evaluated begin text s passed expe
     let is = acknowledged c.args.acknowledges text evaluated c.args.x.now in
     sends_on (sends_longer _ last _ is (c.publish.ensures.moments capacity held evaluated begin text s passed expects)) _ last is
     (c.acknowledge.ensures.moments begin _ (c.in_ok-publish.ensures.pending capacity held evaluated begin text s passed expects))
-
-pub returns-clause-roomy : goal.returns-clause-roomy
-returns-clause-roomy g c = λ roomy. whenever_ok c.acknowledge.result (c.in_ok-publish.ensures.roomy roomy)
-
-pub returns-clause-starved : goal.returns-clause-starved
-returns-clause-starved g c = λ begin text roomy expects is. absurd (not_short c.acknowledge.result c.acknowledge.ensures.fault is)

@@ -25,7 +25,6 @@ loop-message-init g c = record {
 pub loop-message-preserved : goal.loop-message-preserved
 loop-message-preserved g c =
     let number = c.loop-message.number in
-    let later = drop (c.loop-message.message-index + 1) c.args.messages.now in
     let front = drop_one c.args.messages.now c.loop-message.message-index c.message-item.result c.loop-message-test.true c.message-item.is in
     let frame = spelling (Numbered (number + 1) c.message-item.result) in
     record {
@@ -34,7 +33,7 @@ loop-message-preserved g c =
           let now = c.loop-message.invariant.pending begin text expects in (
             now.0 ++ frame,
             c.in_ok-append.ensures.pending begin now.0 now.1,
-            append_assoc now.0 frame (spelled (numbered (number + 1) later)) ∙ ap (λ (ms : List Stamped). now.0 ++ spelled (numbered number ms)) (sym front) ∙ now.2,
+            append_assoc now.0 frame _ ∙ ap (λ (ms : List Stamped). now.0 ++ spelled (numbered number ms)) (sym front) ∙ now.2,
           );
       moments = λ begin text expects.
           let now = c.loop-message.invariant.pending begin text expects in
@@ -47,9 +46,3 @@ pub returns-in_err-append-clause-moments : goal.returns-in_err-append-clause-mom
 returns-in_err-append-clause-moments g c = λ begin text expects.
     let now = c.loop-message.invariant.pending begin text expects in
     sends_on (c.loop-message.invariant.moments begin text expects) now.0 _ now.2 (c.append.ensures.moments begin now.0 now.1)
-
-pub returns-clause-pending : goal.returns-clause-pending
-returns-clause-pending g c = λ begin text expects.
-    let now = c.loop-message.invariant.pending begin text expects in
-    let none = ap (λ (ms : List Stamped). now.0 ++ spelled (numbered c.loop-message.number ms)) (drop_all c.loop-message.message-index c.args.messages.now c.loop-message-test.false) in
-    expects_same _ _ (sym (append-nil now.0) ∙ sym none ∙ now.2) now.1

@@ -4,11 +4,3 @@ use Rattle.engine_core.proofs.reply.evaluate.Goals as goal
 
 pub returns-in-Ok-clause-moments : goal.returns-in-Ok-clause-moments
 returns-in-Ok-clause-moments g c = λ begin text expects. sends_none (g.H.Host.outside c.args.host.now) (g.met.H.Host.sent_now c.args.host.now) _ text expects
-
-pub returns-in-Err-clause-starved : goal.returns-in-Err-clause-starved
-returns-in-Err-clause-starved g c = λ begin text roomy expects is. record {
-  x = c.args.x.now;
-  is = refl;
-  takes = (c.in-Err.ensures).starved roomy;
-  sent = c.give_up.ensures.sent begin text expects cc;
-}

@@ -4,7 +4,6 @@ use Rattle.rulebook.specs.Sent.{spelled, numbered}
 use Rattle.rulebook.specs.Book.{messages_of, newest_messages}
 use Rattle.engine_core.proofs.Pending.{whenever_ok, on_ok, expects_same}
 use Rattle.engine_core.proofs.Sending.{sends_longer, sends_same, sends_on}
-use Rattle.engine_core.proofs.Starving.{not_short}
 use Rattle.engine_core.proofs.reply.publish.Goals as goal
 
 pub returns-in_err-evaluate-clause-moments : goal.returns-in_err-evaluate-clause-moments
@@ -12,25 +11,16 @@ returns-in_err-evaluate-clause-moments g c = λ capacity accepted evaluated begi
     sends_longer text (spelled (numbered (length (messages_of evaluated)) (newest_messages (c.args.x.now ∷ evaluated)))) _ refl (c.evaluate.ensures.moments begin text expects)
 
 pub returns-clause-represents : goal.returns-clause-represents
-returns-clause-represents g c = λ capacity accepted evaluated s passed.
-    whenever_ok c.append_messages.result (c.in_ok-evaluate.ensures.represents capacity accepted evaluated s passed)
+returns-clause-represents g c = λ capacity held evaluated s passed. whenever_ok c.append_messages.result (c.in_ok-evaluate.ensures.represents capacity held evaluated s passed)
 
 pub returns-clause-pending : goal.returns-clause-pending
 returns-clause-pending g c = λ capacity accepted evaluated begin text s passed expects.
     let gave = c.deref.ensures.value ∙ c.in_ok-evaluate.ensures.messages capacity accepted evaluated s passed in
-    on_ok c.append_messages.result (c.append_messages.ensures.pending begin text (c.in_ok-evaluate.ensures.pending begin text expects))
-    (expects_same _ _ (λ i. text ++ spelled (numbered (s.published i) (gave i))))
+    rw (s.published, gave) at (c.append_messages.ensures.pending begin text (c.in_ok-evaluate.ensures.pending begin text expects))
 
 pub returns-clause-moments : goal.returns-clause-moments
 returns-clause-moments g c = λ capacity accepted evaluated begin text s passed expects.
     let gave = c.deref.ensures.value ∙ c.in_ok-evaluate.ensures.messages capacity accepted evaluated s passed in
     let more = spelled (numbered (length (messages_of evaluated)) (newest_messages (c.args.x.now ∷ evaluated))) in
     sends_on (sends_longer text more _ refl (c.evaluate.ensures.moments begin text expects)) (text ++ more) [] (append-nil (text ++ more))
-    (sends_same (text ++ spelled (numbered c.args.engine.now.published _)) _ (λ i. text ++ spelled (numbered (s.published i) (gave i)))
-    (c.append_messages.ensures.moments begin text (c.in_ok-evaluate.ensures.pending begin text expects)))
-
-pub returns-clause-roomy : goal.returns-clause-roomy
-returns-clause-roomy g c = λ roomy. whenever_ok c.append_messages.result (c.in_ok-evaluate.ensures.roomy roomy)
-
-pub returns-clause-starved : goal.returns-clause-starved
-returns-clause-starved g c = λ begin text roomy expects is. absurd (not_short c.append_messages.result c.append_messages.ensures.fault is)
+    (rw (s.published, gave) at (c.append_messages.ensures.moments begin text (c.in_ok-evaluate.ensures.pending begin text expects)))

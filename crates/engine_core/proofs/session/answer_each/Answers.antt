@@ -51,19 +51,8 @@ returns-in_err-answer-clause-moments g c = λ start all same answers.
     sends_next now (c.loop-outcome.invariant.moments start all same answers)
     (rw same at (c.answer.ensures.moments start.capacity _ _ start.sent _ now.waits.engine_is (admissible now) now.pending_is))
 
-pub returns-clause-answers : goal.returns-clause-answers
-returns-clause-answers g c = λ start all same answers.
-    let number : c.loop-outcome.number ≡ c.args.answered + length c.args.outcomes.now = omega (arith, c.loop-outcome.invariant.number, c.loop-outcome-test.false, c.loop-outcome.auto.outcome-index-end) in
-    rw (number, drop_all c.loop-outcome.outcome-index c.args.outcomes.now c.loop-outcome-test.false) at (c.loop-outcome.invariant.answers start all same answers)
-
-pub returns-clause-sound : goal.returns-clause-sound
-returns-clause-sound g c =
-    let number : c.loop-outcome.number ≡ c.args.answered + length c.args.outcomes.now = omega (arith, c.loop-outcome.invariant.number, c.loop-outcome-test.false, c.loop-outcome.auto.outcome-index-end) in
-    rw (number, drop_all c.loop-outcome.outcome-index c.args.outcomes.now c.loop-outcome-test.false) at c.loop-outcome.invariant.sound
-
 pub returns-in_err-answer-clause-starved : goal.returns-in_err-answer-clause-starved
 returns-in_err-answer-clause-starved g c = λ start all same answers is.
     let front = drop_one c.args.outcomes.now c.loop-outcome.outcome-index c.outcome-item.result c.loop-outcome-test.true c.outcome-item.is in
     let now = rw front at (c.loop-outcome.invariant.answers start all same answers) in
-    let short : c.answer.result ≡ Err Memory = search rules in
-    starved_at now _ (c.answer.ensures.starved start.sent _ c.loop-outcome.invariant.sound.roomy now.pending_is short)
+    starved_at now _ (c.answer.ensures.starved start.sent _ c.loop-outcome.invariant.sound.roomy now.pending_is (search rules))

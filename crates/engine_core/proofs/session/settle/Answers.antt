@@ -14,73 +14,46 @@ use Rattle.engine_core.proofs.Unwritten.{still_nothing, sending}
 use Rattle.engine_core.proofs.session.settle.Goals as goal
 
 pub keep_round-requires : goal.keep_round-requires
-keep_round-requires g c = record {
-  room = g.K.Keeper.room_for_fewer _ _ _ _ (omega (arith, c.requires.ready.sound.count, c.requires.ready.sound.within)) c.requires.ready.room;
-}
+keep_round-requires g c = record { room = g.K.Keeper.room_for_fewer _ _ _ _ (omega (arith, c.requires.ready.sound.count)) c.requires.ready.room }
 
 pub returns-in_err-keep_round-clause-moments : goal.returns-in_err-keep_round-clause-moments
 returns-in_err-keep_round-clause-moments g c = λ start read same serves. widened (c.keep_round.ensures.moments _ serves.held) _ (safe_keeps serves _)
 
 pub returns-clause-moments : goal.returns-clause-moments
 returns-clause-moments g c = λ start read same serves.
-    let mid = g.H.Host.outside c.keep_round.new.host in
-    let held = subst (λ (r : List Record). g.K.Keeper.holds c.keep_round.new.keeper r mid) (kept_is serves) (c.in_ok-keep_round.ensures.held _ serves.held) in
+    let held = rw (kept_is serves) at (c.in_ok-keep_round.ensures.held _ serves.held) in
     goes_on (widened (c.keep_round.ensures.moments _ serves.held) _ (safe_keeps serves _))
     (c.answer_round.ensures.moments start _ (c.acknowledges.ensures ∙ sym same) (answers_of serves _ c.keep_round.ensures.keeps.sent))
-    (λ image bytes stop. safe_sends _ start (bodies_of read) mid image bytes
-    (c.in_ok-keep_round.ensures.before _ image (g.K.Keeper.recovers_now c.keep_round.new.keeper _ mid image held stop.was)) stop)
+    (λ image bytes stop. safe_sends _ start (bodies_of read) _ image bytes
+    (c.in_ok-keep_round.ensures.before _ image (g.K.Keeper.recovers_now c.keep_round.new.keeper _ _ image held stop.was)) stop)
 
 pub returns-clause-serves : goal.returns-clause-serves
 returns-clause-serves g c = λ start read same serves.
-    let mid = g.H.Host.outside c.keep_round.new.host in
-    let held = subst (λ (r : List Record). g.K.Keeper.holds c.keep_round.new.keeper r mid) (kept_is serves) (c.in_ok-keep_round.ensures.held _ serves.held) in
+    let held = rw (kept_is serves) at (c.in_ok-keep_round.ensures.held _ serves.held) in
     on_ok2 c.answer_round.result c.answer_round.ensures.empty
     (c.answer_round.ensures.answers start _ (c.acknowledges.ensures ∙ sym same) (answers_of serves _ c.keep_round.ensures.keeps.sent))
     (λ empty done. settled serves _ c.answer_round.new.session (g.H.Host.outside c.answer_round.new.host) empty c.answer_round.ensures.cutter
-    (g.K.Keeper.still_held c.keep_round.new.keeper (held_after start (bodies_of read)) mid _ held c.answer_round.ensures.keeps.disk c.answer_round.ensures.keeps.left) done)
-
-pub returns-clause-before : goal.returns-clause-before
-returns-clause-before g c =
-    whenever_ok c.answer_round.result (λ records image recovered.
-    c.in_ok-keep_round.ensures.before records image
-    (g.K.Keeper.recovered_before c.keep_round.new.keeper records image _ _ c.answer_round.ensures.keeps.left recovered))
+    (g.K.Keeper.still_held c.keep_round.new.keeper _ _ _ held c.answer_round.ensures.keeps.disk c.answer_round.ensures.keeps.left) done)
 
 pub returns-clause-ready : goal.returns-clause-ready
 returns-clause-ready g c =
     on_ok2 c.answer_round.result c.answer_round.ensures.empty c.answer_round.ensures.sound
     (λ empty sound.
-    let was = c.requires.ready.sound in
     let next = c.answer_round.new.session.engine in
     let none = ap (λ (o : _). length (records_in o)) empty in
     let same = ap (λ (a : AdmissionState). a.count) c.answer_round.ensures.admission in
     let still = ap (λ (a : AdmissionState). a.capacity) c.answer_round.ensures.admission in
     record {
       sound = sound;
-      room = subst (λ (d : Option (List ℕ)). g.K.Keeper.has_room c.keep_round.new.keeper d (next.admission.capacity - next.evaluated)) (sym c.answer_round.ensures.keeps.disk)
-          (c.in_ok-keep_round.ensures.room (next.admission.capacity - next.evaluated)
-          (subst (λ (n : ℕ). g.K.Keeper.has_room c.args.keeper.now (g.H.Host.outside c.args.host.now).disk n)
-          (omega (arith, was.count, was.within, sound.count, same, still, none)) c.requires.ready.room));
+      room = rw c.answer_round.ensures.keeps.disk (c.in_ok-keep_round.ensures.room (next.admission.capacity - next.evaluated)
+          (subst (g.K.Keeper.has_room c.args.keeper.now (g.H.Host.outside c.args.host.now).disk)
+          (omega (arith, c.requires.ready.sound.count, c.requires.ready.sound.within, sound.count, same, still, none)) c.requires.ready.room));
     })
 
 pub returns-clause-keeps : goal.returns-clause-keeps
 returns-clause-keeps g c =
     answers_on _ g.K.Keeper.touches_both (answers_writes _ c.keep_round.ensures.keeps c.keep_round.ensures.touches)
     (answers_sends _ c.answer_round.ensures.keeps (g.K.Keeper.untouched _ _ c.answer_round.ensures.keeps.disk c.answer_round.ensures.keeps.disk_faults))
-
-pub returns-in_err-keep_round-clause-keeps : goal.returns-in_err-keep_round-clause-keeps
-returns-in_err-keep_round-clause-keeps g c = answers_writes _ c.keep_round.ensures.keeps c.keep_round.ensures.touches
-
-pub returns-in_err-keep_round-clause-starved : goal.returns-in_err-keep_round-clause-starved
-returns-in_err-keep_round-clause-starved g c = λ start read same serves is.
-    let short : c.keep_round.result ≡ Err Memory = search rules in
-    absurd (c.keep_round.ensures.unstarved short)
-
-pub returns-clause-starved : goal.returns-clause-starved
-returns-clause-starved g c = λ start read same serves is.
-    c.answer_round.ensures.starved start _ (c.acknowledges.ensures ∙ sym same) (answers_of serves _ c.keep_round.ensures.keeps.sent) is
-
-pub returns-in_err-keep_round-clause-nothing : goal.returns-in_err-keep_round-clause-nothing
-returns-in_err-keep_round-clause-nothing g c = λ start read same serves none. c.keep_round.ensures.nothing none
 
 pub returns-clause-nothing : goal.returns-clause-nothing
 returns-clause-nothing g c = λ start read same serves none.

@@ -1,7 +1,6 @@
 use Rattle.std.proofs.Common.{◌∷◌, ◌++◌, length, ap, ◌∙◌, arith}
 use Rattle.rulebook.specs.Book.{newest_messages}
 use Rattle.engine_core.proofs.Messages.{published_more}
-use Rattle.engine_core.proofs.Starving.{still_roomy, short_for, on_err}
 use Rattle.engine_core.proofs.engine.Engine.evaluate.Goals as goal
 
 pub returns-clause-represents : goal.returns-clause-represents
@@ -14,13 +13,3 @@ returns-clause-represents c = λ capacity accepted evaluated s passed.
       evaluated_is = omega (arith, s.evaluated_is);
       published = published_more c.args.x.now evaluated c.args.self.now.published c.len.result c.apply.new.out.items s.published gave (omega (arith, c.len.ensures, c.apply.new.out.ok.0));
     }
-
-pub returns-clause-roomy : goal.returns-clause-roomy
-returns-clause-roomy c = λ roomy.
-    still_roomy c.args.x.now _ _ _ _ _ roomy c.make_room.ensures.kept c.in_ok-make_room.ensures.room c.apply.ensures.keeps_room c.apply.ensures.names c.apply.ensures.one_more
-
-pub returns-in_err-apply-clause-starved : goal.returns-in_err-apply-clause-starved
-returns-in_err-apply-clause-starved c = λ roomy.
-    let none = ap length c.in_ok-make_room.ensures.items in
-    on_err c.from_residual-in_err-apply.result
-    (short_for c.apply.result c.args.x.now c.in_err-apply.was (λ name trade. c.apply.ensures.room name trade (omega (arith, roomy, c.make_room.ensures.kept, none, c.make_room.new.messages.ok.0))))

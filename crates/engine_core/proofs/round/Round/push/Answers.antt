@@ -6,18 +6,13 @@ use Rattle.engine_core.proofs.round.Round.push.Goals as goal
 
 pub accept-requires-clause-room : goal.accept-requires-clause-room
 accept-requires-clause-room c =
-    let le = few_records c.self.inside.outcomes.items in
-    omega (arith, le, ap length c.self.invariant.accepted_are, c.requires.room, ap length c.self.view_is)
+    omega (arith, few_records c.self.inside.outcomes.items, ap length c.self.invariant.accepted_are, c.requires.room, ap length c.self.view_is)
 
 pub invariant_of-self : goal.invariant_of-self
 invariant_of-self c =
     let all : c.extend_from_slice.new.self.items ≡ c.self.inside.outcomes.items ++ c.args.outcome.now ∷ [] = search rules in
-    let room : 64 ≤ vec_capacity c.extend_from_slice.new.self = search rules in
     record {
       most = omega (arith, c.requires.room, ap length c.self.view_is, ap length all, length-append c.self.inside.outcomes.items (c.args.outcome.now ∷ []));
-      reserve = room;
-      accepted_are = c.accept.ensures
-          ∙ ap (λ (b : _). b ++ records_in (c.args.outcome.now ∷ [])) c.self.invariant.accepted_are
-          ∙ sym (records-append c.self.inside.outcomes.items (c.args.outcome.now ∷ []))
-          ∙ ap records_in (sym all);
+      reserve = search rules;
+      accepted_are = rw (all, records-append, ← c.self.invariant.accepted_are) c.accept.ensures;
     }

@@ -8,7 +8,7 @@ use Rattle.engine_core.proofs.session.Session.advance.Goals as goal
 one_frame : (read taken held body : List ℕ) (whole : Bool) → GoesOn read taken held → whole ≡ is_frame held → not whole ≡ false → framed body ≡ held → bodies_of (read ++ taken) ≡ bodies_of read ++ body ∷ []
 one_frame read taken held body false on is none body_is = absurd (true≢false none)
 one_frame read taken held body true on is none body_is =
-    on.bodies ∙ ap (λ b. bodies_of read ++ cond b (drop 1 held ∷ []) []) (sym is) ∙ ap (λ frame. bodies_of read ++ drop 1 frame ∷ []) (sym body_is)
+    rw (← is, ← body_is) at on.bodies
 
 pub returns-clause-judges : goal.returns-clause-judges
 returns-clause-judges c = λ start answered read judges.

@@ -14,8 +14,7 @@ loop-at-preserved c =
       within = omega (arith, c.advance-at.ensures.used.0, left, c.loop-at.invariant.within);
       few = omega (arith, c.loop-at.invariant.few, c.advance-at.ensures.more, c.advance-at.ensures.used.1, left, c.loop-at-test.true);
       judges = λ start answered read judges.
-          subst (λ (b : List ℕ). Judges start answered b c.advance-at.new.self)
-          (ap (λ (b : List ℕ). (read ++ take at piece) ++ take n b) (take_rest piece at) ∙ append_assoc read (take at piece) (take n (drop at piece)) ∙ ap (λ (b : List ℕ). read ++ b) (sym (take-add at n piece)))
+          rw (take_rest piece at, append_assoc, ← take-add at n piece) at
           (c.advance-at.ensures.judges start answered (read ++ take at piece) (c.loop-at.invariant.judges start answered read judges));
       sound = λ sound. c.advance-at.ensures.sound (c.loop-at.invariant.sound sound);
       capacity = c.advance-at.ensures.capacity ∙ c.loop-at.invariant.capacity;

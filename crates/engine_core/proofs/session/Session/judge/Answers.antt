@@ -21,9 +21,7 @@ returns-clause-waits c = (
 
 pub returns-clause-sound : goal.returns-clause-sound
 returns-clause-sound c = λ sound.
-    let more = ap (λ (o : List Outcome). length (records_in o)) c.push.ensures
-    ∙ ap length (records-append c.args.self.now.round (c.judge-outcome.result ∷ []))
-    ∙ length-append (records_in c.args.self.now.round) (records_in (c.judge-outcome.result ∷ [])) in
+    let more = simp (records-append, length-append) at (ap (λ (o : List Outcome). length (records_in o)) c.push.ensures) in
     let evaluated = ap (λ (e : Engine). e.evaluated) c.admit.ensures.rest in
     record {
       within = c.admit.ensures.within sound.within;

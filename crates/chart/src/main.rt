@@ -1,0 +1,45 @@
+//! A picture of one symbol's day, drawn from published lines.
+#![tactic(auto)]
+
+mod axis;
+mod element;
+mod frame;
+mod label;
+mod law;
+mod picture;
+mod place;
+mod reading;
+mod run;
+mod shown;
+mod span;
+#[cfg(test)]
+mod tests;
+mod told;
+mod words;
+
+use host_core::Status;
+use run::chart;
+use std::env::{self, Env};
+use std::io::{self, BufReader};
+use std::process::ExitCode;
+use told::end;
+
+/// Does what the words of this process say, over the standard streams.
+fn chart_here<Rt: Env + Input + Print + AllocGlobal>(rt: &Rt) -> io::Result<Status> {
+    let alloc = rt.alloc();
+    let mut words = Vec::new(alloc);
+    for word in env::args(rt)? {
+        words.push(word)?;
+    }
+    let mut args = Vec::new(alloc);
+    for word in &words {
+        args.push(word.as_str())?;
+    }
+    let mut reader = BufReader::new(alloc, rt.reader())?;
+    Ok(chart(alloc, &args, &mut reader, &mut io::writer(rt)))
+}
+
+fn main(rt: HostRuntime) -> ExitCode {
+    // Words that can't be read ask for nothing that is understood.
+    end(&rt, chart_here(&rt).unwrap_or(Status::Usage))
+}
