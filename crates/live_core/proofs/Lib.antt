@@ -1,4 +1,3 @@
-pub mod Again
 pub mod Recovering
 pub mod OneDamage
 pub mod Restoring

@@ -1,9 +1,9 @@
 -- A journal that is read batch by batch.
-use Rattle.std.proofs.Common.{◌≡◌, ◌≢◌, Bool, true, inl, inr, ℕ, ◌+◌, ◌-◌, ◌<◌, ◌≤◌, List, [], ◌∷◌, ◌++◌, length, get_or, take, drop, None, refl, sym, ap, subst, ◌∙◌, append_assoc, arith, rules}
+use Rattle.std.proofs.Common.{◌≡◌, ◌≢◌, Bool, true, false, inl, inr, ℕ, ◌+◌, ◌-◌, ◌<◌, ◌≤◌, List, [], ◌∷◌, ◌++◌, length, get_or, take, drop, None, refl, sym, ap, subst, ◌∙◌, append_assoc, arith, rules}
 use Rattle.std.specs.Prelude.{Option, Some, Result, Ok, Err, IfErr, reverse}
 use Rattle.std.specs.Result.{IsErrAnd}
 use Rattle.std.specs.Io.KnownBytes.{append_known}
-use Rattle.std.proofs.lemmas.List.{reverse-append, drop_all, take_all, take_more, take-append-drop}
+use Rattle.std.proofs.lemmas.List.{append-nil, reverse-append, drop_all, take_all, take_more, take-append-drop}
 use Rattle.host_core.specs.declared.status.Status.{Status}
 use Rattle.host_core.specs.declared.fault.Fault.{Fault}
 use Rattle.host_core.specs.declared.fault.Fault.TheVariants as fault
@@ -31,13 +31,25 @@ use Rattle.market_core.specs.AdmissionState as admission
 use Rattle.market_core.specs.Kinds.{TakesMemory}
 use Rattle.engine_core.specs.Pending.{Expects, SendsPrefix}
 use Rattle.engine_core.proofs.Pending.{expects_still}
-use Rattle.engine_core.proofs.Sending.{waits, sends_none}
+use Rattle.engine_core.proofs.Sending.{waits, sends_none, sends_on, sends_longer}
 use Rattle.engine_core.specs.declared.engine.Engine.{Engine}
 use Rattle.engine_core.specs.EngineState.{Represents}
 use Rattle.live_core.specs.declared.recovery.Recovery.{Recovery}
 use Rattle.live_core.specs.InternalRecovery.{again, opening, Resumes, IsPart, Covers, SendsAgain, StarvesAgain, Rests, Recovers, Resuming, OnlyRecovers, Hinders}
 use Rattle.live_core.specs.Damage.{IsDamagedAt}
-use Rattle.live_core.proofs.Again.{sends_part, sends_then}
+use Rattle.rulebook.proofs.Sending.{again_first}
+
+-- a run that sends what is asked for again of some records, and so far none of more
+pub sends_part : {begin : Option (List ℕ)} (from : Option ℕ) {records all : List Record} → IsPart records all → {old new : Outside}
+    → Elapses old new (SendsPrefix begin (again from records) old) → Elapses old new (SendsPrefix begin (again from all) old)
+sends_part from {records} {all} part run =
+    let first = again_first from part.more records in
+    sends_longer (again from records) first.0 (again from all) (first.1 ∙ ap (λ r. again from r) part.whole) run
+
+-- a run that sends a prefix of a text, and then another
+pub sends_then : {begin : Option (List ℕ)} {text : List ℕ} {old mid new : Outside} → Elapses old mid (SendsPrefix begin text old)
+    → Elapses mid new (SendsPrefix begin text mid) → Elapses old new (SendsPrefix begin text old)
+sends_then {text = text} first second = sends_on first text [] (append-nil text) second
 
 sends_rests : {disk : List ℕ} {now new : Outside} → OnlySends now new → Rests disk now → Rests disk new
 sends_rests sends rests = record { known = sends.disk ∙ rests.known; settled = record { only = λ image left. sends.disk ∙ rests.settled.only image (sends.left image left) } }
@@ -46,83 +58,83 @@ sends_rests sends rests = record { known = sends.disk ∙ rests.known; settled =
 pub limited : {engine : Engine} {capacity : ℕ} {accepted evaluated : List Record} (limit : ℕ) (next : Engine) → next ≡ record engine { admission = record engine.admission { capacity = limit } }
     → Represents engine capacity accepted evaluated → Represents next limit accepted evaluated
 limited {accepted = accepted} {evaluated = evaluated} limit next is r =
-    subst (λ (e : Engine). Represents e limit accepted evaluated) (sym is) (search rules)
+    subst (λ e. Represents e limit accepted evaluated) (sym is) (search rules)
 
 -- of two parts of a batch the second stands before the first
 pub in_parts : (records first second : List Record) → with_batch records (first ++ second) ≡ reverse second ++ with_batch records first
-in_parts records first second = ap (λ (r : List Record). r ++ records) (reverse-append first second) ∙ append_assoc (reverse second) (reverse first) records
+in_parts records first second = ap (λ r. r ++ records) (reverse-append first second) ∙ append_assoc (reverse second) (reverse first) records
 
 -- A batch, record by record.
 module _ {from : Option ℕ} {begin : Option (List ℕ)} {disk : List ℕ} {batch : List Record} {count : ℕ} {recovery : Recovery} {now : Outside} (s : Resuming from begin disk batch count recovery now) where
-  abbrev held : List Record
-  held = with_batch (records_of s.batches) (take count batch)
+  abbrev held : ℕ → List Record
+  held n = with_batch (records_of s.batches) (take n batch)
 
-  stands : (n : ℕ) → IsPart (with_batch (records_of s.batches) (take n batch)) (records_of (s.batches ++ batch ∷ []))
+  stands : (n : ℕ) → IsPart (held n) (records_of (s.batches ++ batch ∷ []))
   stands n = record {
     more = reverse (drop n batch);
     whole = sym (in_parts (records_of s.batches) (take n batch) (drop n batch))
-        ∙ ap (λ (b : List Record). with_batch (records_of s.batches) b) (take-append-drop n batch) ∙ sym (records_more s.batches batch);
+        ∙ ap (λ b. with_batch (records_of s.batches) b) (take-append-drop n batch) ∙ sym (records_more s.batches batch);
   }
 
   pub waits_there : ((image bytes : List ℕ) → now.leaves now.moment image bytes → Agrees now.sent bytes) → SendsAgain from begin disk now now
   waits_there sent_now all covers =
-      sends_part from (covers _ _ _ _ _ s.read.leads (stands count) s.resumes.lawful) (sends_none now sent_now recovery.outbox (again from held) s.resumes.pending_is)
+      sends_part from (covers _ _ _ _ _ s.read.leads (stands count) s.resumes.lawful) (sends_none now sent_now recovery.outbox (again from (held count)) s.resumes.pending_is)
 
   pub all_resumed : length batch ≤ count → Recovers (again from) begin disk recovery now
   all_resumed le = record {
     rests = s.rests;
     batches = s.batches ++ batch ∷ [];
     read = s.read;
-    resumes = subst (λ (r : List Record). Resumes (again from) recovery.scan.capacity r begin recovery.engine recovery.outbox now)
-        (ap (λ (r : List Record). with_batch (records_of s.batches) r) (take_all count batch le) ∙ sym (records_more s.batches batch)) s.resumes;
+    resumes = subst (λ r. Resumes (again from) recovery.scan.capacity r begin recovery.engine recovery.outbox now)
+        (ap (λ r. with_batch (records_of s.batches) r) (take_all count batch le) ∙ sym (records_more s.batches batch)) s.resumes;
   }
 
   -- the record there, and its verdict
   module _ (x : Record) (lt : count < length batch) (is : x ≡ get_or batch count x) (found : Option Refusal)
       (exact : (admitted : List Record) → admission.Represents recovery.engine.admission admitted → found ≡ verdict recovery.engine.admission.capacity admitted x) where
     next_of : take (count + 1) batch ≡ take count batch ++ x ∷ []
-    next_of = take_more batch count x lt ∙ ap (λ (y : Record). take count batch ++ y ∷ []) (sym is)
+    next_of = take_more batch count x lt ∙ ap (λ y. take count batch ++ y ∷ []) (sym is)
 
-    with_next : with_batch (records_of s.batches) (take (count + 1) batch) ≡ x ∷ held
-    with_next = ap (λ (b : List Record). with_batch (records_of s.batches) b) next_of ∙ in_parts (records_of s.batches) (take count batch) (x ∷ [])
+    with_next : held (count + 1) ≡ x ∷ held count
+    with_next = ap (λ b. with_batch (records_of s.batches) b) next_of ∙ in_parts (records_of s.batches) (take count batch) (x ∷ [])
 
-    passes : found ≡ verdict recovery.scan.capacity held x
-    passes = exact held s.resumes.engine_is.admission ∙ ap (λ (l : ℕ). verdict l held x) s.resumes.engine_is.within
+    passes : found ≡ verdict recovery.scan.capacity (held count) x
+    passes = exact (held count) s.resumes.engine_is.admission ∙ ap (λ l. verdict l (held count) x) s.resumes.engine_is.within
 
     -- it stands in each list that covers the disk
-    covered : found ≡ None → (all : List Record) → Covers disk all → IsPart (x ∷ held) all
+    covered : found ≡ None → (all : List Record) → Covers disk all → IsPart (x ∷ held count) all
     covered none all covers =
-        let first = subst (λ (r : List Record). IsPart r (records_of (s.batches ++ batch ∷ []))) with_next (stands (count + 1)) in
+        let first = subst (λ r. IsPart r (records_of (s.batches ++ batch ∷ []))) with_next (stands (count + 1)) in
         covers _ _ _ _ _ s.read.leads first (sym passes ∙ none, s.resumes.lawful)
 
     -- memory is short for it
-    pub starves_there : found ≡ None → (new : Outside) → TakesMemory x × (new.sent ≡ append_known begin (again from held)) → StarvesAgain from begin disk new
+    pub starves_there : found ≡ None → (new : Outside) → TakesMemory x × (new.sent ≡ append_known begin (again from (held count))) → StarvesAgain from begin disk new
     starves_there none new short all covers =
         let part = covered none all covers in
-        record { before = held; x = x; later = part.more; parts = sym part.whole; takes = short.0; sent = short.1 }
+        record { before = held count; x = x; later = part.more; parts = sym part.whole; takes = short.0; sent = short.1 }
 
     -- its messages are sent
     pub sends_next : {start new : Outside} → SendsAgain from begin disk start now → found ≡ None
-        → ((capacity : ℕ) (held : List Record) (begin : Option (List ℕ)) → Resumes (again from) capacity held begin recovery.engine recovery.outbox now
-        → verdict capacity held x ≡ None → Elapses now new (SendsPrefix begin (again from (x ∷ held)) now)) → SendsAgain from begin disk start new
+        → ((capacity : ℕ) (before : List Record) (begin : Option (List ℕ)) → Resumes (again from) capacity before begin recovery.engine recovery.outbox now
+        → verdict capacity before x ≡ None → Elapses now new (SendsPrefix begin (again from (x ∷ before)) now)) → SendsAgain from begin disk start new
     sends_next first none run all covers =
-        sends_then (first all covers) (sends_part from (covered none all covers) (run recovery.scan.capacity held begin s.resumes (sym passes ∙ none)))
+        sends_then (first all covers) (sends_part from (covered none all covers) (run recovery.scan.capacity (held count) begin s.resumes (sym passes ∙ none)))
 
     pub resumed_next : found ≡ None → (engine : Engine) (outbox : List ℕ) {new : Outside} → OnlySends now new
-        → ((capacity : ℕ) (held : List Record) (begin : Option (List ℕ)) → Resumes (again from) capacity held begin recovery.engine recovery.outbox now
-        → verdict capacity held x ≡ None → Resumes (again from) capacity (x ∷ held) begin engine outbox new) → Resuming from begin disk batch (count + 1) (record recovery { engine = engine; outbox = outbox }) new
+        → ((capacity : ℕ) (before : List Record) (begin : Option (List ℕ)) → Resumes (again from) capacity before begin recovery.engine recovery.outbox now
+        → verdict capacity before x ≡ None → Resumes (again from) capacity (x ∷ before) begin engine outbox new) → Resuming from begin disk batch (count + 1) (record recovery { engine = engine; outbox = outbox }) new
     resumed_next none engine outbox {new} sends resumes = record {
       rests = sends_rests sends s.rests;
       batches = s.batches;
       rest = s.rest;
       leads = s.leads;
       read = s.read;
-      resumes = subst (λ (r : List Record). Resumes (again from) recovery.scan.capacity r begin engine outbox new) (sym with_next)
-          (resumes recovery.scan.capacity held begin s.resumes (sym passes ∙ none));
+      resumes = subst (λ r. Resumes (again from) recovery.scan.capacity r begin engine outbox new) (sym with_next)
+          (resumes recovery.scan.capacity (held count) begin s.resumes (sym passes ∙ none));
     }
 
     -- it may not follow
-    pub bad_there : found ≢ None → IsDamagedAt recovery.scan.capacity recovery.scan.at held disk
+    pub bad_there : found ≢ None → IsDamagedAt recovery.scan.capacity recovery.scan.at (held count) disk
     bad_there some = record {
       batches = s.batches;
       rest = s.rest;
@@ -134,8 +146,8 @@ module _ {from : Option ℕ} {begin : Option (List ℕ)} {disk : List ℕ} {batc
         later = drop (count + 1) batch;
         next = recovery.scan.gate;
         rest = recovery.scan.ahead ++ s.read.rest;
-        leads = subst (λ (b : List Record). LeadsTo recovery.scan.capacity recovery.scan.gate (s.batches ++ b ∷ []) disk (recovery.scan.ahead ++ s.read.rest))
-            (sym (take-append-drop (count + 1) batch) ∙ ap (λ (r : List Record). r ++ drop (count + 1) batch) next_of ∙ append_assoc (take count batch) (x ∷ []) (drop (count + 1) batch)) s.read.leads;
+        leads = subst (λ b. LeadsTo recovery.scan.capacity recovery.scan.gate (s.batches ++ b ∷ []) disk (recovery.scan.ahead ++ s.read.rest))
+            (sym (take-append-drop (count + 1) batch) ∙ ap (λ r. r ++ drop (count + 1) batch) next_of ∙ append_assoc (take count batch) (x ∷ []) (drop (count + 1) batch)) s.read.leads;
         same = refl;
         refused = λ none. some (passes ∙ none);
       });
@@ -169,13 +181,13 @@ module _ (from : Option ℕ) {begin : Option (List ℕ)} {disk : List ℕ} {reco
 
     -- neither a closed gate nor a batch
     pub bad_form_there : (at : ℕ) → at ≡ recovery.scan.gate
-        → ((batches : List (List Record)) (disk : List ℕ) → old.disk ≡ Some disk → HasRead recovery.scan batches disk → IsDamaged (drop at disk)) → IsDamagedAt recovery.scan.capacity at (records_of r.batches) disk
+        → ((batches : _) (disk : _) → old.disk ≡ Some disk → HasRead recovery.scan batches disk → IsDamaged (drop at disk)) → IsDamagedAt recovery.scan.capacity at (records_of r.batches) disk
     bad_form_there at there damaged = record {
       batches = r.batches;
       rest = recovery.scan.ahead ++ r.read.rest;
       leads = rw there r.read.leads;
       lawful = r.resumes.lawful;
-      why = inl (record { same = refl; damaged = subst IsDamaged (ap (λ (g : ℕ). drop g disk) there ∙ from_gate r.read.leads) (damaged r.batches disk r.rests.known r.read) });
+      why = inl (record { same = refl; damaged = subst IsDamaged (ap (λ g. drop g disk) there ∙ from_gate r.read.leads) (damaged r.batches disk r.rests.known r.read) });
     }
 
 -- The same for whatever there was to read first, with all that was sent since.
@@ -187,18 +199,19 @@ module _ (from : Option ℕ) {first recovery : Recovery} {start old : Outside} (
       sends_then (r.1 all covers) (reads_again from r.0 reads all covers)
 
   -- a batch
-  pub has_next : (scan : ScanState) {batch : List Record} (records : List Record) → records ≡ batch → {more : Result Bool ScanError} → more ≡ Ok true → (more ≡ Ok true → scan.at ≡ recovery.scan.gate)
-      → scan.capacity ≡ recovery.scan.capacity
-      → (more ≡ Ok true → (batches : List (List Record)) (disk : List ℕ) → old.disk ≡ Some disk → HasRead recovery.scan batches disk → HasRead scan (batches ++ batch ∷ []) disk)
-      → (begin : Option (List ℕ)) (disk : List ℕ) → Recovers (again from) begin disk first start → Resuming from begin disk records 0 (record recovery { scan = scan }) new × SendsAgain from begin disk start new
-  has_next scan records is more at same read begin disk given =
+  pub has_next : (scan : ScanState) → scan.capacity ≡ recovery.scan.capacity → {batch records : List Record} → records ≡ batch → {answer : Result Bool ScanError} {more : Bool} → answer ≡ Ok more → more ≡ true
+      → (answer ≡ Ok true → scan.at ≡ recovery.scan.gate)
+      → (answer ≡ Ok true → (batches : _) (disk : _) → old.disk ≡ Some disk → HasRead recovery.scan batches disk → HasRead scan (batches ++ batch ∷ []) disk)
+      → (begin : Option (List ℕ)) (disk : List ℕ) → Recovers (again from) begin disk first start
+      → Resuming from begin disk records 0 (record recovery { scan = scan }) new × SendsAgain from begin disk start new
+  has_next scan same is was found at read begin disk given =
       let r = (so_far begin disk given).0 in (
         record {
           rests = rests_read from r reads;
           batches = r.batches;
           rest = recovery.scan.ahead ++ r.read.rest;
-          leads = rw (same, at more) r.read.leads;
-          read = subst (λ (b : List Record). HasRead scan (r.batches ++ b ∷ []) disk) (sym is) (read more r.batches disk r.rests.known r.read);
+          leads = rw (same, at (was ∙ ap Ok found)) r.read.leads;
+          read = subst (λ b. HasRead scan (r.batches ++ b ∷ []) disk) (sym is) (read (was ∙ ap Ok found) r.batches disk r.rests.known r.read);
           resumes = resumes_read from r reads scan.capacity same;
         },
         read_on begin disk given,
@@ -206,11 +219,15 @@ module _ (from : Option ℕ) {first recovery : Recovery} {start old : Outside} (
 
   -- the end
   pub has_end : (scan : ScanState) → scan.capacity ≡ recovery.scan.capacity
-      → ((batches : List (List Record)) (disk : List ℕ) → old.disk ≡ Some disk → HasRead recovery.scan batches disk → HasRead scan batches disk)
-      → (begin : Option (List ℕ)) (disk : List ℕ) → Recovers (again from) begin disk first start → Recovers (again from) begin disk (record recovery { scan = scan }) new × SendsAgain from begin disk start new
-  has_end scan same read begin disk given =
-      let r = (so_far begin disk given).0 in
-      (record { rests = rests_read from r reads; batches = r.batches; read = read r.batches disk r.rests.known r.read; resumes = resumes_read from r reads scan.capacity same }, read_on begin disk given)
+      → {answer : Result Bool ScanError} → (answer ≢ Ok true → (batches : _) (disk : _) → old.disk ≡ Some disk → HasRead recovery.scan batches disk → HasRead scan batches disk)
+      → {more : Bool} → answer ≡ Ok more → more ≡ false
+      → (begin : Option (List ℕ)) (disk : List ℕ) → Recovers (again from) begin disk first start
+      → Recovers (again from) begin disk (record recovery { scan = scan }) new × SendsAgain from begin disk start new
+  has_end scan same read was none begin disk given =
+      let r = (so_far begin disk given).0 in (
+        record { rests = rests_read from r reads; batches = r.batches; read = read (λ is. cc) r.batches disk r.rests.known r.read; resumes = resumes_read from r reads scan.capacity same },
+        read_on begin disk given,
+      )
 
 -- What is left alone.
 
@@ -238,12 +255,12 @@ pub fault_hinders : {T : Type 0} (damaged : ℕ → Type 0) (missing starved : T
     → (first ≡ Err fault.Memory → starved) → NoFault old mid → HasCause f mid new → Hinders damaged missing starved (status_of f) old new
 fault_hinders damaged missing starved {old} {mid} new {first} {f} is unread short none cause = grind (arith, faultless)
 
-pub hinders_on : (damaged worse : ℕ → Type 0) (missing absent hungry starved : Type 0) (old mid new : Outside) (s : Status) → NoFault old mid → ((at : ℕ) → damaged at → worse at) → (missing → absent) → (hungry → starved)
+pub hinders_on : {damaged worse : ℕ → Type 0} {missing absent hungry starved : Type 0} {old mid : Outside} (new : Outside) (s : Status) → NoFault old mid → ((at : ℕ) → damaged at → worse at) → (missing → absent) → (hungry → starved)
     → Hinders damaged missing hungry s mid new → Hinders worse absent starved s old new
-hinders_on damaged worse missing absent hungry starved old mid new s none more other still why = grind (arith, faultless)
+hinders_on new s none more other still why = grind (arith, faultless)
 
 pub why_at : (damaged : ℕ → Type 0) (missing starved : Type 0) (old new : Outside) {s : Status} (same : Status) → s ≡ same → Hinders damaged missing starved s old new → Hinders damaged missing starved same old new
-why_at damaged missing starved old new same is = subst (λ (s : Status). Hinders damaged missing starved s old new) is
+why_at damaged missing starved old new same is = subst (λ s. Hinders damaged missing starved s old new) is
 
 -- by what a scan answered
 pub scan_hinders : {T : Type 0} (damaged : ℕ → Type 0) (missing starved : Type 0) {old new : Outside} (first : Result T ScanError) (e : ScanError) → first ≡ Err e → OnlyReadsDisk old new

@@ -1,7 +1,8 @@
 -- An append by its keeper, and what a stop of it leaves.
 use Rattle.std.proofs.Common.{◌≡◌, inl, inr, ⊎_elim, ℕ, ◌+◌, List, length, sym, subst, ◌∙◌, arith}
 use Rattle.std.specs.Prelude.{Some, option_map}
-use Rattle.host_core.specs.Outside.{Outside, MayLeave, IsSettled, written}
+use Rattle.host_core.proofs.Moments.{widened}
+use Rattle.host_core.specs.Outside.{Outside, Elapses, MayLeave, IsSettled, written}
 use Rattle.host_core.proofs.Known.{mapped}
 use Rattle.wire_in.specs.declared.record.Record.{Record}
 use Rattle.journal_core.specs.Layout.{frames_of, stored_batch}
@@ -11,12 +12,12 @@ use Rattle.journal_core.proofs.Extending.{grown_behind}
 use Rattle.engine_core.specs.Serving.{Keeps}
 use Rattle.live_core.specs.InternalKeeping.{Regains}
 
-pub kept_by : (journal : JournalState) (records batch : List Record) (old : Outside) (image bytes : List ℕ) → Appends journal.capacity journal.gate records batch old image bytes
-    → Keeps (λ r i. Regains journal old r i) records batch old image bytes
-kept_by journal records batch old image bytes stop = record {
+pub kept_by : (journal : JournalState) {records batch : List Record} {old new : Outside} → Elapses old new (Appends journal.capacity journal.gate records batch old)
+    → Elapses old new (Keeps (λ r i. Regains journal old r i) records batch old)
+kept_by journal run = widened run _ (λ image bytes stop. record {
   either = ⊎_elim (λ same. inl (record { before = stop.before; was = stop.was; grown = same })) (λ more. inr (record { before = stop.before; was = stop.was; grown = more })) stop.grown;
   sent = stop.sent;
-}
+})
 
 -- what grew from the image after an append grew from the one before it
 pub regained_on : (old new : Outside) (before after : JournalState) (batch : List Record) → after.capacity ≡ before.capacity → after.gate ≡ before.gate + (length (frames_of batch) + 5)
@@ -28,5 +29,5 @@ regained_on old new before after batch limits gates has settled is passes record
       before = from.0;
       was = passes from.0 from.1;
       grown = grown_behind batch (omega (arith, has from.0 from.1))
-          (subst (λ (d : List ℕ). IsGrown before.capacity (before.gate + (length (frames_of batch) + 5)) records d image) (sym from.2) (rw (limits, gates) at r.grown));
+          (subst (λ d. IsGrown before.capacity (before.gate + (length (frames_of batch) + 5)) records d image) (sym from.2) (rw (limits, gates) at r.grown));
     }

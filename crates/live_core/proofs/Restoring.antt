@@ -13,7 +13,6 @@ use Rattle.journal_core.specs.Journal.{IsAtRest}
 use Rattle.journal_core.specs.Scan.{HasRead, HasNoHeader}
 use Rattle.journal_core.proofs.Readable.{readable, read_holds}
 use Rattle.rulebook.specs.Sent.{hello}
-use Rattle.engine_core.specs.declared.session.Session.{Session}
 use Rattle.engine_core.specs.Pending.{SendsPrefix}
 use Rattle.engine_core.specs.Sessions.{expected}
 use Rattle.engine_core.specs.Serving.{Reads}
@@ -29,9 +28,8 @@ use Rattle.live_core.specs.Safe.{Begin, Begins, start_of, IsSafeOrPending}
 use Rattle.live_core.specs.Ends.{TellsNoJournal}
 use Rattle.live_core.specs.InternalRecovery.{again, opening, SendsAgain, StarvesAgain, IsReading, Recovers, OnlyRecovers, HasDamage, Hinders}
 use Rattle.live_core.specs.InternalServing.{IsFinished, IsSound, IsRestored, IsUnread}
-use Rattle.live_core.proofs.Again.{sends_then}
 use Rattle.live_core.proofs.OneDamage.{covers_held, covers_damaged}
-use Rattle.live_core.proofs.Recovering.{only_read, recovers_on, hinders_on, why_at}
+use Rattle.live_core.proofs.Recovering.{sends_then, only_read, recovers_on, hinders_on, why_at}
 
 pub one_disk : {known : Option (List ℕ)} {a b : List ℕ} → known ≡ Some a → known ≡ Some b → a ≡ b
 one_disk first second = cc
@@ -45,13 +43,13 @@ module _ (begin : Begin) {input : List ℕ} {old : Outside} (begins : Begins beg
   safe_opening : (from : Option ℕ) → begin.from ≡ from → {mid : Outside} → mid.disk ≡ old.disk → IsSettled mid → (image bytes : List ℕ)
       → SendsPrefix (Some begin.sent) (again from begin.held) mid image bytes → IsSafeOrPending old begin [] image bytes
   safe_opening from same {mid} disk settled image bytes stop =
-      inl (safe_sends (λ records image. Holds image begin.capacity records) (start_of begin) [] mid image bytes held (prefix_of_longer (again from begin.held) (spelling (hello begin.held)) _ whole image bytes stop.was stop))
+      inl (safe_sends _ (start_of begin) [] mid image bytes held (prefix_of_longer (again from begin.held) (spelling (hello begin.held)) _ whole image bytes stop.was stop))
     where
       held : Holds image begin.capacity begin.held
-      held = subst (λ (d : List ℕ). Holds d begin.capacity begin.held) (one_disk (disk ∙ begins.disk_known) (settled.only image stop.was)) begins.holds
+      held = subst (λ d. Holds d begin.capacity begin.held) (one_disk (disk ∙ begins.disk_known) (settled.only image stop.was)) begins.holds
 
       whole : again from begin.held ++ spelling (hello begin.held) ≡ expected (start_of begin) []
-      whole = ap (λ (f : Option ℕ). again f begin.held ++ spelling (hello begin.held)) (sym same) ∙ sym (expected-none (start_of begin))
+      whole = ap (λ f. again f begin.held ++ spelling (hello begin.held)) (sym same) ∙ sym (expected-none (start_of begin))
 
 -- while the disk is only read, nothing of a text is sent
 none_sent : {old mid : Outside} → OnlyReadsDisk old mid → (text : List ℕ) → Elapses old mid (SendsPrefix old.sent text old)
@@ -72,7 +70,7 @@ unbegun here from status {old} {mid} reads tells why = record {
   headless = λ disk known none. reads_only reads;
   unsent = λ is. reads.sent;
   keeps = only_read reads;
-  hinders = hinders_on _ _ _ _ _ _ old old mid status (no_fault old) (λ at none. absurd none) (λ missing disk known. missing disk (reads.disk ∙ known)) (λ before. inl before) why;
+  hinders = hinders_on _ _ (no_fault old) (λ at none. absurd none) (λ missing disk known. missing disk (reads.disk ∙ known)) (λ before. inl before) why;
 }
 
 -- A journal was begun, and then read.
@@ -80,7 +78,7 @@ module _ (from : Option ℕ) {old mid new : Outside} {recovery : Recovery} (read
     (begun : (from : Option ℕ) (disk : List ℕ) → mid.disk ≡ Some disk → Recovers (again from) mid.sent disk recovery mid) (keeps : OnlyRecovers mid new)
     (moments : (begin : Option (List ℕ)) (disk : List ℕ) → Recovers (again from) begin disk recovery mid → SendsAgain from begin disk mid new) where
   begun_at : (sent : Option (List ℕ)) (disk : List ℕ) → old.sent ≡ sent → old.disk ≡ Some disk → Recovers (again from) sent disk recovery mid
-  begun_at sent disk is known = subst (λ (b : Option (List ℕ)). Recovers (again from) b disk recovery mid) (reads.sent ∙ is) (begun from disk (reads.disk ∙ known))
+  begun_at sent disk is known = subst (λ b. Recovers (again from) b disk recovery mid) (reads.sent ∙ is) (begun from disk (reads.disk ∙ known))
 
   abbrev started : {begin : Begin} {input : List ℕ} → (begins : Begins begin input old) → Recovers (again from) (Some begin.sent) begins.disk recovery mid
   started begins = begun_at _ begins.disk begins.sent_known begins.disk_known
@@ -88,12 +86,12 @@ module _ (from : Option ℕ) {old mid new : Outside} {recovery : Recovery} (read
   start_moments : (begin : Begin) (input : List ℕ) → begin.from ≡ from → Begins begin input old → Elapses old new (IsSafeOrPending old begin [])
   start_moments begin input same begins =
       goes_on (pending_still begin begins reads.moments)
-      (moments (Some begin.sent) begins.disk (started begins) begin.held (covers_held begins.disk begin.capacity begin.held begins.holds))
+      (moments (Some begin.sent) begins.disk (started begins) begin.held (covers_held begins.holds))
       (safe_opening begin begins from same reads.disk (started begins).rests.settled)
 
   start_nothing : (begin : Begin) (input : List ℕ) → begin.from ≡ from → Begins begin input old → WritesNothing old new
   start_nothing begin input same begins =
-      still_nothing (reads_only reads) (sending (moments (Some begin.sent) begins.disk (started begins) begin.held (covers_held begins.disk begin.capacity begin.held begins.holds)) keeps.disk)
+      still_nothing (reads_only reads) (sending (moments (Some begin.sent) begins.disk (started begins) begin.held (covers_held begins.holds)) keeps.disk)
 
   -- but not to its end
   pub unread : (here : Type 0) (status : Status) → ((disk : List ℕ) → mid.disk ≡ Some disk → ¬ HasNoHeader disk)
@@ -103,13 +101,13 @@ module _ (from : Option ℕ) {old mid new : Outside} {recovery : Recovery} (read
     moments = start_moments;
     nothing = start_nothing;
     damage_moments = λ capacity at before disk known damaged.
-        sends_then (none_sent reads (again from before)) (moments old.sent disk (begun_at old.sent disk refl known) before (covers_damaged capacity at before disk damaged));
+        sends_then (none_sent reads (again from before)) (moments old.sent disk (begun_at old.sent disk refl known) before (covers_damaged damaged));
     no_header = λ disk known missing. absurd (header disk (reads.disk ∙ known) missing);
     no_header_starved = λ disk known missing is. absurd (header disk (reads.disk ∙ known) missing);
     headless = λ disk known missing. absurd (header disk (reads.disk ∙ known) missing);
     unsent = λ is. absurd (why_at _ _ _ mid new NoJournal is why).1;
     keeps = recovers_on (only_read reads) keeps;
-    hinders = hinders_on _ _ _ _ _ _ old mid new status none (λ at there disk known. there old.sent disk (begun_at old.sent disk refl known)) (λ missing. absurd missing)
+    hinders = hinders_on _ _ none (λ at there disk known. there old.sent disk (begun_at old.sent disk refl known)) (λ missing. absurd missing)
         (λ hungry. inr (λ disk known. hungry old.sent disk (begun_at old.sent disk refl known))) why;
   }
 
@@ -132,18 +130,18 @@ module _ (from : Option ℕ) {old mid new : Outside} {recovery : Recovery} (read
       at_rest : IsAtRest serving.keeper.journal read.held new
       at_rest = record {
         settled = done.rests.settled;
-        keeps = λ disk known. finished.keeps done.batches disk (subst (λ (d : List ℕ). HasRead after.scan done.batches d) (one_disk done.rests.known known) done.read);
+        keeps = λ disk known. finished.keeps done.batches disk (subst (λ d. HasRead after.scan done.batches d) (one_disk done.rests.known known) done.read);
       }
 
-      session_reads : Reads (λ records now. IsAtRest serving.keeper.journal records now) (start_of begin) input 0 serving.session new
+      session_reads : Reads (IsAtRest serving.keeper.journal) (start_of begin) input 0 serving.session new
       session_reads =
-          subst (λ (b : Begin). Reads (λ records now. IsAtRest serving.keeper.journal records now) (start_of b) input 0 serving.session new) read_is
-          (subst (λ (s : Session). Reads (λ records now. IsAtRest serving.keeper.journal records now) (start_of read) input 0 s new) (sym finished.session)
-          (engine.begins (λ records now. IsAtRest serving.keeper.journal records now) (start_of read) input _ new refl refl refl
+          subst (λ b. Reads (IsAtRest serving.keeper.journal) (start_of b) input 0 serving.session new) read_is
+          (subst (λ s. Reads (IsAtRest serving.keeper.journal) (start_of read) input 0 s new) (sym finished.session)
+          (engine.begins (IsAtRest serving.keeper.journal) (start_of read) input _ new refl refl refl
           done.resumes.engine_is at_rest done.resumes.pending_is (keeps.input ∙ reads.input ∙ begins.input_known)))
 
       capacity_is : serving.keeper.journal.capacity ≡ begin.capacity
-      capacity_is = finished.capacity ∙ ap (λ (b : Begin). b.capacity) read_is
+      capacity_is = finished.capacity ∙ ap (λ b. b.capacity) read_is
 
     sound : (disk : List ℕ) → old.disk ≡ Some disk → IsSound disk
     sound disk known =
@@ -158,8 +156,8 @@ module _ (from : Option ℕ) {old mid new : Outside} {recovery : Recovery} (read
       capacity = capacity_is;
       sound = sound;
       ready = finished.ready new.disk reading;
-      empty = ap (λ (s : Session). s.round) finished.session;
-      answered = ap (λ (s : Session). s.answered) finished.session;
+      empty = ap (λ s. s.round) finished.session;
+      answered = ap (λ s. s.answered) finished.session;
       keeps = recovers_on (only_read reads) keeps;
       none = faultless none more;
     }

@@ -1,11 +1,10 @@
 -- What a session did, whatever ended it.
 use Rattle.std.proofs.Common.{◌≡◌, ◌≢◌, ◌⊎◌, inl, inr, ⊎_elim, ℕ, List, [], ◌++◌, length, take, drop, refl, sym, ap, subst, ◌∙◌, append_assoc, arith}
-use Rattle.std.specs.Prelude.{Option, Some, min, Result, IfOk}
+use Rattle.std.specs.Prelude.{Option, Some, min}
 use Rattle.std.proofs.lemmas.List.{append-nil, take-append-drop}
 use Rattle.host_core.specs.declared.status.Status.{Status}
 use Rattle.host_core.specs.declared.status.Status.TheVariants.{Usage, ReadFault, SendFault, DiskFault, Damaged, NoJournal, NoMemory, BadText}
-use Rattle.host_core.specs.declared.fault.Fault.{Fault}
-use Rattle.host_core.specs.Outside.{Outside, Agrees, MayLeave, Elapses, Ends, IsSettled, Rose, NoFault, Continues}
+use Rattle.host_core.specs.Outside.{Outside, Agrees, MayLeave, Elapses, Ends, IsSettled, Continues}
 use Rattle.host_core.proofs.Moments.{widened, goes_on, ended, returned, further}
 use Rattle.host_core.proofs.Causes.{faultless, no_fault}
 use Rattle.host_core.proofs.Chains.{reads_nothing}
@@ -19,7 +18,7 @@ use Rattle.journal_core.specs.Scan.{HasNoHeader}
 use Rattle.journal_core.proofs.OneList.{alone}
 use Rattle.journal_core.proofs.Readable.{readable}
 use Rattle.engine_core.specs.declared.session.Session.{Session}
-use Rattle.engine_core.specs.Ends.{IsEnd, ReadsAtMost, Told, answer_of}
+use Rattle.engine_core.specs.Ends.{ReadsAtMost, Told}
 use Rattle.engine_core.specs.Pending.{SendsPrefix, SentPrefix}
 use Rattle.engine_core.specs.Serving.{Reads}
 use Rattle.engine_core.specs.Sessions as engine
@@ -47,15 +46,15 @@ use Rattle.live_core.proofs.Restoring.{one_disk, unbegun}
 
 -- what is allowed before the first frame is allowed for any
 first_stops : (start : Outside) (begin : Begin) (bodies : List (List ℕ)) (image bytes : List ℕ) → IsSafeOrPending start begin [] image bytes → IsSafeOrPending start begin bodies image bytes
-first_stops start begin bodies image bytes = ⊎_elim (λ safe. inl (safe_more (λ records image. Holds image begin.capacity records) (start_of begin) [] bodies image bytes safe)) (λ pending. inr pending)
+first_stops start begin bodies image bytes = ⊎_elim (λ safe. inl (safe_more _ (start_of begin) [] bodies image bytes safe)) (λ pending. inr pending)
 
 -- where nothing was pending, each stop is safe
 settle : {begin : Begin} {input : List ℕ} (start : Outside) → Begins begin input start → IsSettled start → (bodies : List (List ℕ)) (image bytes : List ℕ)
     → IsSafeOrPending start begin bodies image bytes → IsSafe begin bodies image bytes
 settle start begins settled bodies image bytes (inl safe) = safe
 settle {begin} start begins settled bodies image bytes (inr pending) =
-    safe_of (λ records image. Holds image begin.capacity records) (start_of begin) [] bodies image bytes [] (expected (start_of begin) [])
-    (subst (λ (i : List ℕ). Holds i begin.capacity begin.held) (one_disk begins.disk_known (settled.only image pending.was)) begins.holds)
+    safe_of _ (start_of begin) [] bodies image bytes [] (expected (start_of begin) [])
+    (subst (λ i. Holds i begin.capacity begin.held) (one_disk begins.disk_known (settled.only image pending.was)) begins.holds)
     (λ content is. pending.unsent ∙ sym (append-nil begin.sent) ∙ one_disk refl is) refl
 
 -- what was sent at a stop
@@ -67,23 +66,23 @@ part_of start begin bodies image bytes (inl safe) =
     record {
       since = safe.since;
       unsent = safe.unsent ++ more;
-      sent = ap (λ (b : List ℕ). Some b) (safe.sent (begin.sent ++ safe.since) refl);
-      prefix = sym (append_assoc safe.since safe.unsent more) ∙ ap (λ (b : List ℕ). b ++ more) safe.prefix
+      sent = ap (λ b. Some b) (safe.sent (begin.sent ++ safe.since) refl);
+      prefix = sym (append_assoc safe.since safe.unsent more) ∙ ap (λ b. b ++ more) safe.prefix
           ∙ sym (expected-more (start_of begin) first (drop safe.count bodies)) ∙ ap (expected (start_of begin)) (take-append-drop safe.count bodies);
     }
 part_of start begin bodies image bytes (inr pending) =
-    record { since = []; unsent = expected (start_of begin) bodies; sent = ap (λ (b : List ℕ). Some b) (pending.unsent ∙ sym (append-nil begin.sent)); prefix = refl }
+    record { since = []; unsent = expected (start_of begin) bodies; sent = ap (λ b. Some b) (pending.unsent ∙ sym (append-nil begin.sent)); prefix = refl }
 
 -- The answers.
 
 hinders_damage : (damaged : ℕ → Type 0) (missing starved : Type 0) (s : Status) (old new : Outside) (at : ℕ) → Hinders damaged missing starved s old new → ¬ missing → ((other : ℕ) → damaged other → other ≡ at)
     → TellsDamage at s
-hinders_damage damaged missing starved (Damaged other) old new at why has place = inl (ap (λ (k : ℕ). Damaged k) (place other why.1))
+hinders_damage damaged missing starved (Damaged other) old new at why has place = inl (ap (λ k. Damaged k) (place other why.1))
 hinders_damage damaged missing starved s old new at why has place = grind arith
 
 pub answered_as : {most : ℕ} {before after : JournalState} {session : Session} {old new : Outside} {s same : Status} → same ≡ s → IsAnswered most before after session s old new
     → IsAnswered most before after session same old new
-answered_as {most} {before} {after} {session} {old} {new} is = subst (λ (s : Status). IsAnswered most before after session s old new) (sym is)
+answered_as {most} {before} {after} {session} {old} {new} is = subst (λ s. IsAnswered most before after session s old new) (sym is)
 
 module _ (here : Type 0) (from : Option ℕ) (most : ℕ) (status : Status) (old new : Outside)
     (sent_now : (image bytes : List ℕ) → new.leaves new.moment image bytes → Agrees new.sent bytes) (read_passes : (disk : List ℕ) → new.disk ≡ Some disk → MayLeave new disk)
@@ -93,28 +92,26 @@ module _ (here : Type 0) (from : Option ℕ) (most : ℕ) (status : Status) (old
       (continues : Continues old new) (told : Told status old new)
       (unserved : IsUnserved status → IsUnread here from status old new) (unsound : (disk : List ℕ) → old.disk ≡ Some disk → ¬ IsSound disk → IsUnread here from status old new) where
     told_at : (s : Status) → status ≡ s → Told s old new
-    told_at s is = subst (λ (s : Status). Told s old new) is told
+    told_at s is = subst (λ s. Told s old new) is told
 
-    ends : (begin : Begin) (input : List ℕ) → begin.from ≡ from → Begins begin input old → Ends (IsSafeOrPending old begin (bodies_of (take most input))) new
-    ends begin input same begins = returned (serves begin input same begins).moments continues sent_now read_passes begins.disk begin.sent begins.disk_known begins.sent_known
+    module _ (begin : Begin) (input : List ℕ) (same : begin.from ≡ from) (begins : Begins begin input old) where
+      ends : Ends (IsSafeOrPending old begin (bodies_of (take most input))) new
+      ends = returned (serves begin input same begins).moments continues sent_now read_passes begins.disk begin.sent begins.disk_known begins.sent_known
 
-    part : (begin : Begin) (input : List ℕ) → begin.from ≡ from → Begins begin input old → SentPrefix old.sent new.sent (expected (start_of begin) (bodies_of (take most input)))
-    part begin input same begins =
-        let end = ends begin input same begins in
-        rw (begins.sent_known, end.sent_known) (part_of old begin (bodies_of (take most input)) end.image end.bytes end.left)
+      part : SentPrefix old.sent new.sent (expected (start_of begin) (bodies_of (take most input)))
+      part = rw (begins.sent_known, ends.sent_known) (part_of old begin (bodies_of (take most input)) ends.image ends.bytes ends.left)
 
     headless : (disk : List ℕ) → old.disk ≡ Some disk → HasNoHeader disk → IsUnread here from status old new
     headless disk known none = unsound disk known (λ sound. readable.header disk sound.capacity sound.held sound.holds none)
 
     damaged : {capacity at : ℕ} {before disk : List _} → old.disk ≡ Some disk → IsDamagedAt capacity at before disk → IsUnread here from status old new
-    damaged {capacity} {at} {before} {disk} known damage =
-        unsound disk known (λ sound. lawful_undamaged capacity at before disk sound.capacity sound.held damage sound.holds sound.lawful)
+    damaged {disk = disk} known damage = unsound disk known (λ sound. lawful_undamaged damage sound.holds sound.lawful)
 
     damage_part : (capacity at : ℕ) (before : List Record) (disk : List ℕ) → old.disk ≡ Some disk → IsDamagedAt capacity at before disk → SentPrefix old.sent new.sent (again from before)
     damage_part capacity at before disk known damage = prefix_sent old old.sent new.sent (again from before) continues.sent (λ sent is.
         let now = stops_now sent is in (
           now.0,
-          subst (λ (bytes : List ℕ). SendsPrefix old.sent (again from before) old now.0 bytes) (sent_now now.0 now.1.bytes now.1.left sent is)
+          subst (λ bytes. SendsPrefix old.sent (again from before) old now.0 bytes) (sent_now now.0 now.1.bytes now.1.left sent is)
               (ended ((damaged known damage).damage_moments capacity at before disk known damage) now.1),
         ))
 
@@ -129,9 +126,7 @@ module _ (here : Type 0) (from : Option ℕ) (most : ℕ) (status : Status) (old
         record { capacity = damage.0; before = damage.1; damaged = damage.2; part = damage_part damage.0 at damage.1 disk known damage.2 }
 
     undamaged : (begin : Begin) (input : List ℕ) → Begins begin input old → (at : ℕ) → status ≢ Damaged at
-    undamaged begin input begins at is =
-        let damage = stops at is begins.disk begins.disk_known in
-        lawful_undamaged damage.capacity at damage.before begins.disk begin.capacity begin.held damage.damaged begins.holds begins.lawful
+    undamaged begin input begins at is = lawful_undamaged (stops at is begins.disk begins.disk_known).damaged begins.holds begins.lawful
 
     pub served : Extends old new → ReadsAtMost most old.input new.input → Served here from most status old new
     served extends bytes = record {
@@ -148,19 +143,18 @@ module _ (here : Type 0) (from : Option ℕ) (most : ℕ) (status : Status) (old
       no_header_starved = λ disk known none. (headless disk known none).no_header_starved disk known none;
       unsent = λ is. (unserved (subst IsUnserved (sym is) tt)).unsent is;
       left_alone = λ disk known none.
-          let u = headless disk known none in
-          record { input = u.keeps.input; sent = (u.no_header disk known none).1; disk = u.keeps.disk };
+          record { input = (headless disk known none).keeps.input; sent = ((headless disk known none).no_header disk known none).1; disk = (headless disk known none).keeps.disk };
       damaged = stops;
       undamaged = undamaged;
       damage_is_told = λ capacity at before disk known damage has.
           hinders_damage _ _ _ status old new at (damaged known damage).hinders (λ missing. has (missing disk known))
-          (λ other there. let first = there disk known in one_damage first.0 capacity other at first.1 before disk first.2 damage);
+          (λ other there. one_damage (there disk known).2 damage);
       damage_is_left = λ capacity at before disk known damage. (damaged known damage).keeps.disk;
       damage_is_unserved = λ capacity at before disk known damage. (damaged known damage).keeps.input;
       damage_part = damage_part;
       damage_moments = λ capacity at before disk known damage. (damaged known damage).damage_moments capacity at before disk known damage;
       damage_starved = λ capacity at before disk known damage is.
-          ⊎_elim (λ now. inl now) (λ hungry. inr (hungry disk known before (covers_damaged capacity at before disk damage))) (why_at _ _ _ old new NoMemory is (damaged known damage).hinders).1;
+          ⊎_elim (λ now. inl now) (λ hungry. inr (hungry disk known before (covers_damaged damage))) (why_at _ _ _ old new NoMemory is (damaged known damage).hinders).1;
       untouched = λ un. (unserved un).keeps.disk;
       input_is_left = λ un. (unserved un).keeps.input;
       written = record {
@@ -189,7 +183,7 @@ module _ (here : Type 0) (from : Option ℕ) (most : ℕ) (status : Status) (old
         exact = λ end. absurd (grind (arith, u.hinders));
         unread = λ is. absurd (why_at _ _ _ old new ReadFault is u.hinders);
         prompt = no_ask (start_of begin) input u.keeps.asks;
-        starved = λ is. ⊎_elim (λ now. inl now) (λ hungry. inr (inl (hungry begins.disk begins.disk_known begin.held (covers_held begins.disk begin.capacity begin.held begins.holds))))
+        starved = λ is. ⊎_elim (λ now. inl now) (λ hungry. inr (inl (hungry begins.disk begins.disk_known begin.held (covers_held begins.holds))))
             (why_at _ _ _ old new NoMemory is u.hinders).1;
         unwritten = λ none. u.nothing begin input same begins;
         stops = widened (u.nothing begin input same begins).moments _ (λ image bytes left. inl left);
@@ -201,14 +195,14 @@ module _ (here : Type 0) (from : Option ℕ) (most : ℕ) (status : Status) (old
   module _ {mid : Outside} (serving : Serving) (journal : JournalState) (r : IsRestored from serving old mid)
       (a : IsAnswered most serving.keeper.journal journal serving.session status mid new) where
     module _ (begin : Begin) (input : List ℕ) (same : begin.from ≡ from) (begins : Begins begin input old) where
-      reads : Reads (λ records now. IsAtRest serving.keeper.journal records now) (start_of begin) input 0 serving.session mid
+      reads : Reads (IsAtRest serving.keeper.journal) (start_of begin) input 0 serving.session mid
       reads = r.reads begin input same begins
 
       run : Elapses mid new (IsSafe begin (bodies_of (take most input)))
       run =
           widened (a.grows (start_of begin) input refl reads) _
           (safe_further _ (start_of begin) {front = take most input} {all = take most input} (record { more = []; whole = append-nil (take most input) }) (λ records image. Holds image begin.capacity records)
-          (λ records image g. subst (λ (c : ℕ). Holds image c records) (r.capacity begin input same begins) (record { gate = g.grown.next; held = g.grown.holds })))
+          (λ records image g. subst (λ c. Holds image c records) (r.capacity begin input same begins) (record { gate = g.grown.next; held = g.grown.holds })))
 
       -- the last stop shows what capacity the journal has
       kept : {records : List Record} → IsAtRest journal records new → IsKept begin.capacity records new
@@ -227,12 +221,12 @@ module _ (here : Type 0) (from : Option ℕ) (most : ℕ) (status : Status) (old
             before = g.before;
             was = ended (r.nothing begin input same begins).moments g.was;
             gate = serving.keeper.journal.gate;
-            held = subst (λ (c : ℕ). HoldsTo c serving.keeper.journal.gate begin.held g.before) (r.capacity begin input same begins) (rest.keeps g.before (rest.settled.only g.before g.was)).held;
+            held = subst (λ c. HoldsTo c serving.keeper.journal.gate begin.held g.before) (r.capacity begin input same begins) (rest.keeps g.before (rest.settled.only g.before g.was)).held;
             records = records;
-            grown = subst (λ (c : ℕ). IsGrown c serving.keeper.journal.gate records g.before image) (r.capacity begin input same begins) g.grown;
+            grown = subst (λ c. IsGrown c serving.keeper.journal.gate records g.before image) (r.capacity begin input same begins) g.grown;
           }
 
-      all_answered : (count : ℕ) → engine.Answered (λ records now. IsAtRest journal records now) (start_of begin) input count new → Answered begin input count new
+      all_answered : (count : ℕ) → engine.Answered (IsAtRest journal) (start_of begin) input count new → Answered begin input count new
       all_answered count answered = record { input_left = answered.input_left; there = answered.there; sent = answered.sent; held = kept answered.held }
 
       serves : Serves here from begin input most status old new

@@ -1,7 +1,6 @@
 -- A replay, from its start to its end.
-use Rattle.std.proofs.Common.{◌≡◌, ◌≢◌, ◌⊎◌, ℕ, ◌<◌, List, [], length, take, refl, sym, ap, subst, ◌∙◌, arith}
+use Rattle.std.proofs.Common.{◌≡◌, ◌≢◌, ◌⊎◌, ℕ, ◌<◌, List, [], length, take, refl, sym, subst, arith}
 use Rattle.std.specs.Prelude.{min, Option, Some, Result, Ok, Err, IfOk}
-use Rattle.std.specs.Io.KnownBytes.{append_known}
 use Rattle.host_core.specs.declared.fault.Fault.{Fault}
 use Rattle.host_core.specs.declared.fault.Fault.TheVariants as fault
 use Rattle.host_core.specs.declared.status.Status.{Status}
@@ -57,7 +56,7 @@ answers (Err f) end unkept = grind arith
 completes : (s : Status) (old new : Outside) → IsAnswer s → Told s old new → s ≢ NoMemory → ¬ (Rose old.read_faults new.read_faults) → ¬ (Rose old.send_faults new.send_faults) → IsEnd s
 completes s old new answer told memory no_reads no_sends = grind arith
 
-module _ (unbegun : Type 0) (most : ℕ) (old new : Outside) (result : Result Status Fault)
+module _ (unbegun : Type 0) (most : ℕ) (old new : Outside) (result : Result Status Fault) (status : Status) (same : status ≡ answer_of result)
     (moments : (input : List ℕ) → old.input ≡ Some input → Elapses old new (SendsPrefix old.sent (replay_text (take most input)) old))
     (prompt : (input : List ℕ) → old.input ≡ Some input → Prompt (replay_start old.sent) input old.asks new.asks)
     (bytes : ReadsAtMost most old.input new.input) (leaves : LeavesDisk old new) (continues : Continues old new)
@@ -70,16 +69,14 @@ module _ (unbegun : Type 0) (most : ℕ) (old new : Outside) (result : Result St
   -- a run that returned is one that was stopped at its end
   sent_part : (input : List ℕ) → old.input ≡ Some input → SentPrefix old.sent new.sent (replay_text (take most input))
   sent_part input is = prefix_sent old old.sent new.sent (replay_text (take most input)) continues.sent (λ sent known.
-      let stop = stops_now sent known in (
-        stop.0,
-        subst (λ (b : List ℕ). SendsPrefix old.sent (replay_text (take most input)) old stop.0 b) (sent_now stop.0 stop.1.bytes stop.1.left sent known) (ended (moments input is) stop.1),
-      ))
+      let stop = stops_now sent known in
+      (stop.0, subst (λ b. SendsPrefix old.sent (replay_text (take most input)) old stop.0 b) (sent_now stop.0 stop.1.bytes stop.1.left sent known) (ended (moments input is) stop.1)))
 
   pub replayed : ((input : List ℕ) → old.input ≡ Some input → IfOk result (λ status. (status ≡ end_of most input) × Answered old.sent input (min most (length input)) new))
       → ((input : List ℕ) → old.input ≡ Some input → result ≡ Err fault.Read → (count : ℕ) × (count < most) × Answered old.sent input count new)
       → ((input : List ℕ) → old.input ≡ Some input → result ≡ Err fault.Memory → unbegun ⊎ Starved (replay_start old.sent) (bodies_of (take most input)) new)
-      → Replayed unbegun most (answer_of result) old new
-  replayed exact unread starved = record {
+      → Replayed unbegun most status old new
+  replayed exact unread starved = subst (λ s. Replayed unbegun most s old new) (sym same) (record {
     moments = moments;
     exact = λ input is. at_an_end result _ (exact input is);
     unread = λ input is failed. unread input is (at_a_read result end failed);
@@ -95,4 +92,4 @@ module _ (unbegun : Type 0) (most : ℕ) (old new : Outside) (result : Result St
     disk_faults = leaves.disk_faults;
     kind = answers result end unkept;
     continues = continues;
-  }
+  })

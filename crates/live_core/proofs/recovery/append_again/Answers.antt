@@ -1,4 +1,4 @@
-use Rattle.std.proofs.Common.{ℕ, ◌+◌, ◌++◌, drop, ap, ◌∙◌}
+use Rattle.std.proofs.Common.{◌+◌, ◌++◌, drop, ap, ◌∙◌}
 use Rattle.std.proofs.lemmas.List.{take_rest}
 use Rattle.rulebook.specs.Sent.{spelled, numbered}
 use Rattle.engine_core.proofs.Sending.{sends_same}
@@ -8,5 +8,5 @@ pub returns-clause-moments : goal.returns-clause-moments
 returns-clause-moments g c = λ begin text expects.
     sends_same _ _
     (ap (λ l. text ++ spelled (numbered (c.args.before + c.passed_over-skipped.result) l)) (take_rest c.args.messages.now c.passed_over-skipped.result)
-    ∙ ap (λ (k : ℕ). text ++ spelled (numbered (c.args.before + k) (drop k c.args.messages.now))) c.passed_over-skipped.ensures.exact)
+    ∙ ap (λ k. text ++ spelled (numbered (c.args.before + k) (drop k c.args.messages.now))) c.passed_over-skipped.ensures.exact)
     (c.append_messages.ensures.moments begin text expects)

@@ -1,13 +1,11 @@
-use Rattle.std.proofs.Common.{◌≡◌, [], ◌∷◌, refl, sym, subst, ◌∙◌, rules}
-use Rattle.std.specs.Prelude.{Err}
-use Rattle.host_core.specs.declared.fault.Fault.TheVariants.{Memory}
+use Rattle.std.proofs.Common.{[], ◌∷◌, refl, sym, subst, ◌∙◌, rules}
 use Rattle.engine_core.specs.EngineState.{IsRoomy}
 use Rattle.engine_core.proofs.Pending.{on_ok, whenever_ok, expects_same}
 use Rattle.engine_core.proofs.Sending.{sends_same}
 use Rattle.engine_core.proofs.Starving.{not_short, takes_of}
 use Rattle.live_core.specs.InternalRecovery.{again}
 use Rattle.rulebook.proofs.Sending.{again_one}
-use Rattle.live_core.proofs.Again.{sends_part, sends_then}
+use Rattle.live_core.proofs.Recovering.{sends_part, sends_then}
 use Rattle.live_core.proofs.recovery.resume_record.Goals as goal
 
 pub returns-in_err-evaluate-clause-moments : goal.returns-in_err-evaluate-clause-moments

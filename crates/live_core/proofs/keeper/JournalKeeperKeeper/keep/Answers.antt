@@ -1,17 +1,14 @@
 use Rattle.std.proofs.Common.{length, arith}
-use Rattle.host_core.proofs.Moments.{widened}
 use Rattle.journal_core.proofs.Places.{gate_reaches}
 use Rattle.journal_core.proofs.Extending.{extends_by, extends_failed, only_disk}
 use Rattle.live_core.proofs.Regaining.{kept_by, regained_on}
 use Rattle.live_core.proofs.keeper.JournalKeeperKeeper.keep.Goals as goal
 
 pub returns-in_err-append-clause-moments : goal.returns-in_err-append-clause-moments
-returns-in_err-append-clause-moments g c = λ records rest.
-    widened (c.append.ensures.moments records rest) _ (kept_by c.args.self.now.journal records c.args.batch.now _)
+returns-in_err-append-clause-moments g c = λ records rest. kept_by c.args.self.now.journal (c.append.ensures.moments records rest)
 
 pub returns-clause-moments : goal.returns-clause-moments
-returns-clause-moments g c = λ records rest.
-    widened (c.append.ensures.moments records rest) _ (kept_by c.args.self.now.journal records c.args.batch.now _)
+returns-clause-moments g c = λ records rest. kept_by c.args.self.now.journal (c.append.ensures.moments records rest)
 
 pub append-requires-clause-gate : goal.append-requires-clause-gate
 append-requires-clause-gate g c = gate_reaches c.requires.room.of_disk

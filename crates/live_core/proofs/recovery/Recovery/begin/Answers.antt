@@ -1,6 +1,5 @@
-use Rattle.std.proofs.Common.{ℕ, [], sym, subst, arith, rules}
+use Rattle.std.proofs.Common.{[], sym, subst, rules}
 use Rattle.host_core.proofs.Chains.{reads_nothing}
-use Rattle.engine_core.specs.declared.engine.Engine.{Engine}
 use Rattle.engine_core.specs.EngineState.{Represents}
 use Rattle.live_core.specs.InternalRecovery.{IsReading}
 use Rattle.live_core.proofs.Recovering.{answered_on, scan_hinders, limited, nothing_again}
@@ -20,7 +19,7 @@ returns-clause-recovers g c = λ from disk known. record {
   batches = [];
   read = c.in_ok-scan.ensures.read disk known;
   resumes = record {
-    engine_is = subst (λ (l : ℕ). Represents c.limit-2.new.self l [] []) c.limit.ensures.capacity (limited c.limit.result c.limit-2.new.self c.limit-2.ensures (c.in-Ok.ensures).represents);
+    engine_is = subst (λ l. Represents c.limit-2.new.self l [] []) c.limit.ensures.capacity (limited c.limit.result c.limit-2.new.self c.limit-2.ensures (c.in-Ok.ensures).represents);
     lawful = tt;
     pending_is = nothing_again from (g.H.Host.outside c.begin.new.host).sent c.args.outbox c.requires;
   };
@@ -28,4 +27,4 @@ returns-clause-recovers g c = λ from disk known. record {
 
 pub returns-clause-reading : goal.returns-clause-reading
 returns-clause-reading g c =
-    subst (λ (e : Engine). IsReading c.in_ok-scan.scan e 0 (g.H.Host.outside c.begin.new.host).disk) (sym c.limit-2.ensures) (search rules)
+    subst (λ e. IsReading c.in_ok-scan.scan e 0 (g.H.Host.outside c.begin.new.host).disk) (sym c.limit-2.ensures) (search rules)

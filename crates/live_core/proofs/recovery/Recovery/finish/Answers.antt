@@ -1,5 +1,4 @@
 use Rattle.std.proofs.Common.{◌≡◌, [], sym, subst, ◌∙◌, arith, rules}
-use Rattle.engine_core.specs.declared.session.Session.{Session}
 use Rattle.engine_core.specs.Serving.{IsReady}
 use Rattle.live_core.specs.InternalKeeping.{HasRoom}
 use Rattle.live_core.proofs.recovery.Recovery.finish.Goals as goal
@@ -16,7 +15,7 @@ returns c =
     record {
       keeps = c.finish.ensures.keeps;
       capacity = c.finish.ensures.capacity;
-      ready = λ known reading. subst (λ (s : Session). IsReady (HasRoom c.finish.result known) s) (sym session) (record {
+      ready = λ known reading. subst (λ s. IsReady (HasRoom c.finish.result known) s) (sym session) (record {
         sound = search rules;
         room = record {
           whole = c.finish.ensures.whole;

@@ -1,10 +1,9 @@
-use Rattle.std.proofs.Common.{◌≡◌, ◌≢◌, Bool, List, ℕ, length, true, false, sym, ap, subst, ◌∙◌, arith, rules}
-use Rattle.std.specs.Prelude.{Option, Result, Ok}
+use Rattle.std.proofs.Common.{◌≡◌, List, ℕ, length, sym, ap, subst, rules}
+use Rattle.std.specs.Prelude.{Option}
 use Rattle.host_core.proofs.Causes.{no_fault, faultless}
 use Rattle.host_core.proofs.Chains.{reads_nothing, reads_faultless}
 use Rattle.engine_core.proofs.Starving.{not_read, not_short}
-use Rattle.live_core.proofs.Again.{sends_then}
-use Rattle.live_core.proofs.Recovering.{sends_read, greeted, reads_again, read_on, has_next, has_end, bad_form_there, only_read, only_sent, recovers_on, answered_on, fault_hinders, hinders_on, scan_hinders}
+use Rattle.live_core.proofs.Recovering.{sends_then, sends_read, greeted, reads_again, read_on, has_next, has_end, bad_form_there, only_read, only_sent, recovers_on, answered_on, fault_hinders, hinders_on, scan_hinders}
 use Rattle.journal_core.specs.Scan.{IsScanOf}
 use Rattle.journal_core.proofs.Places.{scan_reaches}
 use Rattle.live_core.proofs.recovery.Recovery.recover.Goals as goal
@@ -23,7 +22,7 @@ returns-in_err-more-clause-moments g c = read_on c.args.from c.batches.invariant
 pub returns-in_err-more-clause-hindered : goal.returns-in_err-more-clause-hindered
 returns-in_err-more-clause-hindered g c =
     answered_on _ c.from_residual.result c.from_residual.ensures.1
-    (hinders_on _ _ _ _ _ _ _ _ _ _ c.batches.invariant.none (λ at there. there) (λ missing. missing) (λ hungry. hungry)
+    (hinders_on _ _ c.batches.invariant.none (λ at there. there) (λ missing. missing) (λ hungry. hungry)
     (scan_hinders _ _ _ c.next.result _ c.in_err-more.was c.next.ensures.keeps c.next.ensures.faultless c.next.ensures.cause c.next.ensures.no_journal (λ short. absurd (c.next.ensures.no_memory short))
     (λ at is begin disk first.
     (_, _, bad_form_there c.args.from (c.batches.invariant.advances begin disk first).0 c.next.ensures.keeps at (c.next.ensures.at_damage at is) (c.next.ensures.damaged at is)))))
@@ -31,7 +30,7 @@ returns-in_err-more-clause-hindered g c =
 -- the gate is closed
 pub returns-in_err-greet-clause-moments : goal.returns-in_err-greet-clause-moments
 returns-in_err-greet-clause-moments g c = λ begin disk first all covers.
-    let end = has_end c.args.from c.batches.invariant.advances c.next.ensures.keeps c.next.new.self c.next.ensures.capacity (c.next.ensures.same (λ is. cc (c.in_ok-more.was, c.if-not-more.true))) begin disk first in
+    let end = has_end c.args.from c.batches.invariant.advances c.next.ensures.keeps c.next.new.self c.next.ensures.capacity c.next.ensures.same c.in_ok-more.was c.if-not-more.true begin disk first in
     sends_then (end.1 all covers) (sends_read c.args.from end.0 c.greet.ensures.moments all covers)
 
 pub returns-in_err-greet-clause-hindered : goal.returns-in_err-greet-clause-hindered
@@ -42,30 +41,33 @@ returns-in_err-greet-clause-hindered g c =
 
 pub returns-then-not-more-clause-moments : goal.returns-then-not-more-clause-moments
 returns-then-not-more-clause-moments g c = λ begin disk first all covers.
-    let end = has_end c.args.from c.batches.invariant.advances c.next.ensures.keeps c.next.new.self c.next.ensures.capacity (c.next.ensures.same (λ is. cc (c.in_ok-more.was, c.if-not-more.true))) begin disk first in
+    let end = has_end c.args.from c.batches.invariant.advances c.next.ensures.keeps c.next.new.self c.next.ensures.capacity c.next.ensures.same c.in_ok-more.was c.if-not-more.true begin disk first in
     sends_then (end.1 all covers) (sends_read c.args.from end.0 c.greet.ensures.moments all covers)
 
 pub returns-then-not-more-clause-recovers : goal.returns-then-not-more-clause-recovers
 returns-then-not-more-clause-recovers g c = λ begin disk first.
-    let end = has_end c.args.from c.batches.invariant.advances c.next.ensures.keeps c.next.new.self c.next.ensures.capacity (c.next.ensures.same (λ is. cc (c.in_ok-more.was, c.if-not-more.true))) begin disk first in
+    let end = has_end c.args.from c.batches.invariant.advances c.next.ensures.keeps c.next.new.self c.next.ensures.capacity c.next.ensures.same c.in_ok-more.was c.if-not-more.true begin disk first in
     greeted c.args.from end.0 c.greet.ensures.keeps c.greet.new.outbox c.in_ok-greet.ensures.pending
 
 -- there is a batch
 pub returns-in_err-resume-clause-moments : goal.returns-in_err-resume-clause-moments
 returns-in_err-resume-clause-moments g c = λ begin disk first all covers.
-    let next = has_next c.args.from c.batches.invariant.advances c.next.ensures.keeps c.next.new.self c.list.result.now c.list.ensures.records (c.in_ok-more.was ∙ ap (λ b. Ok b) c.if-not-more.false) c.next.ensures.at_batch c.next.ensures.capacity c.next.ensures.batch begin disk first in
+    let next = has_next c.args.from c.batches.invariant.advances c.next.ensures.keeps c.next.new.self c.next.ensures.capacity c.list.ensures.records c.in_ok-more.was c.if-not-more.false
+    c.next.ensures.at_batch c.next.ensures.batch begin disk first in
     sends_then (next.1 all covers) (c.resume.ensures.moments begin disk next.0 all covers)
 
 pub returns-in_err-resume-clause-hindered : goal.returns-in_err-resume-clause-hindered
 returns-in_err-resume-clause-hindered g c =
-    let next = has_next c.args.from c.batches.invariant.advances c.next.ensures.keeps c.next.new.self c.list.result.now c.list.ensures.records (c.in_ok-more.was ∙ ap (λ b. Ok b) c.if-not-more.false) c.next.ensures.at_batch c.next.ensures.capacity c.next.ensures.batch in
+    let next = has_next c.args.from c.batches.invariant.advances c.next.ensures.keeps c.next.new.self c.next.ensures.capacity c.list.ensures.records c.in_ok-more.was c.if-not-more.false
+    c.next.ensures.at_batch c.next.ensures.batch in
     answered_on _ c.from_residual-in_err-resume.result c.from_residual-in_err-resume.ensures.1
-    (hinders_on _ _ _ _ _ _ _ _ _ _ (faultless c.batches.invariant.none (reads_faultless c.next.ensures.keeps (c.next.ensures.faultless (λ is. cc c.in_ok-more.was))))
+    (hinders_on _ _ (faultless c.batches.invariant.none (reads_faultless c.next.ensures.keeps (c.next.ensures.faultless (λ is. cc c.in_ok-more.was))))
     (λ at there begin disk first. there begin disk (next begin disk first).0) (λ missing. missing) (λ hungry begin disk first. hungry begin disk (next begin disk first).0) c.in_err-resume.ensures.hindered)
 
 pub batches-preserved : goal.batches-preserved
 batches-preserved g c =
-    let next = has_next c.args.from c.batches.invariant.advances c.next.ensures.keeps c.next.new.self c.list.result.now c.list.ensures.records (c.in_ok-more.was ∙ ap (λ b. Ok b) c.if-not-more.false) c.next.ensures.at_batch c.next.ensures.capacity c.next.ensures.batch in
+    let next = has_next c.args.from c.batches.invariant.advances c.next.ensures.keeps c.next.new.self c.next.ensures.capacity c.list.ensures.records c.in_ok-more.was c.if-not-more.false
+    c.next.ensures.at_batch c.next.ensures.batch in
     record {
       reading = c.in_ok-resume.ensures.reading;
       advances = λ begin disk first.

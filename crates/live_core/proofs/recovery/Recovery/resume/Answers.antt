@@ -1,4 +1,4 @@
-use Rattle.std.proofs.Common.{ℕ, refl, sym, subst, ◌∙◌, arith, rules}
+use Rattle.std.proofs.Common.{ℕ, refl, sym, subst, rules}
 use Rattle.host_core.proofs.Chains.{sends_nothing, onward}
 use Rattle.host_core.proofs.Causes.{no_fault, faultless}
 use Rattle.live_core.specs.InternalRecovery.{HasDamage}
