@@ -1,17 +1,25 @@
 -- The two steps of an append, over what a host exposes before, between and after them.
 use Rattle.std.proofs.Common.{◌≡◌, ◌⊎◌, inl, inr, ℕ, ◌+◌, ◌-◌, ◌≤◌, List, [], ◌∷◌, ◌++◌, length, get_or, drop, sym, ◌∙◌, ap, subst, arith, append_assoc, length-append}
-use Rattle.std.specs.Prelude.{Option, Some, option_map, reverse}
-use Rattle.std.proofs.lemmas.List.{length-reverse}
+use Rattle.std.specs.Prelude.{All, Option, Some, option_map, reverse}
+use Rattle.std.proofs.lemmas.List.{append-nil, length-reverse}
+use Rattle.std.proofs.lemmas.List.Elements.{All-nil, All-cons}
 use Rattle.host_core.specs.Outside.{Outside, Agrees, MayLeave, Elapses, Stays, Changes, IsSettled, Torn, written}
 use Rattle.host_core.proofs.Moments.{ended}
 use Rattle.host_core.proofs.Known.{mapped}
 use Rattle.wire_in.specs.declared.record.Record.{Record}
-use Rattle.journal_core.specs.Layout.{IsBatch, LeadsTo, HoldsTo, Holds, frames_of, content, with_batch}
-use Rattle.journal_core.specs.Extended.{IsGrown}
-use Rattle.journal_core.specs.Journal.{JournalState, Represents, IsOfDisk, IsAtRest, IsSettledAt, Appends, Grown}
+use Rattle.journal_core.specs.Layout.{IsBatch, LeadsTo, HoldsTo, Holds, frames_of, content, stored_batch, with_batch}
+use Rattle.journal_core.specs.Extended.{IsGrown, opened_batches}
+use Rattle.journal_core.specs.Journal.{JournalState, Represents, IsOfDisk, IsAtRest, IsSettledAt, Adds, Appends, Grown}
 use Rattle.journal_core.proofs.Images.{closed, torn_behind, written_behind, torn_gate, written_gate, grown, either_to}
 use Rattle.journal_core.proofs.Torns.{torn_same, torn_within, torn_twice}
-use Rattle.journal_core.proofs.FrameLemmas.{frames_most}
+
+-- a batch as it is written is one batch and the closed gate behind it
+pub stored_is : (batch : List Record) → stored_batch batch ≡ opened_batches (batch ∷ []) ++ 0 ∷ []
+stored_is batch = sym (ap (λ (l : List ℕ). l ++ 0 ∷ []) (append-nil (1 ∷ content batch)))
+
+-- no batch was written yet
+pub grown_none : {capacity gate : ℕ} {records : List Record} {image : List ℕ} → HoldsTo capacity gate records image → IsGrown capacity gate records [] image image
+grown_none {gate = gate} {image = image} holds = record { next = gate; holds = holds; behind = omega arith; valid = All-nil IsBatch; torn = torn_same gate (gate - gate + 1) image }
 
 -- what an append writes behind a gate
 abbrev pub body : List Record → List ℕ
@@ -86,34 +94,39 @@ module _ (old new : JournalState) (batch : List Record) (gate : ℕ) (gates : ga
 
 -- what is held up to a gate is held
 some_gate : {capacity gate : ℕ} {records : List Record} (batch : List Record) {before image : List ℕ}
-    → IsGrown capacity gate records before image ⊎ IsGrown capacity gate (with_batch records batch) before image → Holds image capacity records ⊎ Holds image capacity (with_batch records batch)
+    → Adds capacity gate records batch before image → Holds image capacity records ⊎ Holds image capacity (with_batch records batch)
 some_gate batch (inl same) = inl (record { gate = same.next; held = same.holds })
-some_gate batch (inr more) = inr (record { gate = more.next; held = more.holds })
+some_gate batch (inr (inl part)) = inl (record { gate = part.next; held = part.holds })
+some_gate batch (inr (inr more)) = inr (record { gate = more.next; held = more.holds })
 
 appends : {capacity gate : ℕ} {records batch : List Record} {old : Outside} {image bytes : List ℕ} (before : List ℕ) → MayLeave old before
-    → IsGrown capacity gate records before image ⊎ IsGrown capacity gate (with_batch records batch) before image → Agrees old.sent bytes → Appends capacity gate records batch old image bytes
+    → Adds capacity gate records batch before image → Agrees old.sent bytes → Appends capacity gate records batch old image bytes
 appends {batch = batch} before was grows sent = record { holds = some_gate batch grows; before = before; was = was; grown = grows; sent = sent }
 
 pub before_steps : (old : Outside) (capacity gate : ℕ) (records batch : List Record) → IsSettledAt capacity gate records old → (image bytes : List ℕ) → Stays old image bytes → Appends capacity gate records batch old image bytes
 before_steps old capacity gate records batch rest image bytes stays =
-    appends image stays.was (inl (record { next = gate; holds = rest.holds image (rest.settled.only image stays.was); behind = omega arith; torn = torn_same gate (gate - gate + 2310) image })) stays.sent
+    appends image stays.was (inl (grown_none (rest.holds image (rest.settled.only image stays.was)))) stays.sent
 
 module _ (old : Outside) (capacity gate : ℕ) (records batch : List Record) (valid : IsBatch batch) (rest : IsSettledAt capacity gate records old) where
   held : (image : List ℕ) → MayLeave old image → HoldsTo capacity gate records image
   held image left = rest.holds image (rest.settled.only image left)
 
-  few : length (frames_of batch) ≤ 2304
-  few = omega (arith, frames_most batch valid.sound, valid.most)
+  pending : All IsBatch (batch ∷ [])
+  pending = All-cons IsBatch batch [] valid (All-nil IsBatch)
+
+  place : (n : ℕ) → n + length (opened_batches (batch ∷ []) ++ 0 ∷ []) ≡ n + length (stored_batch batch)
+  place n = ap (λ (l : List ℕ). n + length l) (sym (stored_is batch))
 
   pub first_step : (image bytes : List ℕ) → Changes (Torn (gate + 1) (length (body batch))) old image bytes → Appends capacity gate records batch old image bytes
   first_step image bytes step =
       let before = held step.before step.was in
-      appends step.before step.was (inl (record {
+      appends step.before step.was (inr (inl (record {
         next = gate;
         holds = closed before.same (torn_behind before.leads (length (body batch)) image step.changed);
         behind = omega arith;
-        torn = torn_within gate (gate - gate + 2310) (gate + 1) (length (body batch)) (omega arith) (omega (arith, few, length-append (content batch) (0 ∷ []))) step.changed;
-      })) step.sent
+        valid = pending;
+        torn = torn_within gate (gate - gate + length (opened_batches (batch ∷ []) ++ 0 ∷ [])) (gate + 1) (length (body batch)) (omega arith) (omega (arith, place 0)) step.changed;
+      }))) step.sent
 
   module _ (mid : Outside) (first : mid.disk ≡ option_map (written (gate + 1) (body batch)) old.disk) (settled : IsSettled mid) (same : mid.sent ≡ old.sent)
       (run : Elapses old mid (Changes (Torn (gate + 1) (length (body batch))) old)) where
@@ -135,12 +148,23 @@ module _ (old : Outside) (capacity gate : ℕ) (records batch : List Record) (va
         at_end : Changes (Torn (gate + 1) (length (body batch))) old step.before step.was.bytes
         at_end = ended run step.was
 
-        within : (n : ℕ) → 2310 ≤ n → Torn gate n at_end.before image
+        within : (n : ℕ) → length (stored_batch batch) ≤ n → Torn gate n at_end.before image
         within n le =
-            torn_twice gate n (torn_within gate n (gate + 1) (length (body batch)) (omega arith) (omega (arith, le, few, length-append (content batch) (0 ∷ []))) at_end.changed)
-            (torn_within gate n gate 1 (omega arith) (omega (arith, le)) step.changed)
+            torn_twice gate n (torn_within gate n (gate + 1) (length (body batch)) (omega arith) (omega (arith, le)) at_end.changed) (torn_within gate n gate 1 (omega arith) (omega (arith, le)) step.changed)
 
         by : HoldsTo capacity gate records image ⊎ HoldsTo capacity (gate + (length (frames_of batch) + 5)) (with_batch records batch) image
-            → IsGrown capacity gate records at_end.before image ⊎ IsGrown capacity gate (with_batch records batch) at_end.before image
-        by (inl holds) = inl (record { next = gate; holds = holds; behind = omega arith; torn = within (gate - gate + 2310) (omega arith) })
-        by (inr holds) = inr (record { next = gate + (length (frames_of batch) + 5); holds = holds; behind = omega arith; torn = within (gate + (length (frames_of batch) + 5) - gate + 2310) (omega arith) })
+            → Adds capacity gate records batch at_end.before image
+        by (inl holds) = inr (inl (record {
+          next = gate;
+          holds = holds;
+          behind = omega arith;
+          valid = pending;
+          torn = within (gate - gate + length (opened_batches (batch ∷ []) ++ 0 ∷ [])) (omega (arith, place 0));
+        }))
+        by (inr holds) = inr (inr (record {
+          next = next_gate gate batch;
+          holds = holds;
+          behind = omega arith;
+          valid = All-nil IsBatch;
+          torn = within (next_gate gate batch - gate + 1) (omega (arith, length-append (content batch) (0 ∷ [])));
+        }))

@@ -16,7 +16,8 @@ use Rattle.journal_core.proofs.Images.{room, from_gate}
 use Rattle.journal_core.proofs.OneList.{alone}
 use Rattle.journal_core.proofs.Places.{appended_holds}
 use Rattle.journal_core.specs.Extended.{opened_batches, IsExtended, Extends, IsGrown}
-use Rattle.journal_core.proofs.Torns.{torn_same, torn_within, torn_twice}
+use Rattle.journal_core.proofs.Torns.{torn_within, torn_twice}
+use Rattle.journal_core.proofs.Appended.{stored_is}
 
 -- a closed gate over a closed gate
 same_gate : {capacity gate : ℕ} {held : List Record} {disk : List ℕ} → HoldsTo capacity gate held disk → written gate (0 ∷ []) disk ≡ disk
@@ -43,9 +44,6 @@ pub extends_by : (old new : Outside) (journal : JournalState) (batch : List Reco
     → new.disk ≡ option_map (written journal.gate (stored_batch batch)) old.disk → Extends old new
 extends_by old new journal batch later of_disk valid is = record { later = later; file = λ rose. grown }
   where
-    bytes : stored_batch batch ≡ opened_batches (batch ∷ []) ++ 0 ∷ []
-    bytes = sym (ap (λ (l : List ℕ). l ++ 0 ∷ []) (append-nil (1 ∷ content batch)))
-
     grown : (capacity gate : ℕ) (held : List Record) (disk : List ℕ) → old.disk ≡ Some disk → HoldsTo capacity gate held disk → IsExtended capacity gate held disk new.disk
     grown capacity gate held disk known holds =
         let mine = (of_disk disk known).1.held in
@@ -55,8 +53,8 @@ extends_by old new journal batch later of_disk valid is = record { later = later
         record {
           batches = batch ∷ [];
           valid = All-cons IsBatch batch [] valid (All-nil IsBatch);
-          file = made ∙ (λ i. Some (written (sym one.2 i) (bytes i) disk));
-          holds = subst (λ (b : List ℕ). HoldsTo capacity (gate + length (opened_batches (batch ∷ []))) (records_of (batch ∷ []) ++ held) (written gate b disk)) bytes
+          file = made ∙ (λ i. Some (written (sym one.2 i) (stored_is batch i) disk));
+          holds = subst (λ (b : List ℕ). HoldsTo capacity (gate + length (opened_batches (batch ∷ []))) (records_of (batch ∷ []) ++ held) (written gate b disk)) (stored_is batch)
               (subst (λ (r : List Record). HoldsTo capacity (gate + length (opened_batches (batch ∷ []))) (r ++ held) (written gate (stored_batch batch) disk)) (ap reverse (sym (append-nil batch)))
               (subst (λ (g : ℕ). HoldsTo capacity g (with_batch held batch) (written gate (stored_batch batch) disk)) place (appended_holds batch valid holds)));
         }
@@ -131,10 +129,6 @@ pub only_disk : {T : Type 0} (result : Result T AppendError) (error : AppendErro
 only_disk result DiskFault is capacity limits room = is
 only_disk result (Full limit) is capacity limits room = absurd (room (is ∙ ap (λ (l : ℕ). Err (Full l)) (limits limit is)))
 
--- no batch was written yet
-pub grown_none : {capacity gate : ℕ} {records : List Record} {image : List ℕ} → HoldsTo capacity gate records image → IsGrown capacity gate records image image
-grown_none {gate = gate} {image = image} holds = record { next = gate; holds = holds; behind = omega arith; torn = torn_same gate (gate - gate + 2310) image }
-
 -- what is written stands in its place
 written_torn : (at : ℕ) (piece disk : List ℕ) → at ≤ length disk → Torn at (length piece) disk (written at piece disk)
 written_torn at piece disk within =
@@ -150,17 +144,19 @@ written_torn at piece disk within =
     }
 
 -- and batches that follow a batch grow the file from before it
-pub grown_behind : {capacity gate : ℕ} {records : List Record} {disk image : List ℕ} (batch : List Record) → gate ≤ length disk
-    → IsGrown capacity (gate + (length (frames_of batch) + 5)) records (written gate (stored_batch batch) disk) image → IsGrown capacity gate records disk image
-grown_behind {gate = gate} {disk = disk} batch within g =
-    let n = g.next - gate + 2310 in
+pub grown_behind : {capacity gate : ℕ} {records : List Record} {pending : List (List Record)} {disk image : List ℕ} (batch : List Record) → gate ≤ length disk
+    → IsGrown capacity (gate + (length (frames_of batch) + 5)) records pending (written gate (stored_batch batch) disk) image → IsGrown capacity gate records pending disk image
+grown_behind {gate = gate} {pending = pending} {disk = disk} batch within g =
+    let place = length (opened_batches pending ++ 0 ∷ []) in
+    let n = g.next - gate + place in
     let after = gate + (length (frames_of batch) + 5) in
     let len = length-append (content batch) (0 ∷ []) in
     record {
       next = g.next;
       holds = g.holds;
       behind = omega (arith, g.behind);
+      valid = g.valid;
       torn = torn_twice gate n
-          (torn_within gate n gate (length (stored_batch batch)) (omega arith) (omega (arith, g.behind, len)) (written_torn gate (stored_batch batch) disk within))
-          (torn_within gate n after (g.next - after + 2310) (omega arith) (omega (arith, g.behind)) g.torn);
+          (torn_within gate n gate (length (stored_batch batch)) (omega arith) (omega (arith, g.behind, len, length-append (opened_batches pending) (0 ∷ []))) (written_torn gate (stored_batch batch) disk within))
+          (torn_within gate n after (g.next - after + place) (omega arith) (omega (arith, g.behind)) g.torn);
     }

@@ -24,9 +24,11 @@ pub record Extends (old new : Outside) : Type 0 where
       → IsExtended capacity gate held disk new.disk
 
 -- An image that a stop may leave while batches are added to an old file: it holds these records up to a gate of its own, and it
--- differs from the old file only from the old gate on, and up to the place of one batch of 2,310 bytes at its own gate.
-pub record IsGrown (capacity gate : ℕ) (records : List Record) (old image : List ℕ) : Type 0 where
+-- differs from the old file only from the old gate on, and up to its own gate, or up to the end of the place at this gate of the
+-- batches that are pending: those whose adding was begun and is not done.
+pub record IsGrown (capacity gate : ℕ) (records : List Record) (pending : List (List Record)) (old image : List ℕ) : Type 0 where
   pub next : ℕ
   pub holds : HoldsTo capacity next records image
   pub behind : gate ≤ next
-  pub torn : Torn gate (next - gate + 2310) old image
+  pub valid : All IsBatch pending
+  pub torn : Torn gate (next - gate + length (opened_batches pending ++ 0 ∷ [])) old image

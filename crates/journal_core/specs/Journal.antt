@@ -1,5 +1,5 @@
 -- A journal over a host, and what a stop of an append leaves.
-use Rattle.std.specs.Prelude.{◌≡◌, ◌⊎◌, ℕ, ◌+◌, ◌*◌, ◌^◌, ◌≤◌, Bool, List, length, Option, Some}
+use Rattle.std.specs.Prelude.{◌≡◌, ◌⊎◌, ℕ, ◌+◌, ◌*◌, ◌^◌, ◌≤◌, Bool, List, [], ◌∷◌, length, Option, Some}
 use Rattle.host_core.specs.Outside.{Outside, Agrees, MayLeave, IsSettled}
 use Rattle.wire_in.specs.declared.record.Record.{Record}
 use Rattle.journal_core.specs.Layout.{IsLimit, HoldsTo, Holds, with_batch}
@@ -48,11 +48,16 @@ pub record Grown (gate next : ℕ) (batch : List Record) (old : Option (List ℕ
   pub known : old ≡ Some before
   pub grows : (capacity : ℕ) (records : List Record) → HoldsTo capacity gate records before → HoldsTo capacity next (with_batch records batch) disk
 
+-- An image while a batch is added to an old file: nothing of the batch was written, or some of its bytes, or all of it.
+abbrev pub Adds : (capacity gate : ℕ) (records batch : List Record) (old image : List ℕ) → Type 0
+Adds capacity gate records batch old image =
+    IsGrown capacity gate records [] old image ⊎ IsGrown capacity gate records (batch ∷ []) old image ⊎ IsGrown capacity gate (with_batch records batch) [] old image
+
 -- A stop leaves the records as they were or with the batch, in an image that differs from one before in the place of the batch
 -- alone, and nothing more was sent.
 pub record Appends (capacity gate : ℕ) (records batch : List Record) (old : Outside) (image bytes : List ℕ) : Type 0 where
   pub holds : Holds image capacity records ⊎ Holds image capacity (with_batch records batch)
   pub before : List ℕ
   pub was : MayLeave old before
-  pub grown : IsGrown capacity gate records before image ⊎ IsGrown capacity gate (with_batch records batch) before image
+  pub grown : Adds capacity gate records batch before image
   pub sent : Agrees old.sent bytes
