@@ -1,6 +1,6 @@
 -- A session that serves: a round of it is kept and then answered, and what its stops leave.
-use Rattle.std.proofs.Common.{◌≡◌, inl, inr, ℕ, List, [], ◌++◌, sym, ap, subst, ◌∙◌, append_assoc}
-use Rattle.std.specs.Prelude.{Option}
+use Rattle.std.proofs.Common.{◌≡◌, inl, inr, ℕ, List, [], ◌∷◌, ◌++◌, refl, sym, ap, subst, ◌∙◌, append_assoc, arith}
+use Rattle.std.specs.Prelude.{Option, reverse}
 use Rattle.std.proofs.lemmas.List.{append-nil}
 use Rattle.host_core.specs.Outside.{Outside, Agrees, MayLeave, Elapses}
 use Rattle.host_core.specs.Frames.{OnlySends, OnlyWrites}
@@ -13,11 +13,11 @@ use Rattle.engine_core.specs.Pending.{Expects}
 use Rattle.engine_core.specs.Rounds.{records_in}
 use Rattle.engine_core.specs.Sessions.{Start, held_after, expected, IsSafe}
 use Rattle.engine_core.specs.Answering.{Answers}
-use Rattle.engine_core.specs.Serving.{Judges, Serves, Keeps, OnlyAnswers}
+use Rattle.engine_core.specs.Serving.{Judges, Serves, IsKeeping, Keeps, Leaves, OnlyAnswers}
 use Rattle.engine_core.proofs.Pending.{expects_still}
 use Rattle.engine_core.proofs.Rounds.{batch_of}
 use Rattle.engine_core.proofs.Answering.{none_waits}
-use Rattle.engine_core.proofs.Expecting.{added, expected-more, held-more, Begins, safe_of, safe_further}
+use Rattle.engine_core.proofs.Expecting.{added, expected-more, held-more, Begins, at_rest, keeping_further, safe_of, safe_further}
 
 module _ {holds : List Record → Outside → Type 0} {start : Start} {read : List ℕ} {session : Session} {now : Outside} (serves : Serves holds start read session now) where
   -- what the accepted records of the round make of those that are held
@@ -55,29 +55,33 @@ module _ {holds : List Record → Outside → Type 0} {start : Start} {read : Li
       (rw serves.pending_is.known at sent) serves.pending_is.whole)
 
   -- or the round kept
-  pub safe_keeps : (recovers : List Record → List ℕ → Type 0) (image bytes : List ℕ) → Keeps recovers (held_after start serves.answered) (records_in session.round) now image bytes
-      → IsSafe recovers start (bodies_of read) image bytes
-  safe_keeps recovers image bytes stop =
+  pub leaves_keeps : (recovers : List Record → List (List Record) → List ℕ → Type 0) (image bytes : List ℕ)
+      → Keeps recovers (held_after start serves.answered) (records_in session.round) now image bytes → Leaves recovers start (bodies_of read) image bytes
+  leaves_keeps recovers image bytes stop =
+      let batch = records_in session.round in
       let more = added start serves.answered serves.judges.waits.waiting in
       let whole = sym (expected-more start serves.answered serves.judges.waits.waiting) ∙ ap (expected start) serves.judges.waits.whole in
       let sent = sym (append_assoc _ _ more) ∙ ap (λ (b : List ℕ). b ++ more) serves.pending_is.whole ∙ whole in
       elim stop.either [
-        | inl before ↦ safe_held recovers image bytes before stop.sent
-        | inr after ↦ rw append-nil at (safe_of recovers start (bodies_of read) [] image bytes _ (session.outbox ++ more) (rw kept_is at after) (rw serves.pending_is.known at stop.sent) sent)
+        | inl before ↦ safe_held _ image bytes (at_rest (reverse batch) kept_is before) stop.sent
+        | inr (inl during) ↦ safe_held _ image bytes
+            (record { pending = batch ∷ []; few = omega arith; more = []; next = ap (λ (b : List Record). with_batch (held_after start serves.answered) b) (append-nil batch) ∙ kept_is; recovered = during }) stop.sent
+        | inr (inr after) ↦ rw append-nil at (safe_of (IsKeeping recovers start (bodies_of read)) start (bodies_of read) [] image bytes serves.pending_is.sent (session.outbox ++ more) (at_rest [] refl (rw kept_is at after)) (rw serves.pending_is.known at stop.sent) sent)
       ]
 
   -- no time has passed
-  pub idles : (recovers : List Record → List ℕ → Type 0) {all : List ℕ} → Begins read all → ((image bytes : List ℕ) → now.leaves now.moment image bytes → Agrees now.sent bytes)
-      → ((image : List ℕ) → MayLeave now image → recovers (held_after start serves.answered) image) → Elapses now now (IsSafe recovers start (bodies_of all))
+  pub idles : (recovers : List Record → List (List Record) → List ℕ → Type 0) {all : List ℕ} → Begins read all → ((image bytes : List ℕ) → now.leaves now.moment image bytes → Agrees now.sent bytes)
+      → ((image : List ℕ) → MayLeave now image → recovers (held_after start serves.answered) [] image) → Elapses now now (Leaves recovers start (bodies_of all))
   idles recovers {all} begins sent_now left =
-      widened (nothing now sent_now) (IsSafe recovers start (bodies_of all))
-      (λ image bytes stays. safe_further recovers start begins recovers (λ records at recovered. recovered) image bytes (safe_held recovers image bytes (left image stays.was) stays.sent))
+      widened (nothing now sent_now) (Leaves recovers start (bodies_of all))
+      (λ image bytes stays. safe_further _ start begins _ (keeping_further begins (λ records pending at recovered. recovered)) image bytes (safe_held _ image bytes (at_rest _ kept_is (left image stays.was)) stays.sent))
 
 -- a run, and then one that is safe for the first bytes
-pub runs_on : {recovers later : List Record → List ℕ → Type 0} {start : Start} {front all : List ℕ} → Begins front all → ((records : List Record) (image : List ℕ) → later records image → recovers records image)
-    → {old mid new : Outside} → Elapses old mid (IsSafe recovers start (bodies_of all)) → Elapses mid new (IsSafe later start (bodies_of front)) → Elapses old new (IsSafe recovers start (bodies_of all))
+pub runs_on : {recovers later : List Record → List (List Record) → List ℕ → Type 0} {start : Start} {front all : List ℕ} → Begins front all
+    → ((records : List Record) (pending : List (List Record)) (image : List ℕ) → later records pending image → recovers records pending image)
+    → {old mid new : Outside} → Elapses old mid (Leaves recovers start (bodies_of all)) → Elapses mid new (Leaves later start (bodies_of front)) → Elapses old new (Leaves recovers start (bodies_of all))
 runs_on {recovers} {later} {start} begins before first second =
-    goes_on first second (safe_further later start begins recovers before)
+    goes_on first second (safe_further _ start begins _ (keeping_further begins before))
 
 -- what is left alone by a keep, and by answers
 pub answers_writes : (touches : Outside → Outside → Type 0) {old new : Outside} → OnlyWrites old new → touches old new → OnlyAnswers touches old new

@@ -1,5 +1,5 @@
 -- The input, read piece by piece.
-use Rattle.std.proofs.Common.{◌≡◌, ◌⊎◌, inl, inr, ℕ, ◌+◌, ◌-◌, ◌≤◌, Bool, false, List, [], ◌++◌, length, take, drop, sym, ap, subst, ◌∙◌, arith}
+use Rattle.std.proofs.Common.{◌≡◌, ◌⊎◌, inl, inr, ℕ, ◌+◌, ◌-◌, ◌≤◌, Bool, false, List, [], ◌++◌, length, take, drop, refl, sym, ap, subst, ◌∙◌, arith}
 use Rattle.std.specs.Prelude.{Option, Some, option_map}
 use Rattle.std.specs.Io.KnownBytes.{append_known}
 use Rattle.std.proofs.Math.Seq.{take-add}
@@ -12,12 +12,12 @@ use Rattle.wire_in.specs.declared.record.Record.{Record}
 use Rattle.wire_in.specs.Cutting.{bodies_of}
 use Rattle.engine_core.specs.declared.session.Session.{Session}
 use Rattle.engine_core.specs.Pending.{Expects, SendsPrefix}
-use Rattle.engine_core.specs.Sessions.{Start, held_after, expected, IsSafe, Answered, Prompt}
+use Rattle.engine_core.specs.Sessions.{Start, held_after, expected, Answered, Prompt}
 use Rattle.engine_core.specs.Unwritten.{WritesNothing, AcceptsNone}
-use Rattle.engine_core.specs.Serving.{Serves, Reads, TakesPiece, OnlyExchanges}
+use Rattle.engine_core.specs.Serving.{Serves, Reads, Leaves, TakesPiece, OnlyExchanges}
 use Rattle.engine_core.proofs.Pending.{expects_nothing}
 use Rattle.engine_core.proofs.Answering.{none_waits}
-use Rattle.engine_core.proofs.Expecting.{Begins, safe_sends}
+use Rattle.engine_core.proofs.Expecting.{Begins, at_rest, safe_sends}
 
 -- the bytes that were read stand at the front of the whole buffer
 pub takes_piece : (old mid new : Option (List ℕ)) (buffer : List ℕ) (most n : ℕ) → mid ≡ old → Takes mid new (take most buffer) n → TakesPiece most old new buffer n
@@ -66,11 +66,11 @@ module _ {holds : List Record → Outside → Type 0} {start : Start} {input : L
   }
 
   -- the stops while it is sent
-  pub safe_sent : (recovers : List Record → List ℕ → Type 0) → ((records : List Record) (image : List ℕ) → holds records old → MayLeave old image → recovers records image)
-      → {new : Outside} → Elapses old new (SendsPrefix start.sent (expected start (bodies_of (take count input))) old) → Elapses old new (IsSafe recovers start (bodies_of (take count input)))
+  pub safe_sent : (recovers : List Record → List (List Record) → List ℕ → Type 0) → ((records : List Record) (image : List ℕ) → holds records old → MayLeave old image → recovers records [] image)
+      → {new : Outside} → Elapses old new (SendsPrefix start.sent (expected start (bodies_of (take count input))) old) → Elapses old new (Leaves recovers start (bodies_of (take count input)))
   safe_sent recovers left run =
-      widened run (IsSafe recovers start (bodies_of (take count input)))
-      (λ image bytes stop. safe_sends recovers start (bodies_of (take count input)) old image bytes (left _ image held_all stop.was) stop)
+      widened run (Leaves recovers start (bodies_of (take count input)))
+      (λ image bytes stop. safe_sends _ start (bodies_of (take count input)) old image bytes (at_rest [] refl (left _ image held_all stop.was)) stop)
 
   -- all that was read is answered, once it was sent
   pub answered_by : (new : Outside) → new.input ≡ old.input → new.sent ≡ append_known start.sent (expected start (bodies_of (take count input)))
@@ -78,13 +78,13 @@ module _ {holds : List Record → Outside → Type 0} {start : Start} {input : L
   answered_by new same sent still = record { input_left = same ∙ reads.input_left; there = reads.there; sent = sent; held = still _ held_all }
 
 -- What the stops of a run may leave, when it asked, and that it writes nothing where no record is accepted.
-pub record Runs (recovers : List Record → List ℕ → Type 0) (start : Start) (input : List ℕ) (most : ℕ) (old now : Outside) : Type 0 where
-  pub moments : Elapses old now (IsSafe recovers start (bodies_of (take most input)))
+pub record Runs (recovers : List Record → List (List Record) → List ℕ → Type 0) (start : Start) (input : List ℕ) (most : ℕ) (old now : Outside) : Type 0 where
+  pub moments : Elapses old now (Leaves recovers start (bodies_of (take most input)))
   pub prompt : Prompt start input old.asks now.asks
   pub nothing : AcceptsNone start (bodies_of (take most input)) → WritesNothing old now
 
 -- A session since it began: what it has read, its run, and once it is closed all of it answered.
-pub record Polls (holds : List Record → Outside → Type 0) (recovers : List Record → List ℕ → Type 0) (start : Start) (input : List ℕ) (most read : ℕ) (on : Bool) (session : Session) (old now : Outside) : Type 0 where
+pub record Polls (holds : List Record → Outside → Type 0) (recovers : List Record → List (List Record) → List ℕ → Type 0) (start : Start) (input : List ℕ) (most read : ℕ) (on : Bool) (session : Session) (old now : Outside) : Type 0 where
   pub reads : Reads holds start input read session now
   pub runs : Runs recovers start input most old now
   pub end : on ≡ false → ((read ≡ length input) ⊎ (read ≡ most)) × Answered holds start input read now

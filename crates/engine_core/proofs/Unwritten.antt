@@ -14,7 +14,7 @@ use Rattle.engine_core.specs.Rounds.{Outcome, records_in}
 use Rattle.engine_core.specs.Sessions.{Start, held_after}
 use Rattle.engine_core.specs.Serving.{Serves}
 use Rattle.engine_core.specs.Unwritten.{WritesNothing, AcceptsNone}
-use Rattle.engine_core.proofs.Expecting.{Begins, held-more}
+use Rattle.engine_core.proofs.Expecting.{Begins, accepted_grows, held_further}
 use Rattle.engine_core.proofs.Keeping.{kept_is}
 
 -- no call, calls that send, and one run after another
@@ -30,25 +30,12 @@ still_nothing first second = record {
   moments = goes_on first.moments second.moments (λ image bytes left. ended first.moments left);
 }
 
-one_grows : (held : List Record) (outcome : Outcome) → (more : List Record) × (with_record held outcome ≡ more ++ held)
-one_grows held (Ok x) = (x ∷ [], refl)
-one_grows held (Err refusal) = ([], refl)
-
-accepted_grows : (capacity : ℕ) (held : List Record) (bodies : List (List ℕ)) → (more : List Record) × (accepted_of capacity held bodies ≡ more ++ held)
-accepted_grows capacity held [] = ([], refl)
-accepted_grows capacity held (body ∷ later) =
-    let first = one_grows held (judged capacity held body) in
-    let rest = accepted_grows capacity (with_record held (judged capacity held body)) later in
-    (rest.0 ++ first.0, rw (append_assoc, ← first.1) rest.1)
-
 -- where no record of all bytes is accepted, none of the first ones is
 pub none_before : (start : Start) {front all : List ℕ} → Begins front all → AcceptsNone start (bodies_of all) → AcceptsNone start (bodies_of front)
 none_before start {front} {all} begins none =
-    let rest = bodies_of (rest_of front ++ begins.more) in
     let before = accepted_grows start.capacity start.held (bodies_of front) in
-    let after = accepted_grows start.capacity (held_after start (bodies_of front)) rest in
-    let whole : bodies_of all ≡ bodies_of front ++ rest = sym (ap bodies_of begins.whole) ∙ bodies_of-append front begins.more in
-    let same : after.0 ++ held_after start (bodies_of front) ≡ start.held = sym after.1 ∙ sym (held-more start (bodies_of front) rest) ∙ ap (held_after start) (sym whole) ∙ none in
+    let after = held_further start begins in
+    let same = after.1 ∙ none in
     let empty : before.0 ≡ [] = nil_from_length before.0 (omega (arith, simp length-append at (ap length same), simp length-append at (ap length before.1))) in
     before.1 ∙ ap (λ (r : List Record). r ++ start.held) empty
 

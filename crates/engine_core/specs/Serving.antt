@@ -1,9 +1,9 @@
 -- What a session keeps, and what it represents.
-use Rattle.std.specs.Prelude.{◌≡◌, ◌⊎◌, ℕ, ◌+◌, ◌-◌, ◌*◌, ◌^◌, ◌≤◌, List, [], length, take, drop, Option, Some, option_map}
+use Rattle.std.specs.Prelude.{◌≡◌, ◌⊎◌, ℕ, ◌+◌, ◌-◌, ◌*◌, ◌^◌, ◌≤◌, List, [], ◌∷◌, ◌++◌, length, take, drop, Option, Some, option_map}
 use Rattle.host_core.specs.Outside.{Outside, Agrees, MayLeave, Continues}
 use Rattle.wire_in.specs.declared.record.Record.{Record}
 use Rattle.wire_in.specs.Cutting.{pending, bodies_of, rest_of}
-use Rattle.journal_core.specs.Layout.{with_batch}
+use Rattle.journal_core.specs.Layout.{records_of, with_batch}
 use Rattle.market_core.specs.MarketState.{most_messages}
 use Rattle.engine_core.specs.declared.engine.Engine.{Engine}
 use Rattle.engine_core.specs.declared.session.Session.{Session}
@@ -11,7 +11,7 @@ use Rattle.engine_core.specs.Answering.{Waits}
 use Rattle.engine_core.specs.EngineState.{IsRoomy}
 use Rattle.engine_core.specs.Pending.{Expects}
 use Rattle.engine_core.specs.Rounds.{Outcome, records_in}
-use Rattle.engine_core.specs.Sessions.{Start, held_after, expected}
+use Rattle.engine_core.specs.Sessions.{Start, IsSafe, held_after, expected}
 
 -- The whole frames of the bytes read were judged, these of them were answered, and the others wait in the session's round;
 -- the rest of the bytes is the frame begun.
@@ -46,10 +46,23 @@ pub record IsReady (has_room : ℕ → Type 0) (session : Session) : Type 0 wher
   pub sound : IsSound session.engine session.round session.answered
   pub room : has_room (session.engine.admission.capacity - session.engine.evaluated)
 
--- a keep leaves the records as they were or with the batch, and sends nothing
-pub record Keeps (recovers : List Record → List ℕ → Type 0) (records batch : List Record) (old : Outside) (image bytes : List ℕ) : Type 0 where
-  pub either : recovers records image ⊎ recovers (with_batch records batch) image
+-- a keep leaves the records as they were, before the batch is kept or meanwhile, or with the batch, and sends nothing
+pub record Keeps (recovers : List Record → List (List Record) → List ℕ → Type 0) (records batch : List Record) (old : Outside) (image bytes : List ℕ) : Type 0 where
+  pub either : recovers records [] image ⊎ recovers records (batch ∷ []) image ⊎ recovers (with_batch records batch) [] image
   pub sent : Agrees old.sent bytes
+
+-- The image recovers these records while one batch at most is being kept, whose records are the next that the frames of these
+-- bodies give.
+pub record IsKeeping (recovers : List Record → List (List Record) → List ℕ → Type 0) (start : Start) (bodies : List (List ℕ)) (records : List Record) (image : List ℕ) : Type 0 where
+  pub pending : List (List Record)
+  pub few : length pending ≤ 1
+  pub more : List Record
+  pub next : more ++ (records_of pending ++ records) ≡ held_after start bodies
+  pub recovered : recovers records pending image
+
+-- what a stop leaves is safe, and of the frames behind those whose records it recovers it has at most the next batch in part
+abbrev pub Leaves : (recovers : List Record → List (List Record) → List ℕ → Type 0) (start : Start) (bodies : List (List ℕ)) → List ℕ → List ℕ → Type 0
+Leaves recovers start bodies = IsSafe (IsKeeping recovers start bodies) start bodies
 
 -- the input is not read, and to the disk that alone is done which may be
 pub record OnlyAnswers (touches : Outside → Outside → Type 0) (old new : Outside) : Type 0 where

@@ -9,9 +9,9 @@ ghost use Rattle.wire_in.specs.declared.record.Record.{Record};
 ghost use Rattle.wire_in.specs.Cutting.{pending, bodies_of, rest_of};
 ghost use Rattle.engine_core.specs.Ends.{IsEnd, ReadsAtMost, end_of};
 ghost use Rattle.engine_core.specs.Pending.{Expects, SendsPrefix};
-ghost use Rattle.engine_core.specs.Sessions.{Start, IsSafe, Answered, Prompt, Starved, expected};
+ghost use Rattle.engine_core.specs.Sessions.{Start, Answered, Prompt, Starved, expected};
 ghost use Rattle.engine_core.specs.Unwritten.{WritesNothing, AcceptsNone};
-ghost use Rattle.engine_core.specs.Serving.{Reads, IsReady, TakesPiece, OnlyExchanges};
+ghost use Rattle.engine_core.specs.Serving.{Reads, Leaves, IsReady, TakesPiece, OnlyExchanges};
 
 use crate::keeper::Keeper;
 use crate::outbox::Outbox;
@@ -108,7 +108,7 @@ pub fn serve_input<K: Keeper, H: Host>(
     ensures unread { (start : Start) (input : List ℕ) → start.acknowledges ≡ K.acknowledges → Reads (K.holds keeper.old) start input 0 session.old (H.outside host.old)
         → result ≡ Err Fault.Read → (count : ℕ) × (count < most) × Answered (K.holds keeper.new) start input count (H.outside host.new) }
     ensures moments { (start : Start) (input : List ℕ) → start.acknowledges ≡ K.acknowledges → Reads (K.holds keeper.old) start input 0 session.old (H.outside host.old)
-        → Elapses (H.outside host.old) (H.outside host.new) (IsSafe (K.recovers keeper.old (H.outside host.old)) start (bodies_of (take most input))) }
+        → Elapses (H.outside host.old) (H.outside host.new) (Leaves (K.recovers keeper.old (H.outside host.old)) start (bodies_of (take most input))) }
     ensures nothing { (start : Start) (input : List ℕ) → start.acknowledges ≡ K.acknowledges → Reads (K.holds keeper.old) start input 0 session.old (H.outside host.old)
         → AcceptsNone start (bodies_of (take most input)) → WritesNothing (H.outside host.old) (H.outside host.new) }
     ensures prompt { (start : Start) (input : List ℕ) → start.acknowledges ≡ K.acknowledges → Reads (K.holds keeper.old) start input 0 session.old (H.outside host.old)

@@ -1,6 +1,6 @@
 //! What keeps the accepted records of a session.
 
-ghost use Rattle.std.specs.Prelude.{◌≡◌, ◌≢◌, ◌<◌, ◌≤◌, ◌+◌, ℕ, Bool, List, Option, length, Err, OnOk};
+ghost use Rattle.std.specs.Prelude.{◌≡◌, ◌≢◌, ◌<◌, ◌≤◌, ◌+◌, [], ℕ, Bool, List, Option, length, Err, OnOk};
 ghost use Rattle.host_core.specs.Outside.{Outside, MayLeave, Elapses};
 ghost use Rattle.host_core.specs.Frames.{OnlyWrites};
 ghost use Rattle.host_core.specs.Faults.{Causes};
@@ -19,8 +19,8 @@ pub trait Keeper {
     /// These records are held, the newest first.
     ghost holds: { Self → List Record → Outside → Type 0 };
 
-    /// An image recovers these records.
-    ghost recovers: { Self → Outside → List Record → List ℕ → Type 0 };
+    /// An image recovers these records while these batches are being kept.
+    ghost recovers: { Self → Outside → List Record → List (List Record) → List ℕ → Type 0 };
 
     /// So many records more may be kept, over this disk.
     ghost has_room: { Self → Option (List ℕ) → ℕ → Type 0 };
@@ -36,11 +36,11 @@ pub trait Keeper {
         → new.disk ≡ old.disk → ((image : List ℕ) → MayLeave new image → MayLeave old image) → holds keeper records new };
 
     /// And what recovers records then has recovered them before.
-    ghost recovered_before: { (keeper : Self) (records : List Record) (image : List ℕ) (old new : Outside)
-        → ((image : List ℕ) → MayLeave new image → MayLeave old image) → recovers keeper new records image → recovers keeper old records image };
+    ghost recovered_before: { (keeper : Self) (records : List Record) (pending : List (List Record)) (image : List ℕ) (old new : Outside)
+        → ((image : List ℕ) → MayLeave new image → MayLeave old image) → recovers keeper new records pending image → recovers keeper old records pending image };
 
     /// A stop where nothing is kept leaves what is held.
-    ghost recovers_now: { (keeper : Self) (records : List Record) (now : Outside) (image : List ℕ) → holds keeper records now → MayLeave now image → recovers keeper now records image };
+    ghost recovers_now: { (keeper : Self) (records : List Record) (now : Outside) (image : List ℕ) → holds keeper records now → MayLeave now image → recovers keeper now records [] image };
 
     /// Room for some records is room for fewer.
     ghost room_for_fewer: { (keeper : Self) (known : Option (List ℕ)) (fewer more : ℕ) → fewer ≤ more → has_room keeper known more → has_room keeper known fewer };
@@ -63,8 +63,8 @@ pub trait Keeper {
             → Elapses (H.outside host.old) (H.outside host.new) (Keeps (recovers self.old (H.outside host.old)) records batch.now (H.outside host.old)) }
         ensures held { OnOk result ((records : List Record) → holds self.old records (H.outside host.old)
             → holds self.new (with_batch records batch.now) (H.outside host.new)) }
-        ensures before { OnOk result ((records : List Record) (image : List ℕ) → recovers self.new (H.outside host.new) records image
-            → recovers self.old (H.outside host.old) records image) }
+        ensures before { OnOk result ((records : List Record) (pending : List (List Record)) (image : List ℕ) → recovers self.new (H.outside host.new) records pending image
+            → recovers self.old (H.outside host.old) records pending image) }
         ensures room { OnOk result ((more : ℕ) → has_room self.old (H.outside host.old).disk (length batch.now + more)
             → has_room self.new (H.outside host.new).disk more) }
         ensures touches { touches (H.outside host.old) (H.outside host.new) }

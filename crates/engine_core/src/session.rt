@@ -14,10 +14,10 @@ ghost use Rattle.market_core.specs.AdmissionState.{refusal_of};
 ghost use Rattle.engine_core.specs.Pending.{SendsPrefix};
 ghost use Rattle.engine_core.specs.EngineState.{Represents};
 ghost use Rattle.engine_core.specs.Rounds.{Outcome, records_in};
-ghost use Rattle.engine_core.specs.Sessions.{Start, IsSafe, Starved, expected};
+ghost use Rattle.engine_core.specs.Sessions.{Start, Starved, expected};
 ghost use Rattle.engine_core.specs.Answering.{Answers};
 ghost use Rattle.engine_core.specs.Unwritten.{WritesNothing, AcceptsNone};
-ghost use Rattle.engine_core.specs.Serving.{Serves, IsSound, IsReady, Keeps, OnlyAnswers};
+ghost use Rattle.engine_core.specs.Serving.{Serves, IsSound, IsReady, Keeps, Leaves, OnlyAnswers};
 
 use crate::engine::{Engine, judge};
 use crate::keeper::Keeper;
@@ -142,8 +142,8 @@ fn keep_round<K: Keeper, H: Host>(
         → Elapses (H.outside host.old) (H.outside host.new) (Keeps (K.recovers keeper.old (H.outside host.old)) records (records_in session.now.round) (H.outside host.old)) }
     ensures held { OnOk result ((records : List Record) → K.holds keeper.old records (H.outside host.old)
         → K.holds keeper.new (with_batch records (records_in session.now.round)) (H.outside host.new)) }
-    ensures before { OnOk result ((records : List Record) (image : List ℕ) → K.recovers keeper.new (H.outside host.new) records image
-        → K.recovers keeper.old (H.outside host.old) records image) }
+    ensures before { OnOk result ((records : List Record) (pending : List (List Record)) (image : List ℕ) → K.recovers keeper.new (H.outside host.new) records pending image
+        → K.recovers keeper.old (H.outside host.old) records pending image) }
     ensures room { OnOk result ((more : ℕ) → K.has_room keeper.old (H.outside host.old).disk (length (records_in session.now.round) + more)
         → K.has_room keeper.new (H.outside host.new).disk more) }
     ensures nothing { records_in session.now.round ≡ [] → WritesNothing (H.outside host.old) (H.outside host.new) }
@@ -173,9 +173,9 @@ fn settle<K: Keeper, H: Host>(
         → OnOk result (Serves (K.holds keeper.new) start read session.new (H.outside host.new)) }
     ensures empty { OnOk result (session.new.round ≡ []) }
     ensures moments { (start : Start) (read : List ℕ) → start.acknowledges ≡ K.acknowledges → Serves (K.holds keeper.old) start read session.old (H.outside host.old)
-        → Elapses (H.outside host.old) (H.outside host.new) (IsSafe (K.recovers keeper.old (H.outside host.old)) start (bodies_of read)) }
-    ensures before { OnOk result ((records : List Record) (image : List ℕ) → K.recovers keeper.new (H.outside host.new) records image
-        → K.recovers keeper.old (H.outside host.old) records image) }
+        → Elapses (H.outside host.old) (H.outside host.new) (Leaves (K.recovers keeper.old (H.outside host.old)) start (bodies_of read)) }
+    ensures before { OnOk result ((records : List Record) (pending : List (List Record)) (image : List ℕ) → K.recovers keeper.new (H.outside host.new) records pending image
+        → K.recovers keeper.old (H.outside host.old) records pending image) }
     ensures nothing { (start : Start) (read : List ℕ) → start.acknowledges ≡ K.acknowledges → Serves (K.holds keeper.old) start read session.old (H.outside host.old)
         → records_in session.old.round ≡ [] → WritesNothing (H.outside host.old) (H.outside host.new) }
     ensures ready { OnOk result (IsReady (K.has_room keeper.new (H.outside host.new).disk) session.new) }
@@ -289,9 +289,9 @@ pub fn feed<K: Keeper, H: Host>(
     ensures serves { (start : Start) (read : List ℕ) → start.acknowledges ≡ K.acknowledges → Serves (K.holds keeper.old) start read session.old (H.outside host.old)
         → OnOk result (Serves (K.holds keeper.new) start (read ++ piece.now) session.new (H.outside host.new)) }
     ensures moments { (start : Start) (read : List ℕ) → start.acknowledges ≡ K.acknowledges → Serves (K.holds keeper.old) start read session.old (H.outside host.old)
-        → Elapses (H.outside host.old) (H.outside host.new) (IsSafe (K.recovers keeper.old (H.outside host.old)) start (bodies_of (read ++ piece.now))) }
-    ensures before { OnOk result ((records : List Record) (image : List ℕ) → K.recovers keeper.new (H.outside host.new) records image
-        → K.recovers keeper.old (H.outside host.old) records image) }
+        → Elapses (H.outside host.old) (H.outside host.new) (Leaves (K.recovers keeper.old (H.outside host.old)) start (bodies_of (read ++ piece.now))) }
+    ensures before { OnOk result ((records : List Record) (pending : List (List Record)) (image : List ℕ) → K.recovers keeper.new (H.outside host.new) records pending image
+        → K.recovers keeper.old (H.outside host.old) records pending image) }
     ensures nothing { (start : Start) (read : List ℕ) → start.acknowledges ≡ K.acknowledges → Serves (K.holds keeper.old) start read session.old (H.outside host.old)
         → AcceptsNone start (bodies_of (read ++ piece.now)) → WritesNothing (H.outside host.old) (H.outside host.new) }
     ensures still { length piece.now ≡ 0 → OnOk result ((H.outside host.new).sent ≡ (H.outside host.old).sent) }

@@ -36,7 +36,7 @@ loop-open-init g c = record {
     };
     end = λ closed. absurd (true≢false closed);
   };
-  before = λ records image recovered. recovered;
+  before = λ records pending image recovered. recovered;
   taken = takes_none 0 _ _ refl;
   touches = g.K.Keeper.untouched _ _ refl refl;
   continues = unchanged _;
@@ -57,7 +57,7 @@ fed g c start input same reads =
     let sent = c.exchange.ensures.moments start.sent _ expects in (
       record {
         moments = runs_on begins
-            (λ records image recovered. c.loop-open.invariant.before records image (g.K.Keeper.recovered_before c.loop-open.keeper records image _ _ c.exchange.ensures.keeps.left recovered))
+            (λ records pending image recovered. c.loop-open.invariant.before records pending image (g.K.Keeper.recovered_before c.loop-open.keeper records pending image _ _ c.exchange.ensures.keeps.left recovered))
             (runs_on (up_to c.loop-open.read c.args.most input c.loop-open.invariant.within) c.loop-open.invariant.before was.runs.moments
             (safe_sent was.reads c.loop-open.invariant.empty _ (λ records image held left. g.K.Keeper.recovers_now c.loop-open.keeper records _ image held left) sent))
             (c.feed.ensures.moments start _ same mid);
@@ -95,8 +95,8 @@ loop-open-preserved g c =
                       (λ records held. held),
                 );
           };
-      before = λ records image recovered.
-          c.loop-open.invariant.before records image (g.K.Keeper.recovered_before c.loop-open.keeper records image _ _ c.exchange.ensures.keeps.left (c.in_ok-feed.ensures.before records image recovered));
+      before = λ records pending image recovered.
+          c.loop-open.invariant.before records pending image (g.K.Keeper.recovered_before c.loop-open.keeper records pending image _ _ c.exchange.ensures.keeps.left (c.in_ok-feed.ensures.before records pending image recovered));
       taken = takes_on c.loop-open.read n _ _ _ _ (omega arith) c.loop-open.invariant.taken (record { count = n; within = omega arith; left = c.feed.ensures.keeps.input ∙ took.left });
       touches = g.K.Keeper.touches_both _ _ _ c.loop-open.invariant.touches
           (g.K.Keeper.touches_both _ _ _ (g.K.Keeper.untouched _ _ c.exchange.ensures.keeps.disk c.exchange.ensures.keeps.disk_faults) c.feed.ensures.keeps.to_disk);

@@ -17,8 +17,8 @@ invariant-loop-open g l = record {
   polls : (start : Start) (input : List ℕ) → start.acknowledges ≡ g.K.Keeper.acknowledges → Reads (g.K.Keeper.holds l.initial.keeper) start input 0 l.initial.session (g.H.Host.outside l.initial.host)
       → Polls (g.K.Keeper.holds l.keeper) (g.K.Keeper.recovers l.initial.keeper (g.H.Host.outside l.initial.host)) start input l.most l.read l.open l.session
       (g.H.Host.outside l.initial.host) (g.H.Host.outside l.host);
-  before : (records : List Record) (image : List ℕ) → g.K.Keeper.recovers l.keeper (g.H.Host.outside l.host) records image
-      → g.K.Keeper.recovers l.initial.keeper (g.H.Host.outside l.initial.host) records image;
+  before : (records : List Record) (pending : List (List Record)) (image : List ℕ) → g.K.Keeper.recovers l.keeper (g.H.Host.outside l.host) records pending image
+      → g.K.Keeper.recovers l.initial.keeper (g.H.Host.outside l.initial.host) records pending image;
   taken : ReadsAtMost l.read (g.H.Host.outside l.initial.host).input (g.H.Host.outside l.host).input;
   touches : g.K.Keeper.touches (g.H.Host.outside l.initial.host) (g.H.Host.outside l.host);
   continues : Continues (g.H.Host.outside l.initial.host) (g.H.Host.outside l.host);

@@ -34,7 +34,7 @@ loop-at-init g c = record {
   moments = λ start read same serves.
       idles serves _ (record { more = c.args.piece.now; whole = refl }) (g.met.H.Host.sent_now c.args.host.now) (λ image left. g.K.Keeper.recovers_now c.args.keeper.now _ _ image serves.held left);
   nothing = λ start read same serves none. idle _ (g.met.H.Host.sent_now c.args.host.now);
-  before = λ records image recovered. recovered;
+  before = λ records pending image recovered. recovered;
   keeps = answers_sends _ (sends_nothing _) (g.K.Keeper.untouched _ _ refl refl);
   none = no_fault _;
 }
@@ -54,7 +54,7 @@ loop-at-preserved g c = record {
       let after = next g (goal.at.loop-at-preserved g c).After-settle start read same serves in
       still_nothing (c.loop-at.invariant.nothing start read same serves none)
       (c.settle.ensures.nothing start _ same after (no_records after (begins read c.args.piece.now c.fill-at.result) none));
-  before = λ records image recovered. c.loop-at.invariant.before records image (c.in_ok-settle.ensures.before records image recovered);
+  before = λ records pending image recovered. c.loop-at.invariant.before records pending image (c.in_ok-settle.ensures.before records pending image recovered);
   keeps = answers_on _ g.K.Keeper.touches_both c.loop-at.invariant.keeps c.settle.ensures.keeps;
   none = faultless c.loop-at.invariant.none c.in_ok-settle.ensures.causes;
 }

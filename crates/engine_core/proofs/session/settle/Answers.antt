@@ -1,11 +1,11 @@
-use Rattle.std.proofs.Common.{◌-◌, length, sym, ap, subst, ◌∙◌, arith}
+use Rattle.std.proofs.Common.{◌-◌, [], length, refl, sym, ap, subst, ◌∙◌, arith}
 use Rattle.host_core.proofs.Moments.{widened, goes_on}
 use Rattle.wire_in.specs.Cutting.{bodies_of}
 use Rattle.market_core.specs.AdmissionState.{AdmissionState}
 use Rattle.engine_core.specs.Rounds.{records_in}
 use Rattle.engine_core.proofs.Pending.{on_ok2}
-use Rattle.engine_core.proofs.Expecting.{safe_sends}
-use Rattle.engine_core.proofs.Keeping.{kept_is, answers_of, settled, safe_keeps, answers_writes, answers_sends, answers_on}
+use Rattle.engine_core.proofs.Expecting.{at_rest, safe_sends}
+use Rattle.engine_core.proofs.Keeping.{kept_is, answers_of, settled, leaves_keeps, answers_writes, answers_sends, answers_on}
 use Rattle.engine_core.proofs.Unwritten.{still_nothing, sending}
 use Rattle.engine_core.proofs.session.settle.Goals as goal
 
@@ -13,15 +13,15 @@ pub keep_round-requires : goal.keep_round-requires
 keep_round-requires g c = record { room = g.K.Keeper.room_for_fewer _ _ _ _ (omega (arith, c.requires.ready.sound.count)) c.requires.ready.room }
 
 pub returns-in_err-keep_round-clause-moments : goal.returns-in_err-keep_round-clause-moments
-returns-in_err-keep_round-clause-moments g c = λ start read same serves. widened (c.keep_round.ensures.moments _ serves.held) _ (safe_keeps serves _)
+returns-in_err-keep_round-clause-moments g c = λ start read same serves. widened (c.keep_round.ensures.moments _ serves.held) _ (leaves_keeps serves _)
 
 pub returns-clause-moments : goal.returns-clause-moments
 returns-clause-moments g c = λ start read same serves.
     let held = rw (kept_is serves) at (c.in_ok-keep_round.ensures.held _ serves.held) in
-    goes_on (widened (c.keep_round.ensures.moments _ serves.held) _ (safe_keeps serves _))
+    goes_on (widened (c.keep_round.ensures.moments _ serves.held) _ (leaves_keeps serves _))
     (c.answer_round.ensures.moments start _ (c.acknowledges.ensures ∙ sym same) (answers_of serves _ c.keep_round.ensures.keeps.sent))
     (λ image bytes stop. safe_sends _ start (bodies_of read) _ image bytes
-    (c.in_ok-keep_round.ensures.before _ image (g.K.Keeper.recovers_now c.keep_round.new.keeper _ _ image held stop.was)) stop)
+    (at_rest [] refl (c.in_ok-keep_round.ensures.before _ [] image (g.K.Keeper.recovers_now c.keep_round.new.keeper _ _ image held stop.was))) stop)
 
 pub returns-clause-serves : goal.returns-clause-serves
 returns-clause-serves g c = λ start read same serves.
