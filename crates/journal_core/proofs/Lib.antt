@@ -3,7 +3,7 @@ pub mod Images
 pub mod OneList
 pub mod Torns
 pub mod Places
-mod Appended
+pub mod Appended
 pub mod Extending
 mod AtGateLemmas
 mod AheadLemmas

@@ -1,5 +1,5 @@
 -- An append by its keeper, and what a stop of it leaves.
-use Rattle.std.proofs.Common.{◌≡◌, inl, inr, ⊎_elim, ℕ, ◌+◌, List, length, sym, subst, ◌∙◌, arith}
+use Rattle.std.proofs.Common.{◌≡◌, inl, inr, ℕ, ◌+◌, List, length, sym, subst, ◌∙◌, arith}
 use Rattle.std.specs.Prelude.{Some, option_map}
 use Rattle.host_core.proofs.Moments.{widened}
 use Rattle.host_core.specs.Outside.{Outside, Elapses, MayLeave, IsSettled, written}
@@ -13,21 +13,25 @@ use Rattle.engine_core.specs.Serving.{Keeps}
 use Rattle.live_core.specs.InternalKeeping.{Regains}
 
 pub kept_by : (journal : JournalState) {records batch : List Record} {old new : Outside} → Elapses old new (Appends journal.capacity journal.gate records batch old)
-    → Elapses old new (Keeps (λ r i. Regains journal old r i) records batch old)
+    → Elapses old new (Keeps (λ r p i. Regains journal old r p i) records batch old)
 kept_by journal run = widened run _ (λ image bytes stop. record {
-  either = ⊎_elim (λ same. inl (record { before = stop.before; was = stop.was; grown = same })) (λ more. inr (record { before = stop.before; was = stop.was; grown = more })) stop.grown;
+  either = elim stop.grown [
+    | inl same ↦ inl (record { before = stop.before; was = stop.was; grown = same })
+    | inr (inl part) ↦ inr (inl (record { before = stop.before; was = stop.was; grown = part }))
+    | inr (inr more) ↦ inr (inr (record { before = stop.before; was = stop.was; grown = more }))
+  ];
   sent = stop.sent;
 })
 
 -- what grew from the image after an append grew from the one before it
 pub regained_on : (old new : Outside) (before after : JournalState) (batch : List Record) → after.capacity ≡ before.capacity → after.gate ≡ before.gate + (length (frames_of batch) + 5)
     → HasBytes (before.gate + 1) old.disk → IsSettled new → new.disk ≡ option_map (written before.gate (stored_batch batch)) old.disk
-    → ((disk : List ℕ) → old.disk ≡ Some disk → MayLeave old disk) → (records : List Record) (image : List ℕ) → Regains after new records image → Regains before old records image
-regained_on old new before after batch limits gates has settled is passes records image r =
+    → ((disk : List ℕ) → old.disk ≡ Some disk → MayLeave old disk) → (records : List Record) (pending : List (List Record)) (image : List ℕ) → Regains after new records pending image → Regains before old records pending image
+regained_on old new before after batch limits gates has settled is passes records pending image r =
     let from = mapped (written before.gate (stored_batch batch)) old.disk r.before (sym is ∙ settled.only r.before r.was) in
     record {
       before = from.0;
       was = passes from.0 from.1;
       grown = grown_behind batch (omega (arith, has from.0 from.1))
-          (subst (λ d. IsGrown before.capacity (before.gate + (length (frames_of batch) + 5)) records d image) (sym from.2) (rw (limits, gates) at r.grown));
+          (subst (λ d. IsGrown before.capacity (before.gate + (length (frames_of batch) + 5)) records pending d image) (sym from.2) (rw (limits, gates) at r.grown));
     }

@@ -20,7 +20,7 @@ use Rattle.journal_core.proofs.Readable.{readable}
 use Rattle.engine_core.specs.declared.session.Session.{Session}
 use Rattle.engine_core.specs.Ends.{ReadsAtMost, Told}
 use Rattle.engine_core.specs.Pending.{SendsPrefix, SentPrefix}
-use Rattle.engine_core.specs.Serving.{Reads}
+use Rattle.engine_core.specs.Serving.{Reads, Leaves}
 use Rattle.engine_core.specs.Sessions as engine
 use Rattle.engine_core.specs.Sessions.{Prompt, expected}
 use Rattle.engine_core.proofs.Asking.{no_ask, more_asks}
@@ -95,8 +95,11 @@ module _ (here : Type 0) (from : Option ℕ) (most : ℕ) (status : Status) (old
     told_at s is = subst (λ s. Told s old new) is told
 
     module _ (begin : Begin) (input : List ℕ) (same : begin.from ≡ from) (begins : Begins begin input old) where
+      ends_by : {stops : List ℕ → List ℕ → Type 0} → Elapses old new stops → Ends stops new
+      ends_by run = returned run continues sent_now read_passes begins.disk begin.sent begins.disk_known begins.sent_known
+
       ends : Ends (IsSafeOrPending old begin (bodies_of (take most input))) new
-      ends = returned (serves begin input same begins).moments continues sent_now read_passes begins.disk begin.sent begins.disk_known begins.sent_known
+      ends = ends_by (serves begin input same begins).moments
 
       part : SentPrefix old.sent new.sent (expected (start_of begin) (bodies_of (take most input)))
       part = rw (begins.sent_known, ends.sent_known) (part_of old begin (bodies_of (take most input)) ends.image ends.bytes ends.left)
@@ -162,6 +165,7 @@ module _ (here : Type 0) (from : Option ℕ) (most : ℕ) (status : Status) (old
         unwritten = λ begin input same begins. (serves begin input same begins).unwritten;
         headless = λ disk known none. (headless disk known none).headless disk known none;
         stops = λ begin input same begins. (serves begin input same begins).stops;
+        at_return = λ begin input same begins. ends_by begin input same begins (serves begin input same begins).stops;
       };
       bytes = bytes;
       complete = λ begin input begins memory no_reads no_sends no_disks.
@@ -202,7 +206,7 @@ module _ (here : Type 0) (from : Option ℕ) (most : ℕ) (status : Status) (old
       run =
           widened (a.grows (start_of begin) input refl reads) _
           (safe_further _ (start_of begin) {front = take most input} {all = take most input} (record { more = []; whole = append-nil (take most input) }) (λ records image. Holds image begin.capacity records)
-          (λ records image g. subst (λ c. Holds image c records) (r.capacity begin input same begins) (record { gate = g.grown.next; held = g.grown.holds })))
+          (λ records image k. subst (λ c. Holds image c records) (r.capacity begin input same begins) (record { gate = k.recovered.grown.next; held = k.recovered.grown.holds })))
 
       -- the last stop shows what capacity the journal has
       kept : {records : List Record} → IsAtRest journal records new → IsKept begin.capacity records new
@@ -214,16 +218,26 @@ module _ (here : Type 0) (from : Option ℕ) (most : ℕ) (status : Status) (old
       }
 
       -- what grew from an image of the restored session grew from one of the start
-      has_grown : {records : List Record} {image : List ℕ} → Regains serving.keeper.journal mid records image → HasGrown begin old image
-      has_grown {records} {image} g =
+      has_grown : {image bytes : List ℕ} → Leaves (λ records pending image. Regains serving.keeper.journal mid records pending image) (start_of begin) (bodies_of (take most input)) image bytes
+          → HasGrown begin (bodies_of (take most input)) old image
+      has_grown {image} safe =
+          let k = safe.recovered in
+          let g = k.recovered in
           let rest = held_all reads r.empty in
           record {
             before = g.before;
             was = ended (r.nothing begin input same begins).moments g.was;
             gate = serving.keeper.journal.gate;
             held = subst (λ c. HoldsTo c serving.keeper.journal.gate begin.held g.before) (r.capacity begin input same begins) (rest.keeps g.before (rest.settled.only g.before g.was)).held;
-            records = records;
-            grown = subst (λ c. IsGrown c serving.keeper.journal.gate records g.before image) (r.capacity begin input same begins) g.grown;
+            count = safe.count;
+            within = safe.within;
+            grown = record {
+              pending = k.pending;
+              few = k.few;
+              more = k.more;
+              next = k.next;
+              recovered = subst (λ c. IsGrown c serving.keeper.journal.gate (engine.held_after (start_of begin) (take safe.count (bodies_of (take most input)))) k.pending g.before image) (r.capacity begin input same begins) g.grown;
+            };
           }
 
       all_answered : (count : ℕ) → engine.Answered (IsAtRest journal) (start_of begin) input count new → Answered begin input count new
@@ -241,7 +255,7 @@ module _ (here : Type 0) (from : Option ℕ) (most : ℕ) (status : Status) (old
         prompt = more_asks (start_of begin) input (no_ask (start_of begin) input r.keeps.asks) (a.prompt (start_of begin) input refl reads);
         starved = λ is. inr (inr (a.starved (start_of begin) input refl reads is));
         unwritten = λ none. still_nothing (r.nothing begin input same begins) (a.nothing (start_of begin) input refl reads none);
-        stops = goes_on (widened (r.nothing begin input same begins).moments _ (λ image bytes left. inl left)) (a.grows (start_of begin) input refl reads) (λ image bytes safe. inr (has_grown safe.recovered));
+        stops = goes_on (widened (r.nothing begin input same begins).moments _ (λ image bytes left. inl left)) (a.grows (start_of begin) input refl reads) (λ image bytes safe. inr (has_grown safe));
       }
 
     pub answered_served : Served here from most status old new

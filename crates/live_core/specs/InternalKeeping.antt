@@ -1,5 +1,5 @@
 -- A journal that keeps what a session accepts.
-use Rattle.std.specs.Prelude.{◌≡◌, ℕ, ◌+◌, ◌≤◌, IsTrue, List, Option}
+use Rattle.std.specs.Prelude.{◌≡◌, ℕ, ◌+◌, ◌≤◌, IsTrue, List, [], Option}
 use Rattle.std.proofs.Common.{sym, subst, ◌∙◌}
 use Rattle.std.proofs.Math.Nat.{le_refl, le_trans}
 use Rattle.host_core.specs.Outside.{Outside, MayLeave}
@@ -7,7 +7,8 @@ use Rattle.wire_in.specs.declared.record.Record.{Record}
 use Rattle.journal_core.specs.Layout.{Holds}
 use Rattle.journal_core.specs.Journal.{JournalState, IsOfDisk, IsAtRest}
 use Rattle.journal_core.specs.Extended.{Extends, IsGrown}
-use Rattle.journal_core.proofs.Extending.{extends_same, extends_on, grown_none}
+use Rattle.journal_core.proofs.Extending.{extends_same, extends_on}
+use Rattle.journal_core.proofs.Appended.{grown_none}
 
 -- the journal may be written, is of this disk, where it is known, and takes up to so many records more
 pub record HasRoom (journal : JournalState) (known : Option (List ℕ)) (more : ℕ) : Type 0 where
@@ -38,15 +39,15 @@ extends_still old new same faults = extends_same same (subst (λ (n : ℕ). old.
 pub extends_both : (old mid new : Outside) → Extends old mid → Extends mid new → Extends old new
 extends_both = extends_on
 
--- an image holds these records, and grew from one that a stop now may leave
-pub record Regains (journal : JournalState) (now : Outside) (records : List Record) (image : List ℕ) : Type 0 where
+-- an image holds these records while these batches are added, and grew from one that a stop now may leave
+pub record Regains (journal : JournalState) (now : Outside) (records : List Record) (pending : List (List Record)) (image : List ℕ) : Type 0 where
   pub before : List ℕ
   pub was : MayLeave now before
-  pub grown : IsGrown journal.capacity journal.gate records before image
+  pub grown : IsGrown journal.capacity journal.gate records pending before image
 
-pub regained_before : (journal : JournalState) (records : List Record) (image : List ℕ) (old new : Outside) → ((image : List ℕ) → MayLeave new image → MayLeave old image)
-    → Regains journal new records image → Regains journal old records image
-regained_before journal records image old new left regained = record { before = regained.before; was = left regained.before regained.was; grown = regained.grown }
+pub regained_before : (journal : JournalState) (records : List Record) (pending : List (List Record)) (image : List ℕ) (old new : Outside)
+    → ((image : List ℕ) → MayLeave new image → MayLeave old image) → Regains journal new records pending image → Regains journal old records pending image
+regained_before journal records pending image old new left regained = record { before = regained.before; was = left regained.before regained.was; grown = regained.grown }
 
-pub regained_now : (journal : JournalState) (records : List Record) (now : Outside) (image : List ℕ) → IsAtRest journal records now → MayLeave now image → Regains journal now records image
+pub regained_now : (journal : JournalState) (records : List Record) (now : Outside) (image : List ℕ) → IsAtRest journal records now → MayLeave now image → Regains journal now records [] image
 regained_now journal records now image rest left = record { before = image; was = left; grown = grown_none (rest.keeps image (rest.settled.only image left)).held }

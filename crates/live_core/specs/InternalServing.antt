@@ -13,8 +13,8 @@ use Rattle.rulebook.specs.Admission.{IsLawful}
 use Rattle.engine_core.specs.declared.session.Session.{Session}
 use Rattle.engine_core.specs.Ends.{IsEnd, ReadsAtMost, Told, end_of}
 use Rattle.engine_core.specs.Pending.{SendsPrefix}
-use Rattle.engine_core.specs.Serving.{Reads, IsReady}
-use Rattle.engine_core.specs.Sessions.{Start, Answered, IsSafe, Prompt, Starved}
+use Rattle.engine_core.specs.Serving.{Reads, Leaves, IsReady}
+use Rattle.engine_core.specs.Sessions.{Start, Answered, Prompt, Starved}
 use Rattle.engine_core.specs.Unwritten.{WritesNothing, AcceptsNone}
 use Rattle.journal_core.specs.Extended.{Extends}
 use Rattle.live_core.specs.declared.recovery.Recovery.{Recovery}
@@ -78,7 +78,7 @@ pub record Serves (unbegun : Type 0) (from : Option ℕ) (begin : Begin) (input 
   pub prompt : Prompt (start_of begin) input old.asks new.asks
   pub starved : status ≡ NoMemory → unbegun ⊎ StarvedAtRecord from begin.held old.sent new.sent ⊎ Starved (start_of begin) (bodies_of (take most input)) new
   pub unwritten : AcceptsNone (start_of begin) (bodies_of (take most input)) → WritesNothing old new
-  pub stops : Elapses old new (λ image bytes. MayLeave old image ⊎ HasGrown begin old image)
+  pub stops : Elapses old new (λ image bytes. MayLeave old image ⊎ HasGrown begin (bodies_of (take most input)) old image)
 
 -- the input was answered, up to so many bytes
 pub record IsAnswered (most : ℕ) (before after : JournalState) (session : Session) (status : Status) (old new : Outside) : Type 0 where
@@ -90,7 +90,7 @@ pub record IsAnswered (most : ℕ) (before after : JournalState) (session : Sess
       → AcceptsNone start (bodies_of (take most input)) → WritesNothing old new
   pub extends : Extends old new
   pub grows : (start : Start) (input : List ℕ) → start.acknowledges ≡ true → Reads (λ records now. IsAtRest before records now) start input 0 session old
-      → Elapses old new (IsSafe (λ records image. Regains before old records image) start (bodies_of (take most input)))
+      → Elapses old new (Leaves (λ records pending image. Regains before old records pending image) start (bodies_of (take most input)))
   pub prompt : (start : Start) (input : List ℕ) → start.acknowledges ≡ true → Reads (λ records now. IsAtRest before records now) start input 0 session old
       → Prompt start input old.asks new.asks
   pub starved : (start : Start) (input : List ℕ) → start.acknowledges ≡ true → Reads (λ records now. IsAtRest before records now) start input 0 session old

@@ -1,22 +1,25 @@
 -- What a session writes.
-use Rattle.std.specs.Prelude.{◌≡◌, ◌⊎◌, ℕ, List, take, Option, Some}
-use Rattle.host_core.specs.Outside.{Outside, MayLeave, Elapses}
-use Rattle.wire_in.specs.declared.record.Record.{Record}
+use Rattle.std.specs.Prelude.{◌≡◌, ◌⊎◌, ℕ, ◌≤◌, List, length, take, Option, Some}
+use Rattle.host_core.specs.Outside.{Outside, MayLeave, Elapses, Ends}
 use Rattle.wire_in.specs.Cutting.{bodies_of}
 use Rattle.journal_core.specs.Layout.{HoldsTo}
 use Rattle.journal_core.specs.Scan.{HasNoHeader}
 use Rattle.journal_core.specs.Extended.{Extends, IsGrown}
+use Rattle.engine_core.specs.Sessions.{held_after}
+use Rattle.engine_core.specs.Serving.{IsKeeping}
 use Rattle.engine_core.specs.Unwritten.{WritesNothing, AcceptsNone}
 use Rattle.live_core.specs.Safe.{Begin, Begins, start_of}
 
--- an image that grew by batches from one that a stop at the start might have left, which held the records from before
-pub record HasGrown (begin : Begin) (old : Outside) (image : List ℕ) : Type 0 where
+-- An image that grew by batches from one that a stop at the start might have left, which held the records from before. It holds
+-- them and those that some of the first frames of these bodies gave, and at most the batch of the next accepted ones is pending.
+pub record HasGrown (begin : Begin) (bodies : List (List ℕ)) (old : Outside) (image : List ℕ) : Type 0 where
   pub before : List ℕ
   pub was : MayLeave old before
   pub gate : ℕ
   pub held : HoldsTo begin.capacity gate begin.held before
-  pub records : List Record
-  pub grown : IsGrown begin.capacity gate records before image
+  pub count : ℕ
+  pub within : count ≤ length bodies
+  pub grown : IsKeeping (λ records pending image. IsGrown begin.capacity gate records pending before image) (start_of begin) bodies (held_after (start_of begin) (take count bodies)) image
 
 -- a session that was served from that message on, up to so many bytes
 pub record Written (from : Option ℕ) (most : ℕ) (old new : Outside) : Type 0 where
@@ -27,5 +30,7 @@ pub record Written (from : Option ℕ) (most : ℕ) (old new : Outside) : Type 0
   -- nor where there is no journal
   pub headless : (disk : List ℕ) → old.disk ≡ Some disk → HasNoHeader disk → WritesNothing old new
   -- Whenever it is stopped, the image is one that a stop at the start might have left, or differs from one only in the place of
-  -- its batches.
-  pub stops : (begin : Begin) (input : List ℕ) → begin.from ≡ from → Begins begin input old → Elapses old new (λ image bytes. MayLeave old image ⊎ HasGrown begin old image)
+  -- the batches of accepted frames: of those whose records it holds, and at most of the next.
+  pub stops : (begin : Begin) (input : List ℕ) → begin.from ≡ from → Begins begin input old → Elapses old new (λ image bytes. MayLeave old image ⊎ HasGrown begin (bodies_of (take most input)) old image)
+  -- a run that returned is one that was stopped at its end, also after a fault of the disk
+  pub at_return : (begin : Begin) (input : List ℕ) → begin.from ≡ from → Begins begin input old → Ends (λ image bytes. MayLeave old image ⊎ HasGrown begin (bodies_of (take most input)) old image) new

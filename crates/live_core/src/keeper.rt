@@ -26,7 +26,7 @@ impl Keeper for JournalKeeper {
 
     ghost holds = { λ keeper records now. IsAtRest keeper.journal records now };
 
-    ghost recovers = { λ keeper now records image. Regains keeper.journal now records image };
+    ghost recovers = { λ keeper now records pending image. Regains keeper.journal now records pending image };
 
     ghost has_room = { λ keeper known more. HasRoom keeper.journal known more };
 
@@ -36,7 +36,7 @@ impl Keeper for JournalKeeper {
 
     ghost still_held = { λ keeper records old new rest same left. rests_still keeper.journal records old new rest same left };
 
-    ghost recovered_before = { λ keeper records image old new left regained. regained_before keeper.journal records image old new left regained };
+    ghost recovered_before = { λ keeper records pending image old new left regained. regained_before keeper.journal records pending image old new left regained };
 
     ghost recovers_now = { λ keeper records now image rest left. regained_now keeper.journal records now image rest left };
 

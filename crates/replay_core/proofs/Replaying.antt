@@ -15,7 +15,7 @@ use Rattle.engine_core.specs.Ends.{IsEnd, ReadsAtMost, Told, answer_of, end_of}
 use Rattle.engine_core.specs.Pending.{SendsPrefix, SentPrefix}
 use Rattle.engine_core.specs.Sessions as engine
 use Rattle.engine_core.specs.Sessions.{expected, Prompt, Starved}
-use Rattle.engine_core.specs.Serving.{Reads}
+use Rattle.engine_core.specs.Serving.{Reads, Leaves}
 use Rattle.engine_core.proofs.Pending.{expects_nothing, prefix_sent}
 use Rattle.engine_core.proofs.Expecting.{safe_prefix}
 use Rattle.engine_core.proofs.Beginning.{begins}
@@ -41,11 +41,11 @@ ends_as (Ok status) begin input most now end = (end.0, answered_as begin input (
 ends_as (Err fault) begin input most now end = tt
 
 -- the stops of a replay
-pub stops_as : (read : List ℕ) (old new : Outside) → Elapses old new (engine.IsSafe (λ _ image. MayLeave old image) (replay_start old.sent) (bodies_of read))
+pub stops_as : (read : List ℕ) (old new : Outside) → Elapses old new (Leaves (λ _ _ image. MayLeave old image) (replay_start old.sent) (bodies_of read))
     → Elapses old new (SendsPrefix old.sent (replay_text read) old)
 unfolding expected replay_text
 stops_as read old new run =
-    widened run _ (λ image bytes safe. safe_prefix (replay_start old.sent) (bodies_of read) old image bytes (λ _ image. MayLeave old image) (λ _ image left. left) safe)
+    widened run _ (λ image bytes safe. safe_prefix (replay_start old.sent) (bodies_of read) old image bytes _ (λ _ image keeping. keeping.recovered) safe)
 
 -- no answer of a replay is one of the disk, or of a journal
 answers : (result : Result Status Fault) → IfOk result IsEnd → result ≢ Err fault.Disk → IsAnswer (answer_of result)

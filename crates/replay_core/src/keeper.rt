@@ -19,7 +19,7 @@ impl Keeper for NoKeeper {
 
     ghost holds = { λ _ _ _. Unit {0} };
 
-    ghost recovers = { λ _ now _ image. MayLeave now image };
+    ghost recovers = { λ _ now _ _ image. MayLeave now image };
 
     ghost has_room = { λ _ _ _. Unit {0} };
 
@@ -29,7 +29,7 @@ impl Keeper for NoKeeper {
 
     ghost still_held = { λ _ _ _ _ held _ _. held };
 
-    ghost recovered_before = { λ _ _ image _ _ before left. before image left };
+    ghost recovered_before = { λ _ _ _ image _ _ before left. before image left };
 
     ghost recovers_now = { λ _ _ _ _ _ left. left };
 
