@@ -1,12 +1,11 @@
 -- What is expected for more frames, and what is safe for them.
 use Rattle.std.proofs.Common.{◌≡◌, ℕ, ◌+◌, Bool, true, false, List, [], ◌∷◌, ◌++◌, length, take, drop, refl, sym, ap, subst, ◌∙◌, append_assoc, length-append, arith}
-use Rattle.std.specs.Prelude.{Result, Ok, Err}
+use Rattle.std.specs.Prelude.{reverse}
 use Rattle.std.specs.Io.KnownBytes.{append_known}
 use Rattle.std.proofs.lemmas.List.{append-nil, take_at, take-append-drop}
 use Rattle.std.proofs.Math.Nat.{add_comm}
 use Rattle.host_core.specs.Outside.{Outside, Agrees, MayLeave}
 use Rattle.wire_in.specs.declared.record.Record.{Record}
-use Rattle.wire_in.specs.declared.record.Refusal.{Refusal}
 use Rattle.wire_in.specs.Cutting.{bodies_of, rest_of}
 use Rattle.wire_in.proofs.Cuts.{bodies_of-append}
 use Rattle.wire_out.specs.declared.message.Frame.{Frame}
@@ -15,7 +14,9 @@ use Rattle.rulebook.proofs.Sending.{spelled-append, replies-append, accepted_of-
 use Rattle.journal_core.specs.Layout.{records_of}
 use Rattle.engine_core.specs.Pending.{SendsPrefix}
 use Rattle.engine_core.specs.Sessions.{Start, held_after, expected, with_acknowledgements, IsSafe, Starved}
+use Rattle.engine_core.specs.Rounds.{outcomes_of, records_in}
 use Rattle.engine_core.specs.Serving.{IsKeeping}
+use Rattle.engine_core.proofs.Rounds.{batch_of}
 use Rattle.engine_core.proofs.Sending.{prefix_of_longer}
 
 with_acknowledgements-append : (acknowledges : Bool) (a b : List Frame) → with_acknowledgements acknowledges (a ++ b) ≡ with_acknowledgements acknowledges a ++ with_acknowledgements acknowledges b
@@ -47,16 +48,8 @@ pub record Begins (front all : List ℕ) : Type 0 where
   pub more : List ℕ
   pub whole : front ++ more ≡ all
 
-one_grows : (held : List Record) (outcome : Result Record Refusal) → (more : List Record) × (with_record held outcome ≡ more ++ held)
-one_grows held (Ok x) = (x ∷ [], refl)
-one_grows held (Err refusal) = ([], refl)
-
 pub accepted_grows : (capacity : ℕ) (held : List Record) (bodies : List (List ℕ)) → (more : List Record) × (accepted_of capacity held bodies ≡ more ++ held)
-accepted_grows capacity held [] = ([], refl)
-accepted_grows capacity held (body ∷ later) =
-    let first = one_grows held (judged capacity held body) in
-    let rest = accepted_grows capacity (with_record held (judged capacity held body)) later in
-    (rest.0 ++ first.0, rw (append_assoc, ← first.1) rest.1)
+accepted_grows capacity held bodies = (reverse (records_in (outcomes_of capacity held bodies)), sym (batch_of capacity held bodies))
 
 -- what more bytes give stands before what the first ones gave
 pub held_further : (start : Start) {front all : List ℕ} → Begins front all → (more : List Record) × (more ++ held_after start (bodies_of front) ≡ held_after start (bodies_of all))
@@ -71,18 +64,12 @@ pub at_rest : {recovers : List Record → List (List Record) → List ℕ → Ty
 at_rest more next recovered = record { pending = []; few = omega arith; more = more; next = next; recovered = recovered }
 
 -- and what is kept of some frames is so of more
-pub keeping_further : {recovers wider : List Record → List (List Record) → List ℕ → Type 0} {start : Start} {front all : List ℕ} → Begins front all
-    → ((records : List Record) (pending : List (List Record)) (image : List ℕ) → recovers records pending image → wider records pending image)
-    → (records : List Record) (image : List ℕ) → IsKeeping recovers start (bodies_of front) records image → IsKeeping wider start (bodies_of all) records image
-keeping_further {start = start} begins before records image keeping =
+pub keeping_further : {recovers wider : List Record → List (List Record) → List ℕ → Type 0} {start : Start} {front all : List ℕ} {records : List Record} {image : List ℕ} → Begins front all
+    → (keeping : IsKeeping recovers start (bodies_of front) records image) → wider records keeping.pending image → IsKeeping wider start (bodies_of all) records image
+keeping_further {start = start} {records = records} begins keeping recovered =
     let grows = held_further start begins in
-    record {
-      pending = keeping.pending;
-      few = keeping.few;
-      more = grows.0 ++ keeping.more;
-      next = append_assoc grows.0 keeping.more (records_of keeping.pending ++ records) ∙ ap (λ (r : List Record). grows.0 ++ r) keeping.next ∙ grows.1;
-      recovered = before records keeping.pending image keeping.recovered;
-    }
+    let next = append_assoc grows.0 keeping.more (records_of keeping.pending ++ records) ∙ ap (λ (r : List Record). grows.0 ++ r) keeping.next ∙ grows.1 in
+    record { pending = keeping.pending; few = keeping.few; more = grows.0 ++ keeping.more; next = next; recovered = recovered }
 
 -- what some frames gave is recovered, and a prefix of what is expected for them was sent
 pub safe_of : (recovers : List Record → List ℕ → Type 0) (start : Start) (a b : List (List ℕ)) (image bytes since unsent : List ℕ) → recovers (held_after start a) image

@@ -62,7 +62,7 @@ module _ {holds : List Record → Outside → Type 0} {start : Start} {read : Li
       let more = added start serves.answered serves.judges.waits.waiting in
       let whole = sym (expected-more start serves.answered serves.judges.waits.waiting) ∙ ap (expected start) serves.judges.waits.whole in
       let sent = sym (append_assoc _ _ more) ∙ ap (λ (b : List ℕ). b ++ more) serves.pending_is.whole ∙ whole in
-      elim stop.either [
+      elim stop.adds [
         | inl before ↦ safe_held _ image bytes (at_rest (reverse batch) kept_is before) stop.sent
         | inr (inl during) ↦ safe_held _ image bytes
             (record { pending = batch ∷ []; few = omega arith; more = []; next = ap (λ (b : List Record). with_batch (held_after start serves.answered) b) (append-nil batch) ∙ kept_is; recovered = during }) stop.sent
@@ -74,14 +74,14 @@ module _ {holds : List Record → Outside → Type 0} {start : Start} {read : Li
       → ((image : List ℕ) → MayLeave now image → recovers (held_after start serves.answered) [] image) → Elapses now now (Leaves recovers start (bodies_of all))
   idles recovers {all} begins sent_now left =
       widened (nothing now sent_now) (Leaves recovers start (bodies_of all))
-      (λ image bytes stays. safe_further _ start begins _ (keeping_further begins (λ records pending at recovered. recovered)) image bytes (safe_held _ image bytes (at_rest _ kept_is (left image stays.was)) stays.sent))
+      (λ image bytes stays. safe_further _ start begins _ (λ records at keeping. keeping_further {recovers = recovers} begins keeping keeping.recovered) image bytes (safe_held _ image bytes (at_rest _ kept_is (left image stays.was)) stays.sent))
 
 -- a run, and then one that is safe for the first bytes
 pub runs_on : {recovers later : List Record → List (List Record) → List ℕ → Type 0} {start : Start} {front all : List ℕ} → Begins front all
     → ((records : List Record) (pending : List (List Record)) (image : List ℕ) → later records pending image → recovers records pending image)
     → {old mid new : Outside} → Elapses old mid (Leaves recovers start (bodies_of all)) → Elapses mid new (Leaves later start (bodies_of front)) → Elapses old new (Leaves recovers start (bodies_of all))
 runs_on {recovers} {later} {start} begins before first second =
-    goes_on first second (safe_further _ start begins _ (keeping_further begins before))
+    goes_on first second (safe_further _ start begins _ (λ records image keeping. keeping_further begins keeping (before records keeping.pending image keeping.recovered)))
 
 -- what is left alone by a keep, and by answers
 pub answers_writes : (touches : Outside → Outside → Type 0) {old new : Outside} → OnlyWrites old new → touches old new → OnlyAnswers touches old new

@@ -3,7 +3,8 @@ use Rattle.std.specs.Prelude.{◌≡◌, ◌⊎◌, ℕ, ◌+◌, ◌-◌, ◌*�
 use Rattle.host_core.specs.Outside.{Outside, Agrees, MayLeave, Continues}
 use Rattle.wire_in.specs.declared.record.Record.{Record}
 use Rattle.wire_in.specs.Cutting.{pending, bodies_of, rest_of}
-use Rattle.journal_core.specs.Layout.{records_of, with_batch}
+use Rattle.journal_core.specs.Layout.{records_of}
+use Rattle.journal_core.specs.Journal.{Adds}
 use Rattle.market_core.specs.MarketState.{most_messages}
 use Rattle.engine_core.specs.declared.engine.Engine.{Engine}
 use Rattle.engine_core.specs.declared.session.Session.{Session}
@@ -48,7 +49,7 @@ pub record IsReady (has_room : ℕ → Type 0) (session : Session) : Type 0 wher
 
 -- a keep leaves the records as they were, before the batch is kept or meanwhile, or with the batch, and sends nothing
 pub record Keeps (recovers : List Record → List (List Record) → List ℕ → Type 0) (records batch : List Record) (old : Outside) (image bytes : List ℕ) : Type 0 where
-  pub either : recovers records [] image ⊎ recovers records (batch ∷ []) image ⊎ recovers (with_batch records batch) [] image
+  pub adds : Adds (λ held pending. recovers held pending image) records batch
   pub sent : Agrees old.sent bytes
 
 -- The image recovers these records while one batch at most is being kept, whose records are the next that the frames of these

@@ -92,15 +92,22 @@ module _ (old new : JournalState) (batch : List Record) (gate : ℕ) (gates : ga
       keeps = λ disk known. let from = grown_to disk known in kept_with from.grows (rest.keeps from.before from.known);
     }
 
+-- and so it is by a wider test
+pub adds_by : {holds wider : List Record → List (List Record) → Type 0} {records batch : List Record} → ((held : List Record) (pending : List (List Record)) → holds held pending → wider held pending)
+    → Adds holds records batch → Adds wider records batch
+adds_by more (inl same) = inl (more _ _ same)
+adds_by more (inr (inl part)) = inr (inl (more _ _ part))
+adds_by more (inr (inr all)) = inr (inr (more _ _ all))
+
 -- what is held up to a gate is held
 some_gate : {capacity gate : ℕ} {records : List Record} (batch : List Record) {before image : List ℕ}
-    → Adds capacity gate records batch before image → Holds image capacity records ⊎ Holds image capacity (with_batch records batch)
+    → Adds (λ held pending. IsGrown capacity gate held pending before image) records batch → Holds image capacity records ⊎ Holds image capacity (with_batch records batch)
 some_gate batch (inl same) = inl (record { gate = same.next; held = same.holds })
 some_gate batch (inr (inl part)) = inl (record { gate = part.next; held = part.holds })
 some_gate batch (inr (inr more)) = inr (record { gate = more.next; held = more.holds })
 
 appends : {capacity gate : ℕ} {records batch : List Record} {old : Outside} {image bytes : List ℕ} (before : List ℕ) → MayLeave old before
-    → Adds capacity gate records batch before image → Agrees old.sent bytes → Appends capacity gate records batch old image bytes
+    → Adds (λ held pending. IsGrown capacity gate held pending before image) records batch → Agrees old.sent bytes → Appends capacity gate records batch old image bytes
 appends {batch = batch} before was grows sent = record { holds = some_gate batch grows; before = before; was = was; grown = grows; sent = sent }
 
 pub before_steps : (old : Outside) (capacity gate : ℕ) (records batch : List Record) → IsSettledAt capacity gate records old → (image bytes : List ℕ) → Stays old image bytes → Appends capacity gate records batch old image bytes
@@ -153,7 +160,7 @@ module _ (old : Outside) (capacity gate : ℕ) (records batch : List Record) (va
             torn_twice gate n (torn_within gate n (gate + 1) (length (body batch)) (omega arith) (omega (arith, le)) at_end.changed) (torn_within gate n gate 1 (omega arith) (omega (arith, le)) step.changed)
 
         by : HoldsTo capacity gate records image ⊎ HoldsTo capacity (gate + (length (frames_of batch) + 5)) (with_batch records batch) image
-            → Adds capacity gate records batch at_end.before image
+            → Adds (λ held pending. IsGrown capacity gate held pending at_end.before image) records batch
         by (inl holds) = inr (inl (record {
           next = gate;
           holds = holds;

@@ -48,10 +48,9 @@ pub record Grown (gate next : ℕ) (batch : List Record) (old : Option (List ℕ
   pub known : old ≡ Some before
   pub grows : (capacity : ℕ) (records : List Record) → HoldsTo capacity gate records before → HoldsTo capacity next (with_batch records batch) disk
 
--- An image while a batch is added to an old file: nothing of the batch was written, or some of its bytes, or all of it.
-abbrev pub Adds : (capacity gate : ℕ) (records batch : List Record) (old image : List ℕ) → Type 0
-Adds capacity gate records batch old image =
-    IsGrown capacity gate records [] old image ⊎ IsGrown capacity gate records (batch ∷ []) old image ⊎ IsGrown capacity gate (with_batch records batch) [] old image
+-- These records are held, and no batch is being added, or this one is, or it was added.
+abbrev pub Adds : (holds : List Record → List (List Record) → Type 0) (records batch : List Record) → Type 0
+Adds holds records batch = holds records [] ⊎ holds records (batch ∷ []) ⊎ holds (with_batch records batch) []
 
 -- A stop leaves the records as they were or with the batch, in an image that differs from one before in the place of the batch
 -- alone, and nothing more was sent.
@@ -59,5 +58,5 @@ pub record Appends (capacity gate : ℕ) (records batch : List Record) (old : Ou
   pub holds : Holds image capacity records ⊎ Holds image capacity (with_batch records batch)
   pub before : List ℕ
   pub was : MayLeave old before
-  pub grown : Adds capacity gate records batch before image
+  pub grown : Adds (λ held pending. IsGrown capacity gate held pending before image) records batch
   pub sent : Agrees old.sent bytes

@@ -1,5 +1,5 @@
 -- An append by its keeper, and what a stop of it leaves.
-use Rattle.std.proofs.Common.{◌≡◌, inl, inr, ℕ, ◌+◌, List, length, sym, subst, ◌∙◌, arith}
+use Rattle.std.proofs.Common.{◌≡◌, ℕ, ◌+◌, List, length, sym, subst, ◌∙◌, arith}
 use Rattle.std.specs.Prelude.{Some, option_map}
 use Rattle.host_core.proofs.Moments.{widened}
 use Rattle.host_core.specs.Outside.{Outside, Elapses, MayLeave, IsSettled, written}
@@ -9,19 +9,14 @@ use Rattle.journal_core.specs.Layout.{frames_of, stored_batch}
 use Rattle.journal_core.specs.Journal.{JournalState, HasBytes, Appends}
 use Rattle.journal_core.specs.Extended.{IsGrown}
 use Rattle.journal_core.proofs.Extending.{grown_behind}
+use Rattle.journal_core.proofs.Appended.{adds_by}
 use Rattle.engine_core.specs.Serving.{Keeps}
 use Rattle.live_core.specs.InternalKeeping.{Regains}
 
 pub kept_by : (journal : JournalState) {records batch : List Record} {old new : Outside} → Elapses old new (Appends journal.capacity journal.gate records batch old)
     → Elapses old new (Keeps (λ r p i. Regains journal old r p i) records batch old)
-kept_by journal run = widened run _ (λ image bytes stop. record {
-  either = elim stop.grown [
-    | inl same ↦ inl (record { before = stop.before; was = stop.was; grown = same })
-    | inr (inl part) ↦ inr (inl (record { before = stop.before; was = stop.was; grown = part }))
-    | inr (inr more) ↦ inr (inr (record { before = stop.before; was = stop.was; grown = more }))
-  ];
-  sent = stop.sent;
-})
+kept_by journal {old = old} run =
+    widened run _ (λ image bytes stop. record { adds = adds_by {wider = λ r p. Regains journal old r p image} (λ held pending grown. record { before = stop.before; was = stop.was; grown = grown }) stop.grown; sent = stop.sent })
 
 -- what grew from the image after an append grew from the one before it
 pub regained_on : (old new : Outside) (before after : JournalState) (batch : List Record) → after.capacity ≡ before.capacity → after.gate ≡ before.gate + (length (frames_of batch) + 5)

@@ -24,7 +24,7 @@ use Rattle.engine_core.specs.Serving.{Reads, Leaves}
 use Rattle.engine_core.specs.Sessions as engine
 use Rattle.engine_core.specs.Sessions.{Prompt, expected}
 use Rattle.engine_core.proofs.Asking.{no_ask, more_asks}
-use Rattle.engine_core.proofs.Expecting.{safe_of, safe_more, safe_further, added, expected-more}
+use Rattle.engine_core.proofs.Expecting.{Begins as BeginsBytes, keeping_further, safe_of, safe_more, safe_further, added, expected-more}
 use Rattle.engine_core.proofs.Pending.{prefix_sent}
 use Rattle.engine_core.proofs.Taken.{takes_none, takes_between}
 use Rattle.engine_core.proofs.Unwritten.{still_nothing}
@@ -202,10 +202,13 @@ module _ (here : Type 0) (from : Option ℕ) (most : ℕ) (status : Status) (old
       reads : Reads (IsAtRest serving.keeper.journal) (start_of begin) input 0 serving.session mid
       reads = r.reads begin input same begins
 
+      whole : BeginsBytes (take most input) (take most input)
+      whole = record { more = []; whole = append-nil (take most input) }
+
       run : Elapses mid new (IsSafe begin (bodies_of (take most input)))
       run =
           widened (a.grows (start_of begin) input refl reads) _
-          (safe_further _ (start_of begin) {front = take most input} {all = take most input} (record { more = []; whole = append-nil (take most input) }) (λ records image. Holds image begin.capacity records)
+          (safe_further _ (start_of begin) whole (λ records image. Holds image begin.capacity records)
           (λ records image k. subst (λ c. Holds image c records) (r.capacity begin input same begins) (record { gate = k.recovered.grown.next; held = k.recovered.grown.holds })))
 
       -- the last stop shows what capacity the journal has
@@ -223,21 +226,15 @@ module _ (here : Type 0) (from : Option ℕ) (most : ℕ) (status : Status) (old
       has_grown {image} safe =
           let k = safe.recovered in
           let g = k.recovered in
-          let rest = held_all reads r.empty in
           record {
             before = g.before;
             was = ended (r.nothing begin input same begins).moments g.was;
             gate = serving.keeper.journal.gate;
-            held = subst (λ c. HoldsTo c serving.keeper.journal.gate begin.held g.before) (r.capacity begin input same begins) (rest.keeps g.before (rest.settled.only g.before g.was)).held;
+            held = subst (λ c. HoldsTo c serving.keeper.journal.gate begin.held g.before) (r.capacity begin input same begins) ((held_all reads r.empty).keeps g.before ((held_all reads r.empty).settled.only g.before g.was)).held;
             count = safe.count;
             within = safe.within;
-            grown = record {
-              pending = k.pending;
-              few = k.few;
-              more = k.more;
-              next = k.next;
-              recovered = subst (λ c. IsGrown c serving.keeper.journal.gate (engine.held_after (start_of begin) (take safe.count (bodies_of (take most input)))) k.pending g.before image) (r.capacity begin input same begins) g.grown;
-            };
+            grown = keeping_further whole k (subst (λ c. IsGrown c serving.keeper.journal.gate (engine.held_after (start_of begin) (take safe.count (bodies_of (take most input)))) k.pending g.before image)
+                (r.capacity begin input same begins) g.grown);
           }
 
       all_answered : (count : ℕ) → engine.Answered (IsAtRest journal) (start_of begin) input count new → Answered begin input count new

@@ -6,7 +6,7 @@ use Rattle.engine_core.proofs.session.keep_round.Goals as goal
 pub returns-then-is_empty-clause-moments : goal.returns-then-is_empty-clause-moments
 returns-then-is_empty-clause-moments g c = λ records holds.
     widened (nothing (g.H.Host.outside c.args.host.now) (g.met.H.Host.sent_now c.args.host.now)) _
-    (λ image bytes stays. record { either = inl (g.K.Keeper.recovers_now c.args.keeper.now records _ image holds stays.was); sent = stays.sent })
+    (λ image bytes stays. record { adds = inl (g.K.Keeper.recovers_now c.args.keeper.now records _ image holds stays.was); sent = stays.sent })
 
 pub returns-then-is_empty-clause-nothing : goal.returns-then-is_empty-clause-nothing
 returns-then-is_empty-clause-nothing g c = λ none. idle (g.H.Host.outside c.args.host.now) (g.met.H.Host.sent_now c.args.host.now)
