@@ -1,0 +1,12 @@
+use Rattle.std.proofs.Common.{◌∙◌}
+use Rattle.host_core.proofs.Moments.{widened}
+use Rattle.stream_core.proofs.Sending.{sends_prefix}
+use Rattle.stream_core.proofs.outbox.Outbox.flush.Goals as goal
+
+pub returns-in_err-map_err-clause-moments : goal.returns-in_err-map_err-clause-moments
+returns-in_err-map_err-clause-moments g c = λ begin text expects.
+    widened c.send_all.ensures.moments _ (sends_prefix begin (g.H.Host.outside c.args.host.now) _ _ text expects (c.deref.ensures.value ∙ c.self.view_is))
+
+pub returns-clause-moments : goal.returns-clause-moments
+returns-clause-moments g c = λ begin text expects.
+    widened c.send_all.ensures.moments _ (sends_prefix begin (g.H.Host.outside c.args.host.now) _ _ text expects (c.deref.ensures.value ∙ c.self.view_is))
