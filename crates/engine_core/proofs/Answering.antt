@@ -7,14 +7,14 @@ use Rattle.wire_in.specs.declared.record.Record.{Record}
 use Rattle.rulebook.specs.Sent.{spelled, reply, judged, with_record}
 use Rattle.market_core.specs.MarketState.{most_messages}
 use Rattle.engine_core.specs.declared.engine.Engine.{Engine}
-use Rattle.engine_core.specs.Pending.{Expects, SendsPrefix}
+use Rattle.stream_core.specs.Pending.{Expects, SendsPrefix}
 use Rattle.engine_core.specs.EngineState.{Represents, IsRoomy}
 use Rattle.engine_core.specs.Rounds.{Outcome, outcomes_of, records_in, IsAdmissible}
 use Rattle.engine_core.specs.Sessions.{Start, held_after, expected, with_acknowledgements, Starved}
 use Rattle.engine_core.specs.Answering.{Waits, Answers, IsShort}
 use Rattle.engine_core.specs.Serving.{IsSound}
-use Rattle.engine_core.proofs.Pending.{expects_same}
-use Rattle.engine_core.proofs.Sending.{sends_on}
+use Rattle.stream_core.proofs.Pending.{expects_same}
+use Rattle.stream_core.proofs.Sending.{sends_on}
 use Rattle.engine_core.proofs.Rounds.{outcomes-append, judged_first, no_outcome, admissible_judged, records-append, few_records}
 use Rattle.engine_core.proofs.Expecting.{added, expected-more, expected-one, held-more, held-one}
 

@@ -1,26 +1,30 @@
 -- The reads of a session, and of its next polls.
-use Rattle.std.proofs.Common.{◌≡◌, ℕ, ◌≤◌, List, [], ◌∷◌, ◌++◌, length, take, drop, refl, sym, ap, ◌∙◌, append_assoc}
-use Rattle.std.specs.Prelude.{Option, Some, option_map}
-use Rattle.std.specs.Io.KnownBytes.{append_known}
+use Rattle.std.proofs.Common.{◌≡◌, ℕ, List, [], ◌∷◌, ◌++◌, refl, sym, ap, ◌∙◌, append_assoc}
+use Rattle.std.specs.Prelude.{Option, Some}
 use Rattle.std.proofs.lemmas.List.{append-nil}
-use Rattle.host_core.specs.Outside.{Outside, Ask, Asks}
+use Rattle.host_core.specs.Outside.{Ask}
 use Rattle.wire_in.specs.Cutting.{bodies_of}
+use Rattle.stream_core.specs.Asking as asking
 use Rattle.engine_core.specs.Sessions.{Start, expected, AllAnswered, Prompt}
 
 -- nothing was read
 pub no_ask : (start : Start) (input : List ℕ) {old new : Option (List Ask)} → new ≡ old → Prompt start input old new
 no_ask start input same before sent known exposed = ([], same ∙ known ∙ ap Some (sym (append-nil before)), tt)
 
--- one read, which began when all was answered
-pub one_ask : (start : Start) (input : List ℕ) (count : ℕ) (mid new : Outside) {old : Option (List Ask)} → mid.asks ≡ old → mid.input ≡ Some (drop count input) → count ≤ length input
-    → mid.sent ≡ append_known start.sent (expected start (bodies_of (take count input))) → Asks mid new → Prompt start input old new.asks
-one_ask start input count mid new same left there all asks before sent known exposed =
-    let text = expected start (bodies_of (take count input)) in
-    let now : append_known start.sent text ≡ Some (sent ++ text) = ap (λ (begin : Option (List ℕ)). append_known begin text) exposed in (
-      record { left = drop count input; sent = sent ++ text } ∷ [],
-      asks (drop count input) (sent ++ text) left (all ∙ now) ∙ ap (option_map (λ (l : List Ask). l ++ record { left = drop count input; sent = sent ++ text } ∷ [])) (same ∙ known),
-      (record { count = count; within = there; left_is = refl; sent_is = sym now }, tt),
-    )
+-- what is expected for the whole frames of these bytes
+abbrev pub answers_to : Start → List ℕ → List ℕ
+answers_to start read = expected start (bodies_of read)
+
+answered : (start : Start) (input : List ℕ) (asks : List Ask) → asking.AllPrompt (answers_to start) start.sent input asks → AllAnswered start input asks
+answered start input [] prompt = tt
+answered start input (ask ∷ asks) prompt =
+    (record { count = prompt.0.count; within = prompt.0.within; left_is = prompt.0.left_is; sent_is = prompt.0.sent_is }, answered start input asks prompt.1)
+
+-- reads that began when the text of all that was read had been sent
+pub prompt_of : (start : Start) (input : List ℕ) {old new : Option (List Ask)} → asking.Prompt (answers_to start) start.sent input old new → Prompt start input old new
+prompt_of start input prompt before sent known exposed =
+    let asks = prompt before sent known exposed in
+    (asks.0, asks.1, answered start input asks.0 asks.2)
 
 both : (start : Start) (input : List ℕ) (xs ys : List Ask) → AllAnswered start input xs → AllAnswered start input ys → AllAnswered start input (xs ++ ys)
 both start input [] ys first second = second

@@ -6,11 +6,11 @@ use Rattle.wire_in.specs.declared.record.Record.{Record}
 use Rattle.wire_in.specs.Cutting.{pending}
 use Rattle.engine_core.specs.declared.session.Session.{Session}
 use Rattle.engine_core.specs.EngineState.{Represents}
-use Rattle.engine_core.specs.Pending.{Expects}
+use Rattle.stream_core.specs.Pending.{Expects}
 use Rattle.engine_core.specs.Sessions.{Start}
 use Rattle.engine_core.specs.Serving.{Reads}
 use Rattle.engine_core.proofs.Expecting.{expected-none}
-use Rattle.engine_core.proofs.Pending.{expects_same}
+use Rattle.stream_core.proofs.Pending.{expects_same}
 
 -- it has the records of its start, and what is sent before the first answer waits or was sent
 pub begins : (holds : List Record → Outside → Type 0) (start : Start) (input : List ℕ) (session : Session) (now : Outside)

@@ -8,7 +8,7 @@ use Rattle.host_core.specs.declared.status.Status.TheVariants.{Done, Truncated, 
 use Rattle.host_core.specs.Outside.{Outside}
 use Rattle.wire_in.specs.declared.record.Record.{Record}
 use Rattle.wire_in.specs.Cutting.{rest_of}
-use Rattle.engine_core.specs.Ends.{end_of}
+use Rattle.stream_core.specs.Ends.{end_of}
 use Rattle.engine_core.specs.Sessions.{Start, Answered}
 
 -- the input was read to its end, or the most bytes were read

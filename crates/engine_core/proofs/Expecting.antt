@@ -12,12 +12,12 @@ use Rattle.wire_out.specs.declared.message.Frame.{Frame}
 use Rattle.rulebook.specs.Sent.{spelled, replies, reply, judged, with_record, accepted_of}
 use Rattle.rulebook.proofs.Sending.{spelled-append, replies-append, accepted_of-append, unacknowledged-append}
 use Rattle.journal_core.specs.Layout.{records_of}
-use Rattle.engine_core.specs.Pending.{SendsPrefix}
+use Rattle.stream_core.specs.Pending.{SendsPrefix}
 use Rattle.engine_core.specs.Sessions.{Start, held_after, expected, with_acknowledgements, IsSafe, Starved}
 use Rattle.engine_core.specs.Rounds.{outcomes_of, records_in}
 use Rattle.engine_core.specs.Serving.{IsKeeping}
 use Rattle.engine_core.proofs.Rounds.{batch_of}
-use Rattle.engine_core.proofs.Sending.{prefix_of_longer}
+use Rattle.stream_core.proofs.Sending.{prefix_of_longer}
 
 with_acknowledgements-append : (acknowledges : Bool) (a b : List Frame) → with_acknowledgements acknowledges (a ++ b) ≡ with_acknowledgements acknowledges a ++ with_acknowledgements acknowledges b
 with_acknowledgements-append true a b = refl

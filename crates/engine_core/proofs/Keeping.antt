@@ -9,12 +9,12 @@ use Rattle.wire_in.specs.declared.record.Record.{Record}
 use Rattle.wire_in.specs.Cutting.{pending, bodies_of}
 use Rattle.journal_core.specs.Layout.{with_batch}
 use Rattle.engine_core.specs.declared.session.Session.{Session}
-use Rattle.engine_core.specs.Pending.{Expects}
+use Rattle.stream_core.specs.Pending.{Expects}
 use Rattle.engine_core.specs.Rounds.{records_in}
 use Rattle.engine_core.specs.Sessions.{Start, held_after, expected, IsSafe}
 use Rattle.engine_core.specs.Answering.{Answers}
 use Rattle.engine_core.specs.Serving.{Judges, Serves, IsKeeping, Keeps, Leaves, OnlyAnswers}
-use Rattle.engine_core.proofs.Pending.{expects_still}
+use Rattle.stream_core.proofs.Pending.{expects_still}
 use Rattle.engine_core.proofs.Rounds.{batch_of}
 use Rattle.engine_core.proofs.Answering.{none_waits}
 use Rattle.engine_core.proofs.Expecting.{added, expected-more, held-more, Begins, at_rest, keeping_further, safe_of, safe_further}

@@ -1,7 +1,4 @@
-pub mod Pending
-pub mod Sending
 pub mod Messages
-pub mod Taken
 pub mod Rounds
 pub mod Expecting
 pub mod Answering

@@ -11,33 +11,14 @@ use Rattle.host_core.proofs.Chains.{stays_left}
 use Rattle.wire_in.specs.declared.record.Record.{Record}
 use Rattle.wire_in.specs.Cutting.{bodies_of}
 use Rattle.engine_core.specs.declared.session.Session.{Session}
-use Rattle.engine_core.specs.Pending.{Expects, SendsPrefix}
+use Rattle.stream_core.specs.Pending.{Expects, SendsPrefix}
 use Rattle.engine_core.specs.Sessions.{Start, held_after, expected, Answered, Prompt}
 use Rattle.engine_core.specs.Unwritten.{WritesNothing, AcceptsNone}
-use Rattle.engine_core.specs.Serving.{Serves, Reads, Leaves, TakesPiece, OnlyExchanges}
-use Rattle.engine_core.proofs.Pending.{expects_nothing}
+use Rattle.engine_core.specs.Serving.{Serves, Reads, Leaves}
+use Rattle.stream_core.specs.Taking.{TakesPiece, OnlyExchanges}
+use Rattle.stream_core.proofs.Pending.{expects_nothing}
 use Rattle.engine_core.proofs.Answering.{none_waits}
 use Rattle.engine_core.proofs.Expecting.{Begins, at_rest, safe_sends}
-
--- the bytes that were read stand at the front of the whole buffer
-pub takes_piece : (old mid new : Option (List ℕ)) (buffer : List ℕ) (most n : ℕ) → mid ≡ old → Takes mid new (take most buffer) n → TakesPiece most old new buffer n
-takes_piece old mid new buffer most n same takes = record {
-  within = omega (arith, takes.bound, length-take most buffer);
-  left = takes.left ∙ ap (option_map (λ (input : List ℕ). drop n input)) same;
-  given = λ input known.
-      ap (take n) (sym (take-append-drop most buffer)) ∙ take-append-le n (take most buffer) (drop most buffer) takes.bound ∙ takes.given input (same ∙ known);
-  there = λ input known. takes.there input (same ∙ known);
-  end = λ input known none. inl (takes.end input (same ∙ known) none);
-}
-
--- what is sent, and then a piece that is read
-pub exchanges_on : {old mid new : Outside} → OnlySends old mid → OnlyReadsInput mid new → OnlyExchanges old new
-exchanges_on first second = record {
-  disk = second.disk ∙ first.disk;
-  left = λ image left. first.left image (stays_left second.moments image left);
-  disk_faults = second.disk_faults ∙ first.disk_faults;
-  continues = further first.continues second.continues;
-}
 
 -- the first bytes of the input, and more of them
 pub up_to : (n m : ℕ) (input : List ℕ) → n ≤ m → Begins (take n input) (take m input)

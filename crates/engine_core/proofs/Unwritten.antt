@@ -9,7 +9,7 @@ use Rattle.wire_in.specs.Cutting.{bodies_of, rest_of}
 use Rattle.wire_in.proofs.Cuts.{bodies_of-append}
 use Rattle.rulebook.specs.Sent.{judged, with_record, accepted_of}
 use Rattle.engine_core.specs.declared.session.Session.{Session}
-use Rattle.engine_core.specs.Pending.{SendsPrefix}
+use Rattle.stream_core.specs.Pending.{SendsPrefix}
 use Rattle.engine_core.specs.Rounds.{Outcome, records_in}
 use Rattle.engine_core.specs.Sessions.{Start, held_after}
 use Rattle.engine_core.specs.Serving.{Serves}

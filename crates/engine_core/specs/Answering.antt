@@ -4,7 +4,7 @@ use Rattle.std.specs.Io.KnownBytes.{append_known}
 use Rattle.wire_in.specs.declared.record.Record.{Record}
 use Rattle.market_core.specs.Kinds.{TakesMemory}
 use Rattle.engine_core.specs.declared.engine.Engine.{Engine}
-use Rattle.engine_core.specs.Pending.{Expects}
+use Rattle.stream_core.specs.Pending.{Expects}
 use Rattle.engine_core.specs.EngineState.{Represents}
 use Rattle.engine_core.specs.Rounds.{Outcome, outcomes_of}
 use Rattle.engine_core.specs.Sessions.{Start, held_after, expected}

@@ -1,4 +1,3 @@
-pub mod Pending
 pub mod EngineState
 pub mod Rounds
 pub mod Sessions

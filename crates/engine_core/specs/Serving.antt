@@ -10,7 +10,7 @@ use Rattle.engine_core.specs.declared.engine.Engine.{Engine}
 use Rattle.engine_core.specs.declared.session.Session.{Session}
 use Rattle.engine_core.specs.Answering.{Waits}
 use Rattle.engine_core.specs.EngineState.{IsRoomy}
-use Rattle.engine_core.specs.Pending.{Expects}
+use Rattle.stream_core.specs.Pending.{Expects}
 use Rattle.engine_core.specs.Rounds.{Outcome, records_in}
 use Rattle.engine_core.specs.Sessions.{Start, IsSafe, held_after, expected}
 
@@ -72,18 +72,3 @@ pub record OnlyAnswers (touches : Outside → Outside → Type 0) (old new : Out
   pub read_faults : new.read_faults ≡ old.read_faults
   pub continues : Continues old new
   pub to_disk : touches old new
-
--- at most so many bytes were taken from the front of the input, none only at its end or where none may be
-pub record TakesPiece (most : ℕ) (old new : Option (List ℕ)) (into : List ℕ) (n : ℕ) : Type 0 where
-  pub within : n ≤ most
-  pub left : new ≡ option_map (λ input. drop n input) old
-  pub given : (input : List ℕ) → old ≡ Some input → take n into ≡ take n input
-  pub there : (input : List ℕ) → old ≡ Some input → n ≤ length input
-  pub end : (input : List ℕ) → old ≡ Some input → n ≡ 0 → (input ≡ []) ⊎ (most ≡ 0)
-
--- bytes are sent and the input is read, and the disk is left alone
-pub record OnlyExchanges (old new : Outside) : Type 0 where
-  pub disk : new.disk ≡ old.disk
-  pub left : (image : List ℕ) → MayLeave new image → MayLeave old image
-  pub disk_faults : new.disk_faults ≡ old.disk_faults
-  pub continues : Continues old new

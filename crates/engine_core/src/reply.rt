@@ -10,16 +10,16 @@ ghost use Rattle.rulebook.specs.Admission.{verdict};
 ghost use Rattle.rulebook.specs.Sent.{spelled, numbered, refused, accepted, reply, with_record};
 ghost use Rattle.rulebook.specs.Book.{messages_of, newest_messages};
 ghost use Rattle.market_core.specs.MarketState.{most_messages};
-ghost use Rattle.engine_core.specs.Pending.{Expects, SendsPrefix};
+ghost use Rattle.stream_core.specs.Pending.{Expects, SendsPrefix};
 ghost use Rattle.engine_core.specs.EngineState.{Represents, IsRoomy};
 ghost use Rattle.engine_core.specs.Answering.{IsShort};
 ghost use Rattle.engine_core.specs.Rounds.{IsAdmissible, records_in};
 ghost use Rattle.engine_core.specs.Sessions.{with_acknowledgements};
 
 use crate::engine::Engine;
-use crate::outbox::Outbox;
 use crate::round::Outcome;
 use host_core::{Fault, Host};
+use stream_core::Outbox;
 use wire_in::{Record, Refusal};
 use wire_out::{Frame, Stamped};
 

@@ -11,7 +11,7 @@ ghost use Rattle.wire_in.specs.Cutting.{bodies_of, rest_of, is_frame};
 ghost use Rattle.journal_core.specs.Layout.{with_batch};
 ghost use Rattle.rulebook.specs.Sent.{with_record};
 ghost use Rattle.market_core.specs.AdmissionState.{refusal_of};
-ghost use Rattle.engine_core.specs.Pending.{SendsPrefix};
+ghost use Rattle.stream_core.specs.Pending.{SendsPrefix};
 ghost use Rattle.engine_core.specs.EngineState.{Represents};
 ghost use Rattle.engine_core.specs.Rounds.{Outcome, records_in};
 ghost use Rattle.engine_core.specs.Sessions.{Start, Starved, expected};
@@ -21,11 +21,11 @@ ghost use Rattle.engine_core.specs.Serving.{Serves, IsSound, IsReady, Keeps, Lea
 
 use crate::engine::{Engine, judge};
 use crate::keeper::Keeper;
-use crate::outbox::Outbox;
 use crate::reply::answer;
 use crate::round::{Outcome, Round};
 use host_core::{Fault, Host};
 use journal_core::BATCH_MAX;
+use stream_core::Outbox;
 use wire_in::Cutter;
 
 /// What is kept from piece to piece: the frame begun, the accepted records' engine, the frames that were judged and wait to

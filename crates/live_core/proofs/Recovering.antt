@@ -29,9 +29,9 @@ use Rattle.wire_out.specs.Spelling.{spelling}
 use Rattle.rulebook.specs.Sent.{hello, spelled}
 use Rattle.market_core.specs.AdmissionState as admission
 use Rattle.market_core.specs.Kinds.{TakesMemory}
-use Rattle.engine_core.specs.Pending.{Expects, SendsPrefix}
-use Rattle.engine_core.proofs.Pending.{expects_still}
-use Rattle.engine_core.proofs.Sending.{waits, sends_none, sends_on, sends_longer}
+use Rattle.stream_core.specs.Pending.{Expects, SendsPrefix}
+use Rattle.stream_core.proofs.Pending.{expects_still}
+use Rattle.stream_core.proofs.Sending.{waits, sends_none, sends_on, sends_longer}
 use Rattle.engine_core.specs.declared.engine.Engine.{Engine}
 use Rattle.engine_core.specs.EngineState.{Represents}
 use Rattle.live_core.specs.declared.recovery.Recovery.{Recovery}

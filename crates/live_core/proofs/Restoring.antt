@@ -13,12 +13,12 @@ use Rattle.journal_core.specs.Journal.{IsAtRest}
 use Rattle.journal_core.specs.Scan.{HasRead, HasNoHeader}
 use Rattle.journal_core.proofs.Readable.{readable, read_holds}
 use Rattle.rulebook.specs.Sent.{hello}
-use Rattle.engine_core.specs.Pending.{SendsPrefix}
+use Rattle.stream_core.specs.Pending.{SendsPrefix}
 use Rattle.engine_core.specs.Sessions.{expected}
 use Rattle.engine_core.specs.Serving.{Reads}
-use Rattle.engine_core.proofs.Pending.{sends_none}
+use Rattle.stream_core.proofs.Pending.{sends_none}
 use Rattle.engine_core.proofs.Expecting.{expected-none, safe_sends}
-use Rattle.engine_core.proofs.Sending.{prefix_of_longer}
+use Rattle.stream_core.proofs.Sending.{prefix_of_longer}
 use Rattle.engine_core.proofs.Beginning as engine
 use Rattle.engine_core.specs.Unwritten.{WritesNothing}
 use Rattle.engine_core.proofs.Unwritten.{sending, still_nothing}

@@ -18,15 +18,16 @@ use Rattle.journal_core.specs.Scan.{HasNoHeader}
 use Rattle.journal_core.proofs.OneList.{alone}
 use Rattle.journal_core.proofs.Readable.{readable}
 use Rattle.engine_core.specs.declared.session.Session.{Session}
-use Rattle.engine_core.specs.Ends.{ReadsAtMost, Told}
-use Rattle.engine_core.specs.Pending.{SendsPrefix, SentPrefix}
+use Rattle.stream_core.specs.Taking.{ReadsAtMost}
+use Rattle.engine_core.specs.Ends.{Told}
+use Rattle.stream_core.specs.Pending.{SendsPrefix, SentPrefix}
 use Rattle.engine_core.specs.Serving.{Reads, Leaves}
-use Rattle.engine_core.specs.Sessions as engine
 use Rattle.engine_core.specs.Sessions.{Prompt, expected}
 use Rattle.engine_core.proofs.Asking.{no_ask, more_asks}
 use Rattle.engine_core.proofs.Expecting.{Begins as BeginsBytes, keeping_further, safe_of, safe_more, safe_further, added, expected-more}
-use Rattle.engine_core.proofs.Pending.{prefix_sent}
-use Rattle.engine_core.proofs.Taken.{takes_none, takes_between}
+use Rattle.stream_core.proofs.Pending.{prefix_sent}
+use Rattle.stream_core.proofs.Taken.{takes_none, takes_between}
+use Rattle.engine_core.specs.Sessions as engine
 use Rattle.engine_core.proofs.Unwritten.{still_nothing}
 use Rattle.journal_core.proofs.Extending.{extends_same, extends_on}
 use Rattle.live_core.specs.declared.recovery.Serving.{Serving}

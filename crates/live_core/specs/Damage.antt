@@ -6,7 +6,7 @@ use Rattle.journal_core.specs.Layout.{LeadsTo, records_of, with_batch}
 use Rattle.journal_core.specs.AtGate.{IsDamaged}
 use Rattle.rulebook.specs.Admission.{verdict, IsLawful}
 use Rattle.rulebook.specs.Sent.{sent_again, spelled}
-use Rattle.engine_core.specs.Pending.{SentPrefix}
+use Rattle.stream_core.specs.Pending.{SentPrefix}
 
 -- behind these batches, which have the records, stands neither a closed gate nor a batch
 pub record HasBadForm (batches : List (List Record)) (before : List Record) (rest : List ℕ) : Type 0 where

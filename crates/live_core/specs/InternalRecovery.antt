@@ -11,7 +11,7 @@ use Rattle.wire_out.specs.Spelling.{spelling}
 use Rattle.rulebook.specs.Sent.{hello, sent_again, spelled}
 use Rattle.engine_core.specs.declared.engine.Engine.{Engine}
 use Rattle.engine_core.specs.EngineState.{Represents, IsRoomy}
-use Rattle.engine_core.specs.Pending.{Expects, SendsPrefix}
+use Rattle.stream_core.specs.Pending.{Expects, SendsPrefix}
 use Rattle.live_core.specs.Damage.{IsDamagedAt}
 use Rattle.live_core.specs.Starved.{StarvedAtRecord}
 use Rattle.live_core.specs.declared.recovery.Recovery.{Recovery}

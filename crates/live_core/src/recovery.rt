@@ -12,15 +12,16 @@ ghost use Rattle.wire_out.specs.Spelling.{spelling};
 ghost use Rattle.market_core.specs.AdmissionState.{refusal_of};
 ghost use Rattle.market_core.specs.Kinds.{TakesMemory};
 ghost use Rattle.engine_core.specs.EngineState as engines;
-ghost use Rattle.engine_core.specs.Pending.{Expects, SendsPrefix};
+ghost use Rattle.stream_core.specs.Pending.{Expects, SendsPrefix};
 ghost use Rattle.live_core.specs.InternalServing.{IsRestored, IsUnread};
 ghost use Rattle.live_core.specs.InternalRecovery.{again, IsSmall, Resumes};
 
 use crate::keeper::JournalKeeper;
-use engine_core::{Engine, Outbox, Round, Session, append_messages, evaluate};
+use engine_core::{Engine, Round, Session, append_messages, evaluate};
 use host_core::{Fault, Host, Status};
 use journal_core::{Batch, Scan};
 use std::alloc::Global;
+use stream_core::Outbox;
 use wire_in::Record;
 use wire_out::{Frame, Stamped};
 

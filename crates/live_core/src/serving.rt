@@ -7,12 +7,13 @@ ghost use Rattle.live_core.specs.InternalKeeping.{HasRoom};
 ghost use Rattle.live_core.specs.InternalServing.{IsAnswered};
 
 use crate::recovery::{Serving, restore};
-use engine_core::{Outbox, PIECE, Round, answer_of, serve_input};
+use engine_core::{Round, serve_input};
 use host_core::{Host, Status};
 use journal_core::Batch;
 use price_core::NoMemory;
 use std::alloc::Global;
 use std::thread::Threads;
+use stream_core::{Outbox, PIECE, answer_of};
 
 /// The most bytes that one session reads.
 const BYTES_MAX: u64 = 1_099_511_627_776;

@@ -11,12 +11,14 @@ use Rattle.host_core.proofs.Known.{append_known-nil}
 use Rattle.host_core.proofs.Moments.{widened, ended}
 use Rattle.wire_in.specs.Cutting.{bodies_of}
 use Rattle.engine_core.specs.declared.session.Session.{Session}
-use Rattle.engine_core.specs.Ends.{IsEnd, ReadsAtMost, Told, answer_of, end_of}
-use Rattle.engine_core.specs.Pending.{SendsPrefix, SentPrefix}
+use Rattle.stream_core.specs.Ends.{answer_of, end_of}
+use Rattle.stream_core.specs.Taking.{ReadsAtMost}
+use Rattle.engine_core.specs.Ends.{IsEnd, Told}
+use Rattle.stream_core.specs.Pending.{SendsPrefix, SentPrefix}
 use Rattle.engine_core.specs.Sessions as engine
 use Rattle.engine_core.specs.Sessions.{expected, Prompt, Starved}
 use Rattle.engine_core.specs.Serving.{Reads, Leaves}
-use Rattle.engine_core.proofs.Pending.{expects_nothing, prefix_sent}
+use Rattle.stream_core.proofs.Pending.{expects_nothing, prefix_sent}
 use Rattle.engine_core.proofs.Expecting.{safe_prefix}
 use Rattle.engine_core.proofs.Beginning.{begins}
 use Rattle.engine_core.proofs.Statuses.{at_an_end, at_a_read, at_no_memory, told_of}

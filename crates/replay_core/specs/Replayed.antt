@@ -5,8 +5,10 @@ use Rattle.host_core.specs.declared.status.Status.{Status}
 use Rattle.host_core.specs.declared.status.Status.TheVariants.{Usage, ReadFault, SendFault, DiskFault, Damaged, NoJournal, NoMemory, BadText}
 use Rattle.host_core.specs.Outside.{Outside, Elapses, Rose, NoFault, Continues}
 use Rattle.wire_in.specs.Cutting.{bodies_of}
-use Rattle.engine_core.specs.Ends.{IsEnd, ReadsAtMost, end_of}
-use Rattle.engine_core.specs.Pending.{SendsPrefix, SentPrefix}
+use Rattle.stream_core.specs.Ends.{end_of}
+use Rattle.stream_core.specs.Taking.{ReadsAtMost}
+use Rattle.engine_core.specs.Ends.{IsEnd}
+use Rattle.stream_core.specs.Pending.{SendsPrefix, SentPrefix}
 use Rattle.engine_core.specs.Sessions.{Start, Prompt, Starved, expected}
 
 -- more records than any input has: a replay has no capacity of its own

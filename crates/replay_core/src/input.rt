@@ -3,19 +3,22 @@
 ghost use Rattle.std.specs.Prelude.{◌≡◌, ◌≢◌, ◌⊎◌, ◌<◌, ◌≤◌, ℕ, List, Some, IfOk, Err, length, min, take};
 ghost use Rattle.host_core.specs.Outside.{Elapses, Continues};
 ghost use Rattle.host_core.specs.Faults.{Causes};
-ghost use Rattle.engine_core.specs.Pending.{SendsPrefix};
+ghost use Rattle.stream_core.specs.Pending.{SendsPrefix};
 ghost use Rattle.wire_in.specs.Cutting.{bodies_of};
 ghost use Rattle.engine_core.specs.Sessions.{Prompt, Starved};
-ghost use Rattle.engine_core.specs.Ends.{IsEnd, ReadsAtMost, end_of};
+ghost use Rattle.stream_core.specs.Ends.{end_of};
+ghost use Rattle.stream_core.specs.Taking.{ReadsAtMost};
+ghost use Rattle.engine_core.specs.Ends.{IsEnd};
 ghost use Rattle.replay_core.specs.InternalSession.{IsFresh};
 ghost use Rattle.replay_core.specs.Replayed.{replay_text, replay_start, Answered, LeavesDisk, Replayed};
 
 use crate::keeper::NoKeeper;
-use engine_core::{Engine, Outbox, PIECE, Round, Session, answer_of, serve_input};
+use engine_core::{Engine, Round, Session, serve_input};
 use host_core::{Fault, Host, Status};
 use price_core::NoMemory;
 use std::alloc::Global;
 use std::thread::Threads;
+use stream_core::{Outbox, PIECE, answer_of};
 
 /// The most bytes that one replay reads.
 const BYTES_MAX: u64 = 1_099_511_627_776;

@@ -9,10 +9,10 @@ use Rattle.host_core.proofs.Causes.{no_fault, faultless}
 use Rattle.wire_in.specs.Cutting.{bodies_of}
 use Rattle.engine_core.specs.Sessions.{Start, expected}
 use Rattle.engine_core.specs.Serving.{Serves, Reads}
-use Rattle.engine_core.proofs.Taken.{takes_none, takes_on}
+use Rattle.stream_core.proofs.Taken.{takes_none, takes_on}
 use Rattle.engine_core.proofs.Keeping.{idles, runs_on}
 use Rattle.engine_core.proofs.Reading.{Runs, up_to, expects_all, serves_sent, safe_sent, answered_by, piece_begins, reads_more, none_left}
-use Rattle.engine_core.proofs.Asking.{no_ask, more_asks}
+use Rattle.engine_core.proofs.Asking.{no_ask, answers_to, prompt_of, more_asks}
 use Rattle.engine_core.proofs.Ending.{ends}
 use Rattle.engine_core.proofs.Expecting.{starved_further}
 use Rattle.engine_core.proofs.Unwritten.{idle, sending, still_nothing, none_before}
@@ -61,7 +61,7 @@ fed g c start input same reads =
             (runs_on (up_to c.loop-open.read c.args.most input c.loop-open.invariant.within) c.loop-open.invariant.before was.runs.moments
             (safe_sent was.reads c.loop-open.invariant.empty _ (λ records image held left. g.K.Keeper.recovers_now c.loop-open.keeper records _ image held left) sent))
             (c.feed.ensures.moments start _ same mid);
-        prompt = more_asks start input (more_asks start input was.runs.prompt (c.exchange.ensures.prompt start input c.loop-open.read was.reads.input_left was.reads.there expects))
+        prompt = more_asks start input (more_asks start input was.runs.prompt (prompt_of start input (c.exchange.ensures.prompt (answers_to start) start.sent input c.loop-open.read was.reads.input_left was.reads.there expects)))
             (no_ask start input c.feed.ensures.keeps.asks);
         nothing = λ none. still_nothing (still_nothing (was.runs.nothing none) (sending sent c.exchange.ensures.keeps.disk))
             (c.feed.ensures.nothing start _ same mid (none_before start begins none));
@@ -115,7 +115,7 @@ returns-in_err-count-clause-moments g c = λ start input same reads.
 pub returns-in_err-count-clause-prompt : goal.returns-in_err-count-clause-prompt
 returns-in_err-count-clause-prompt g c = λ start input same reads.
     let was = c.loop-open.invariant.polls start input same reads in
-    more_asks start input was.runs.prompt (c.exchange.ensures.prompt start input c.loop-open.read was.reads.input_left was.reads.there (expects_all was.reads c.loop-open.invariant.empty))
+    more_asks start input was.runs.prompt (prompt_of start input (c.exchange.ensures.prompt (answers_to start) start.sent input c.loop-open.read was.reads.input_left was.reads.there (expects_all was.reads c.loop-open.invariant.empty)))
 
 pub returns-in_err-count-clause-unread : goal.returns-in_err-count-clause-unread
 returns-in_err-count-clause-unread g c = λ start input same reads failed.

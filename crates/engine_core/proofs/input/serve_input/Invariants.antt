@@ -1,7 +1,7 @@
 use Rattle.std.proofs.Common.{◌≡◌, ◌+◌, ◌-◌, ◌<◌, ◌≤◌, [], ℕ, List, cond, length}
 use Rattle.host_core.specs.Outside.{Continues, NoFault}
 use Rattle.wire_in.specs.declared.record.Record.{Record}
-use Rattle.engine_core.specs.Ends.{ReadsAtMost}
+use Rattle.stream_core.specs.Taking.{ReadsAtMost}
 use Rattle.engine_core.specs.Sessions.{Start}
 use Rattle.engine_core.specs.Serving.{Reads, IsReady}
 use Rattle.engine_core.proofs.Reading.{Polls}

@@ -1,4 +1,4 @@
-use Rattle.engine_core.proofs.Sending.{sends_none}
+use Rattle.stream_core.proofs.Sending.{sends_none}
 use Rattle.engine_core.proofs.reply.acknowledge.Goals as goal
 
 pub returns-then-not-acknowledges-clause-moments : goal.returns-then-not-acknowledges-clause-moments

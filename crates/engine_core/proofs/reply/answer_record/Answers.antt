@@ -2,8 +2,8 @@ use Rattle.std.proofs.Common.{◌≡◌, ◌+◌, ◌∷◌, [], length, arith}
 use Rattle.wire_out.specs.declared.message.Frame.TheVariants.{Ack}
 use Rattle.rulebook.specs.Sent.{spelled}
 use Rattle.engine_core.specs.Sessions.{with_acknowledgements}
-use Rattle.engine_core.proofs.Pending.{whenever_ok}
-use Rattle.engine_core.proofs.Sending.{sends_longer, sends_on}
+use Rattle.stream_core.proofs.Pending.{whenever_ok}
+use Rattle.stream_core.proofs.Sending.{sends_longer, sends_on}
 use Rattle.engine_core.proofs.Messages.{acknowledged}
 use Rattle.engine_core.proofs.reply.answer_record.Goals as goal
 

@@ -5,7 +5,7 @@ use Rattle.wire_out.specs.declared.message.Frame.TheVariants.{Numbered}
 use Rattle.wire_out.specs.declared.message.Stamped.{Stamped}
 use Rattle.wire_out.specs.Spelling.{spelling}
 use Rattle.rulebook.specs.Sent.{spelled, numbered}
-use Rattle.engine_core.proofs.Sending.{sends_none, sends_longer, sends_on}
+use Rattle.stream_core.proofs.Sending.{sends_none, sends_longer, sends_on}
 use Rattle.engine_core.proofs.Answering.{drop_one}
 use Rattle.engine_core.proofs.reply.append_messages.Goals as goal
 

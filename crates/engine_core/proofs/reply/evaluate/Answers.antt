@@ -1,4 +1,4 @@
-use Rattle.engine_core.proofs.Sending.{sends_none}
+use Rattle.stream_core.proofs.Sending.{sends_none}
 use Rattle.engine_core.proofs.reply.evaluate.Goals as goal
 
 pub returns-in-Ok-clause-moments : goal.returns-in-Ok-clause-moments

@@ -2,8 +2,8 @@ use Rattle.std.proofs.Common.{[], ◌∷◌, ◌++◌, length, refl, ◌∙◌}
 use Rattle.std.proofs.lemmas.List.{append-nil}
 use Rattle.rulebook.specs.Sent.{spelled, numbered}
 use Rattle.rulebook.specs.Book.{messages_of, newest_messages}
-use Rattle.engine_core.proofs.Pending.{whenever_ok}
-use Rattle.engine_core.proofs.Sending.{sends_longer, sends_on}
+use Rattle.stream_core.proofs.Pending.{whenever_ok}
+use Rattle.stream_core.proofs.Sending.{sends_longer, sends_on}
 use Rattle.engine_core.proofs.reply.publish.Goals as goal
 
 pub returns-in_err-evaluate-clause-moments : goal.returns-in_err-evaluate-clause-moments

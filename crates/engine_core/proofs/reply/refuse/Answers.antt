@@ -1,7 +1,7 @@
 use Rattle.std.proofs.Common.{refl}
 use Rattle.rulebook.specs.Sent.{spelled, refused}
 use Rattle.engine_core.specs.Sessions.{with_acknowledgements}
-use Rattle.engine_core.proofs.Sending.{sends_longer}
+use Rattle.stream_core.proofs.Sending.{sends_longer}
 use Rattle.engine_core.proofs.reply.refuse.Goals as goal
 
 pub returns-clause-moments : goal.returns-clause-moments

@@ -2,7 +2,7 @@ use Rattle.std.proofs.Common.{refl, sym, ap, ◌∙◌, arith, rules}
 use Rattle.host_core.proofs.Chains.{onward, sends_nothing}
 use Rattle.host_core.proofs.Causes.{no_fault, faultless}
 use Rattle.engine_core.specs.Sessions.{expected}
-use Rattle.engine_core.proofs.Sending.{sends_none, sends_longer}
+use Rattle.stream_core.proofs.Sending.{sends_none, sends_longer}
 use Rattle.engine_core.proofs.Expecting.{added, expected-more}
 use Rattle.engine_core.proofs.Answering.{drop_one, admissible, answers_next, sends_next, sound_next, starved_at}
 use Rattle.engine_core.proofs.session.answer_each.Goals as goal

@@ -1,7 +1,7 @@
 use Rattle.std.proofs.Common.{◌≡◌, ◌+◌, ℕ, List, drop}
 use Rattle.host_core.specs.Outside.{Elapses, NoFault}
 use Rattle.host_core.specs.Frames.{OnlySends}
-use Rattle.engine_core.specs.Pending.{SendsPrefix}
+use Rattle.stream_core.specs.Pending.{SendsPrefix}
 use Rattle.engine_core.specs.Sessions.{Start, expected}
 use Rattle.engine_core.specs.Answering.{Answers}
 use Rattle.engine_core.specs.Serving.{IsSound}

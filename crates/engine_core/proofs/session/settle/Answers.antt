@@ -3,7 +3,7 @@ use Rattle.host_core.proofs.Moments.{widened, goes_on}
 use Rattle.wire_in.specs.Cutting.{bodies_of}
 use Rattle.market_core.specs.AdmissionState.{AdmissionState}
 use Rattle.engine_core.specs.Rounds.{records_in}
-use Rattle.engine_core.proofs.Pending.{on_ok2}
+use Rattle.stream_core.proofs.Pending.{on_ok2}
 use Rattle.engine_core.proofs.Expecting.{at_rest, safe_sends}
 use Rattle.engine_core.proofs.Keeping.{kept_is, answers_of, settled, leaves_keeps, answers_writes, answers_sends, answers_on}
 use Rattle.engine_core.proofs.Unwritten.{still_nothing, sending}

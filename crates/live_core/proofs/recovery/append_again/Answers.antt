@@ -1,7 +1,7 @@
 use Rattle.std.proofs.Common.{◌+◌, ◌++◌, drop, ap, ◌∙◌}
 use Rattle.std.proofs.lemmas.List.{take_rest}
 use Rattle.rulebook.specs.Sent.{spelled, numbered}
-use Rattle.engine_core.proofs.Sending.{sends_same}
+use Rattle.stream_core.proofs.Sending.{sends_same}
 use Rattle.live_core.proofs.recovery.append_again.Goals as goal
 
 pub returns-clause-moments : goal.returns-clause-moments

@@ -1,7 +1,7 @@
 use Rattle.std.proofs.Common.{[], ◌∷◌, refl, sym, subst, ◌∙◌, rules}
 use Rattle.engine_core.specs.EngineState.{IsRoomy}
-use Rattle.engine_core.proofs.Pending.{on_ok, whenever_ok, expects_same}
-use Rattle.engine_core.proofs.Sending.{sends_same}
+use Rattle.stream_core.proofs.Pending.{on_ok, whenever_ok, expects_same}
+use Rattle.stream_core.proofs.Sending.{sends_same}
 use Rattle.engine_core.proofs.Starving.{not_short, takes_of}
 use Rattle.live_core.specs.InternalRecovery.{again}
 use Rattle.rulebook.proofs.Sending.{again_one}

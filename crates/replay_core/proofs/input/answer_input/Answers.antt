@@ -1,6 +1,6 @@
 use Rattle.std.proofs.Common.{inl, inr, refl}
 use Rattle.host_core.proofs.Moments.{nothing, widened}
-use Rattle.engine_core.proofs.Pending.{sends_none}
+use Rattle.stream_core.proofs.Pending.{sends_none}
 use Rattle.replay_core.specs.Replayed.{replay_start}
 use Rattle.replay_core.proofs.Replaying.{reads_none, answered_as, ends_as, stops_as}
 use Rattle.replay_core.proofs.input.answer_input.Goals as goal

@@ -6,7 +6,7 @@ use Rattle.std.proofs.lemmas.List.{append-nil, take-append-drop}
 use Rattle.host_core.specs.Outside.{Outside, Agrees, MayLeave, Elapses, Sends, Stays}
 use Rattle.host_core.proofs.Moments.{ended, goes_on, nothing, widened}
 use Rattle.host_core.proofs.Known.{append_known-append}
-use Rattle.engine_core.specs.Pending.{Expects, SendsPrefix}
+use Rattle.stream_core.specs.Pending.{Expects, SendsPrefix}
 
 -- nothing more was sent, and the rest waits
 pub waits : (begin : Option (List ℕ)) (now : Outside) (waiting text : List ℕ) → Expects begin now.sent waiting text

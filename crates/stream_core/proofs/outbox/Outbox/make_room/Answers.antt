@@ -1,6 +1,6 @@
-use Rattle.engine_core.proofs.Pending.{on_ok2, expects_nothing}
-use Rattle.engine_core.proofs.Sending.{sends_none}
-use Rattle.engine_core.proofs.outbox.Outbox.make_room.Goals as goal
+use Rattle.stream_core.proofs.Pending.{on_ok2, expects_nothing}
+use Rattle.stream_core.proofs.Sending.{sends_none}
+use Rattle.stream_core.proofs.outbox.Outbox.make_room.Goals as goal
 
 pub returns-then-len-le-CAPACITY-clause-moments : goal.returns-then-len-le-CAPACITY-clause-moments
 returns-then-len-le-CAPACITY-clause-moments g c = λ begin text expects. sends_none (g.H.Host.outside c.args.host.now) (g.met.H.Host.sent_now c.args.host.now) _ text expects

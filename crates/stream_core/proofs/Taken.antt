@@ -2,7 +2,7 @@
 use Rattle.std.proofs.Common.{◌≡◌, ℕ, ◌+◌, ◌≤◌, List, drop, refl, sym, ap, subst, ◌∙◌, arith}
 use Rattle.std.specs.Prelude.{Option, Some, None, option_map}
 use Rattle.std.proofs.lemmas.List.{drop-drop}
-use Rattle.engine_core.specs.Ends.{ReadsAtMost}
+use Rattle.stream_core.specs.Taking.{ReadsAtMost}
 
 pub drop-none : (known : Option (List ℕ)) → option_map (λ (input : List ℕ). drop 0 input) known ≡ known
 drop-none None = refl

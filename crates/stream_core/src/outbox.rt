@@ -1,4 +1,4 @@
-//! Frames that wait to be sent together.
+//! Bytes that wait to be sent together.
 
 ghost use Rattle.std.specs.Prelude.{◌≡◌, ◌+◌, ◌≤◌, ◌++◌, [], ℕ, List, Option, length, OnOk, OnErr, IfOk, IfErr};
 ghost use Rattle.std.specs.Io.KnownBytes.{append_known};
@@ -6,7 +6,7 @@ ghost use Rattle.host_core.specs.Outside.{Elapses};
 ghost use Rattle.host_core.specs.Frames.{OnlySends};
 ghost use Rattle.host_core.specs.Faults.{Causes};
 ghost use Rattle.wire_out.specs.Spelling.{spelling};
-ghost use Rattle.engine_core.specs.Pending.{Expects, SendsPrefix};
+ghost use Rattle.stream_core.specs.Pending.{Expects, SendsPrefix};
 
 use host_core::{Fault, Host, send_all};
 use price_core::NoMemory;
@@ -17,10 +17,13 @@ use wire_out::{Frame, put_frame};
 /// How many bytes may wait.
 const CAPACITY: usize = 65_536;
 
+/// The most bytes that are appended at once.
+const SHORT: usize = 256;
+
 /// The most bytes of one frame.
 const FRAME: usize = 64;
 
-/// The bytes of frames that wait to be sent in one piece.
+/// The bytes of frames and lines that wait to be sent in one piece.
 #[derive(Drop)]
 pub struct Outbox {
     bytes: Vec<u8>,
@@ -62,35 +65,51 @@ impl Outbox {
         Ok(())
     }
 
-    /// Sends what waits where there may be no room for a frame.
+    /// Sends what waits where there may be no room for what is appended next.
     fn make_room<H: Host>(&mut self, host: &mut H) -> Result<(), Fault>
         ensures pending { (begin : Option (List ℕ)) (text : List ℕ) → Expects begin (H.outside host.old).sent self.old text
             → OnOk result (Expects begin (H.outside host.new).sent self.new text) }
-        ensures room { OnOk result (length self.new + 64 ≤ 65536) }
+        ensures room { OnOk result (length self.new + 256 ≤ 65536) }
         ensures moments { (begin : Option (List ℕ)) (text : List ℕ) → Expects begin (H.outside host.old).sent self.old text
             → Elapses (H.outside host.old) (H.outside host.new) (SendsPrefix begin text (H.outside host.old)) }
         ensures keeps { OnlySends (H.outside host.old) (H.outside host.new) }
         ensures causes { Causes result (H.outside host.old) (H.outside host.new) }
         ensures fault { IfErr result (λ fault. fault ≡ Fault.Send) }
     {
-        if self.bytes.len() + FRAME <= CAPACITY {
+        if self.bytes.len() + SHORT <= CAPACITY {
             return Ok(());
         }
         self.flush(host)
     }
 
-    /// Writes a frame behind those that wait.
-    fn write(&mut self, frame: &Frame)
-        requires { length self.old + 64 ≤ 65536 }
-        ensures { self.new ≡ self.old ++ spelling frame.now }
+    /// Writes bytes behind those that wait.
+    fn write(&mut self, piece: &[u8])
+        requires { length self.old + length piece.now ≤ 65536 }
+        ensures { self.new ≡ self.old ++ piece.now }
     {
-        let mut cell = [0; FRAME];
-        let len = put_frame(frame, &mut cell);
-        self.bytes.extend_from_slice(&cell[..len]).unwrap();
+        // It has room for them.
+        self.bytes.extend_from_slice(piece).unwrap();
     }
 
-    /// Appends a frame to those that wait, and sends these first where there is no room. After an error the outbox is of
-    /// no further use.
+    /// Appends at most 256 bytes to those that wait, and sends these first where there is no room. After an error the
+    /// outbox is of no further use.
+    pub fn append_bytes<H: Host>(&mut self, host: &mut H, piece: &[u8]) -> Result<(), Fault>
+        requires short { length piece.now ≤ 256 }
+        ensures pending { (begin : Option (List ℕ)) (text : List ℕ) → Expects begin (H.outside host.old).sent self.old text
+            → OnOk result (Expects begin (H.outside host.new).sent self.new (text ++ piece.now)) }
+        ensures moments { (begin : Option (List ℕ)) (text : List ℕ) → Expects begin (H.outside host.old).sent self.old text
+            → Elapses (H.outside host.old) (H.outside host.new) (SendsPrefix begin text (H.outside host.old)) }
+        ensures keeps { OnlySends (H.outside host.old) (H.outside host.new) }
+        ensures causes { Causes result (H.outside host.old) (H.outside host.new) }
+        ensures fault { IfErr result (λ fault. fault ≡ Fault.Send) }
+    {
+        self.make_room(host)?;
+        self.write(piece);
+        Ok(())
+    }
+
+    /// Appends a frame to the bytes that wait, and sends these first where there is no room. After an error the outbox is
+    /// of no further use.
     pub fn append<H: Host>(&mut self, host: &mut H, frame: &Frame) -> Result<(), Fault>
         ensures pending { (begin : Option (List ℕ)) (text : List ℕ) → Expects begin (H.outside host.old).sent self.old text
             → OnOk result (Expects begin (H.outside host.new).sent self.new (text ++ spelling frame.now)) }
@@ -100,8 +119,8 @@ impl Outbox {
         ensures causes { Causes result (H.outside host.old) (H.outside host.new) }
         ensures fault { IfErr result (λ fault. fault ≡ Fault.Send) }
     {
-        self.make_room(host)?;
-        self.write(frame);
-        Ok(())
+        let mut cell = [0; FRAME];
+        let len = put_frame(frame, &mut cell);
+        self.append_bytes(host, &cell[..len])
     }
 }

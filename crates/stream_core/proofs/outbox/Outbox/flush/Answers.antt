@@ -1,7 +1,7 @@
 use Rattle.std.proofs.Common.{◌∙◌}
 use Rattle.host_core.proofs.Moments.{widened}
-use Rattle.engine_core.proofs.Sending.{sends_prefix}
-use Rattle.engine_core.proofs.outbox.Outbox.flush.Goals as goal
+use Rattle.stream_core.proofs.Sending.{sends_prefix}
+use Rattle.stream_core.proofs.outbox.Outbox.flush.Goals as goal
 
 pub returns-in_err-map_err-clause-moments : goal.returns-in_err-map_err-clause-moments
 returns-in_err-map_err-clause-moments g c = λ begin text expects.

@@ -1,7 +1,7 @@
 //! The status of a run by what it answered.
 
 ghost use Rattle.std.specs.Prelude.{◌≡◌};
-ghost use Rattle.engine_core.specs.Ends.{answer_of};
+ghost use Rattle.stream_core.specs.Ends.{answer_of};
 
 use host_core::{Fault, Status};
 

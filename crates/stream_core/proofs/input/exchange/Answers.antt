@@ -1,8 +1,8 @@
 use Rattle.std.proofs.Common.{◌∙◌}
-use Rattle.engine_core.proofs.Asking.{one_ask}
-use Rattle.engine_core.proofs.Reading.{takes_piece}
-use Rattle.engine_core.proofs.Sending.{sends_stays}
-use Rattle.engine_core.proofs.input.exchange.Goals as goal
+use Rattle.stream_core.proofs.Asking.{one_ask}
+use Rattle.stream_core.proofs.Reading.{takes_piece}
+use Rattle.stream_core.proofs.Sending.{sends_stays}
+use Rattle.stream_core.proofs.input.exchange.Goals as goal
 
 pub returns-in_default-read_piece-clause-moments : goal.returns-in_default-read_piece-clause-moments
 returns-in_default-read_piece-clause-moments g c = λ begin text expects.
@@ -13,9 +13,9 @@ returns-clause-moments g c = λ begin text expects.
     sends_stays (c.flush.ensures.moments begin text expects) ((c.in-Ok.ensures).sent begin text expects) c.read_piece.ensures.reads.keeps.moments
 
 pub returns-clause-prompt : goal.returns-clause-prompt
-returns-clause-prompt g c = λ start input count left there expects.
-    one_ask start input count (g.H.Host.outside c.flush.new.host) (g.H.Host.outside c.read_piece.new.host) c.flush.ensures.keeps.asks (c.flush.ensures.keeps.input ∙ left) there
-    ((c.in-Ok.ensures).sent start.sent _ expects) (c.in-Ok-read_piece.ensures).reads.asks
+returns-clause-prompt g c = λ text begin input count left there expects.
+    one_ask text begin input count (g.H.Host.outside c.flush.new.host) (g.H.Host.outside c.read_piece.new.host) c.flush.ensures.keeps.asks (c.flush.ensures.keeps.input ∙ left) there
+    ((c.in-Ok.ensures).sent begin _ expects) (c.in-Ok-read_piece.ensures).reads.asks
 
 pub returns-clause-taken : goal.returns-clause-taken
 returns-clause-taken g c = takes_piece _ _ _ _ c.args.most _ c.flush.ensures.keeps.input (c.in-Ok-read_piece.ensures).reads.read

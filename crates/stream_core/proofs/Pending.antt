@@ -5,8 +5,8 @@ use Rattle.std.specs.Io.KnownBytes.{append_known}
 use Rattle.std.proofs.lemmas.List.{append-nil}
 use Rattle.host_core.proofs.Known.{append_known-nil}
 use Rattle.host_core.specs.Outside.{Outside, Stays}
-use Rattle.engine_core.specs.Pending.{Expects, SendsPrefix, SentPrefix}
-use Rattle.engine_core.proofs.Sending.{waits}
+use Rattle.stream_core.specs.Pending.{Expects, SendsPrefix, SentPrefix}
+use Rattle.stream_core.proofs.Sending.{waits}
 
 -- the same text
 pub expects_same : {begin now : Option (List ℕ)} {waiting : List ℕ} (text same : List ℕ) → text ≡ same → Expects begin now waiting text → Expects begin now waiting same

@@ -1,0 +1,4 @@
+pub mod Pending
+pub mod Taking
+pub mod Asking
+pub mod Ends

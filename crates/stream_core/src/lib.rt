@@ -1,0 +1,10 @@
+//! Bytes that wait to be sent, and the input read piece by piece.
+#![tactic(auto)]
+
+mod ended;
+mod input;
+mod outbox;
+
+pub use ended::answer_of;
+pub use input::{PIECE, exchange};
+pub use outbox::Outbox;
