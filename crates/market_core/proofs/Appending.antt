@@ -1,6 +1,6 @@
 -- Symbols that are evaluated one after the other.
 use Rattle.std.proofs.Common.{◌≡◌, ℕ, Bool, true, false, zero, suc, ◌+◌, ◌<◌, ◌≤◌, ◌≢◌, List, [], ◌∷◌, length, get_or, ◌++◌, length-append, Option, Some, None, Result, Ok, Err, refl, sym, ap, subst, ◌∙◌, add-one, true≢false, arith}
-use Rattle.std.specs.Prelude.{OnOk, slice_get, slice_set, position, unwrap_or, ◌==◌}
+use Rattle.std.specs.Prelude.{OnOk, option_map, slice_get, slice_set, position, unwrap_or, ◌==◌}
 use Rattle.std.specs.Str.{bytes_eq}
 use Rattle.std.proofs.lemmas.List.Quantifiers.{position-Some}
 use Rattle.std.proofs.lemmas.Option.{slice_get-get_or}
@@ -15,7 +15,7 @@ use Rattle.rulebook.specs.declared.event.Event.{Event}
 use Rattle.rulebook.proofs.Ids.{same_id}
 use Rattle.symbol_core.specs.Rests.{Held, Rests}
 use Rattle.symbol_core.specs.Silent.{SaysNothing}
-use Rattle.market_core.specs.declared.market.Today.{Today}
+use Rattle.market_core.specs.declared.lead.Today.{Today}
 use Rattle.market_core.specs.Applied.{Appends, AppendsBelow, AppendsOne, OneEvaluated, Evaluated, Ticks, ByTarget, Applies, Finds, Lists, OnToday}
 use Rattle.market_core.specs.AdmissionState.{added}
 use Rattle.market_core.specs.MarketState.{MarketState}
@@ -65,18 +65,19 @@ pub later_more : (i : ℕ) (old new : List Held) (is : Held) → ((k : ℕ) → 
 later_more i old new is later k le = get-set_other new i is k (omega arith) ∙ later k (omega arith)
 
 -- one symbol of a market is evaluated, and the others are left as they were
-pub one_evaluated : (r : Result (Unit {0}) NoMemory) (s : ℕ) (x : Record) (old : MarketState) (directory : List (List ℕ)) (on : Option Today) (today : Today) (symbols with : List Held) (market : MarketView)
-    (begun before after : List Stamped) → record { directory = directory; today = on; symbols = symbols } ≡ old → on ≡ Some today → market ≡ view_of today
+pub one_evaluated : (r : Result (Unit {0}) NoMemory) (s : ℕ) (x : Record) (old : MarketState) (directory : List (List ℕ)) (on : Option Today) (symbols with : List Held) (market : MarketView)
+    (begun before after : List Stamped) → record { directory = directory; today = on; symbols = symbols } ≡ old → option_map view_of on ≡ Some market
     → begun ≡ before → OnOk r (AppendsOne s market x symbols with begun after)
     → OnOk r (Evaluated s x old (record { directory = directory; today = on; symbols = with }) before after)
-one_evaluated (Ok u) s x old directory on today symbols with market begun before after seen day view unsaid one =
+one_evaluated (Ok u) s x old directory on symbols with market begun before after seen view unsaid one =
     subst (λ (k : MarketState). Evaluated s x k (record { directory = directory; today = on; symbols = with }) before after) seen
     (λ now e within.
-    let same : today ≡ now = cc in
+    let both : Some market ≡ Some (view_of now) = sym view ∙ ap (option_map view_of) e in
+    let same : market ≡ view_of now = cc in
     let own : AppendsOne s (view_of now) x symbols with before after =
-    subst (λ (m : MarketView). AppendsOne s m x symbols with before after) (view ∙ ap view_of same) (subst (λ (b : List Stamped). AppendsOne s market x symbols with b after) unsaid one) in
+    subst (λ (m : MarketView). AppendsOne s m x symbols with before after) same (subst (λ (b : List Stamped). AppendsOne s market x symbols with b after) unsaid one) in
     record { directory = refl; today_is = refl; count = own.count; appends = own.at; others = own.others })
-one_evaluated (Err u) s x old directory on today symbols with market begun before after seen day view unsaid one = tt
+one_evaluated (Err u) s x old directory on symbols with market begun before after seen view unsaid one = tt
 
 -- a record that begins no day and lists no name is applied to the symbol that it names, or to all
 applies_other : (x : Record) (old new : MarketState) (before after : List Stamped) → IsOther x → ByTarget (symbol_of x) x old new before after

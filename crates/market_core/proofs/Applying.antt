@@ -36,7 +36,7 @@ use Rattle.rulebook.proofs.Positions.{is_some-position}
 use Rattle.rulebook.proofs.OfSymbol.{AllOfSymbols, of_symbol, own_part-by, by_other, parts-of_symbols, greatest-publish, market_halt-publish}
 use Rattle.symbol_core.specs.Rests.{Held, Rests}
 use Rattle.symbol_core.specs.Silent.{SaysNothing}
-use Rattle.market_core.specs.declared.market.Today.{Today}
+use Rattle.market_core.specs.declared.lead.Today.{Today}
 use Rattle.market_core.specs.AdmissionState.{lacks_room, added}
 use Rattle.market_core.specs.Applied.{EachEvaluated, OneEvaluated, Finds, Ticks, Evaluated, Applies}
 use Rattle.market_core.specs.MarketState.{MarketState, Represents, SymbolsRepresent, day_of}
@@ -76,13 +76,16 @@ is_known capacity A x s passed e =
     by false e = absurd (true≢false e)
 
 -- and a listing finds room
-pub has_room : (capacity : ℕ) (A : List Record) (kept : MarketState) (x : Record) → Represents kept A → verdict capacity A x ≡ None → lacks_room kept.directory x ≡ false
-has_room capacity A kept x s passed =
+pub finds_room : (capacity : ℕ) (A : List Record) (directory : List (List ℕ)) (x : Record) → directory ≡ names A → verdict capacity A x ≡ None → lacks_room directory x ≡ false
+finds_room capacity A directory x stands passed =
     let after_day = (passes _ _ _ passed).1 in
     let after_order = (passes (is_early A x) _ _ after_day).1 in
     let after_unknown = (passes (is_unknown A x) _ _ after_order).1 in
     let after_again = (passes (lists_again A x) _ _ after_unknown).1 in
-    ap (λ ns. lacks_room ns x) s.directory ∙ no_room A x ∙ (passes (finds_no_id A x) _ _ after_again).0
+    ap (λ ns. lacks_room ns x) stands ∙ no_room A x ∙ (passes (finds_no_id A x) _ _ after_again).0
+
+pub has_room : (capacity : ℕ) (A : List Record) (kept : MarketState) (x : Record) → Represents kept A → verdict capacity A x ≡ None → lacks_room kept.directory x ≡ false
+has_room capacity A kept x s passed = finds_room capacity A kept.directory x s.directory passed
 
 -- A listing has the index of its name.
 
@@ -95,7 +98,7 @@ position_push p j (x ∷ xs) y none own = by (p x) none (position_push p (j + 1)
   by false none rest = rest none own ∙ ap (λ (n : ℕ). Some n) (omega arith)
 
 -- the index of a name after it is listed
-index_listed : (ns : List (List ℕ)) (name : List ℕ) → position (bytes_eq name) (with_name ns name) ≡ Some (unwrap_or (position (bytes_eq name) ns) (length ns))
+pub index_listed : (ns : List (List ℕ)) (name : List ℕ) → position (bytes_eq name) (with_name ns name) ≡ Some (unwrap_or (position (bytes_eq name) ns) (length ns))
 index_listed ns name = by (position (bytes_eq name) ns) refl where
   among : (o : Option ℕ) → position (bytes_eq name) ns ≡ o → is_among ns name ≡ is_some o
   among o e = sym (is_some-position (bytes_eq name) ns) ∙ ap is_some e
@@ -128,7 +131,7 @@ day_recorded : (A : List Record) (d : Day × ℕ) → day_record A ≡ Some d �
 day_recorded A d on = ap day_record (records-history A) ∙ on
 
 -- the breakers after it, by what the history says
-abbrev day_in : List Event → Day × ℕ → Today
+abbrev pub day_in : List Event → Day × ℕ → Today
 day_in h d = record { day = d.0; breaker = record { index_close = d.1; greatest = greatest_declared h; halt = market_halt h } }
 
 abbrev day_resumed : Bool → List Event → Day × ℕ → Today
@@ -152,14 +155,14 @@ clock_kept true t h d = refl
 clock_kept false t h d = refl
 
 -- they publish what the definitions say
-ruling-part : (x : Record) (A : List Record) (d : Day × ℕ) → is_tick x ≡ true → day_record A ≡ Some d → ruling x (day_of A d) ≡ market_part x (opened x A)
+pub ruling-part : (x : Record) (A : List Record) (d : Day × ℕ) → is_tick x ≡ true → day_record A ≡ Some d → ruling x (day_of A d) ≡ market_part x (opened x A)
 ruling-part x A d e on =
     by_tick (λ y. ruling y (day_of A d) ≡ market_part y (opened y A)) (λ t. sym (append-nil (resumption t (day_of A d))))
     (λ t value. ap (λ (ms : List Message). resumption t (day_of A d) ++ ms)
     (sym (declared (ends t (market_halt (history A))) t value (history A) d (day_recorded A d on)))) x e
 
 -- and leave the day as the history has it
-ruled-history : (x : Record) (A : List Record) (d : Day × ℕ) → is_tick x ≡ true → day_record A ≡ Some d → ruled x (day_of A d) ≡ day_in (ruled_history x A) d
+pub ruled-history : (x : Record) (A : List Record) (d : Day × ℕ) → is_tick x ≡ true → day_record A ≡ Some d → ruled x (day_of A d) ≡ day_in (ruled_history x A) d
 ruled-history x A d e on = by_tick (λ y. ruled y (day_of A d) ≡ day_in (ruled_history y A) d) clock index x e where
   clock : (t : ℕ) → ruled (in_.Clock t) (day_of A d) ≡ day_in (ruled_history (in_.Clock t) A) d
   clock t =
@@ -174,10 +177,10 @@ ruled-history x A d e on = by_tick (λ y. ruled y (day_of A d) ≡ day_in (ruled
       (sym (publish-append (resume_at x (opened x A)) (declare_at x (publish (resume_at x (opened x A)) (opened x A))) (opened x A)))
 
 -- messages of symbols leave it
-day_in-publish : (ms : List Message) (h : List Event) (d : Day × ℕ) → AllOfSymbols ms → day_in (publish ms h) d ≡ day_in h d
+pub day_in-publish : (ms : List Message) (h : List Event) (d : Day × ℕ) → AllOfSymbols ms → day_in (publish ms h) d ≡ day_in h d
 day_in-publish ms h d all = λ i. record { day = d.0; breaker = record { index_close = d.1; greatest = greatest-publish ms h all i; halt = market_halt-publish ms h all i } }
 
-day_in-opened : (x : Record) (A : List Record) (d : Day × ℕ) → is_day x ≡ false → day_in (opened x A) d ≡ day_of A d
+pub day_in-opened : (x : Record) (A : List Record) (d : Day × ℕ) → is_day x ≡ false → day_in (opened x A) d ≡ day_of A d
 day_in-opened x A d e = ap (λ (b : Bool). day_at (cond b (Accepted x ∷ []) (Accepted x ∷ today (history A)))) e where
   day_at : List Event → Today
   day_at h = record { day = d.0; breaker = record { index_close = d.1; greatest = greatest_in h; halt = market_halt_in h } }
@@ -193,7 +196,7 @@ on_day : (kept : MarketState) (A : List Record) (d : Day × ℕ) → Represents 
 on_day kept A d s on = s.today ∙ ap (option_map (day_of A)) on
 
 -- the day of the list with one more record
-next_day : (x : Record) (A : List Record) (d : Day × ℕ) (kept : Today) → is_day x ≡ false → day_record A ≡ Some d → kept ≡ day_of (x ∷ A) d → Some kept ≡ option_map (day_of (x ∷ A)) (day_record (x ∷ A))
+pub next_day : (x : Record) (A : List Record) (d : Day × ℕ) (kept : Today) → is_day x ≡ false → day_record A ≡ Some d → kept ≡ day_of (x ∷ A) d → Some kept ≡ option_map (day_of (x ∷ A)) (day_record (x ∷ A))
 next_day x A d kept no_day on e = ap (λ (today : Today). Some today) e ∙ sym (ap (option_map (day_of (x ∷ A))) (day_record-same x A no_day ∙ on))
 
 -- what an admissible record leaves

@@ -3,9 +3,11 @@ pub mod MarkedNames
 pub mod Admitting
 pub mod Appending
 pub mod Sections
+pub mod Ranges
 pub mod RecordsOfOthers
 pub mod OwnSteps
 pub mod MarketSteps
 pub mod Applying
+pub mod Leading
 pub mod Views
 pub mod Isolation

@@ -1,4 +1,4 @@
--- What the code does at a record, whatever the history. Private words: no public clause cites them.
+-- What the code does at a record, whatever the history.
 use Rattle.std.specs.Prelude.{◌≡◌, ◌≢◌, ℕ, zero, suc, ◌<◌, ◌≤◌, Bool, Option, Some, None, List, [], ◌++◌, length, position, unwrap_or, slice_get}
 use Rattle.std.specs.Str.{bytes_eq}
 use Rattle.wire_in.specs.declared.record.Record.{Record}
@@ -12,7 +12,7 @@ use Rattle.symbol_core.specs.declared.symbol.MarketView.{MarketView}
 use Rattle.symbol_core.specs.Evaluates.{Evaluates}
 use Rattle.symbol_core.specs.Rests.{Held, Rests}
 use Rattle.symbol_core.specs.Silent.{SaysNothing}
-use Rattle.market_core.specs.declared.market.Today.{Today}
+use Rattle.market_core.specs.declared.lead.Today.{Today}
 use Rattle.market_core.specs.AdmissionState.{added}
 use Rattle.market_core.specs.MarketState.{MarketState}
 use Rattle.market_core.specs.Ruled.{ruled, ruling, stamped, view_of}

@@ -3,6 +3,8 @@ pub mod Dated
 pub mod AdmissionState
 pub mod MarketState
 pub mod Ruled
+pub mod Leads
 pub mod Applied
 pub mod Sections
+pub mod Ranges
 pub mod Isolation

@@ -8,7 +8,7 @@ use Rattle.rulebook.specs.Market.{day_record, market_halt, greatest_declared}
 use Rattle.symbol_core.specs.Evaluates.{most_of_symbol}
 use Rattle.symbol_core.specs.Rests.{Held, Rests}
 use Rattle.symbol_core.specs.Silent.{SaysNothing}
-use Rattle.market_core.specs.declared.market.Today.{Today}
+use Rattle.market_core.specs.declared.lead.Today.{Today}
 
 -- the names ever listed, the last day with its breakers, and what is kept of each name's symbol, in order of ids
 pub record MarketState : Type 0 where

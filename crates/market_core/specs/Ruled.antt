@@ -1,4 +1,4 @@
--- The market-wide rules over what is kept of a day. Private words: no public clause cites them.
+-- The market-wide rules over what is kept of a day.
 use Rattle.std.specs.Prelude.{ℕ, Option, List, [], ◌∷◌, ◌++◌, if◌then◌else◌, map, is_some}
 use Rattle.session_core.specs.declared.state.Level.{Level}
 use Rattle.wire_in.specs.declared.record.Record.{Record}
@@ -10,7 +10,7 @@ use Rattle.breaker_core.specs.BreakerState.{resumed, with_declared}
 use Rattle.breaker_core.specs.Levels.{ends, declares}
 use Rattle.rulebook.specs.Market.{breaks}
 use Rattle.symbol_core.specs.declared.symbol.MarketView.{MarketView}
-use Rattle.market_core.specs.declared.market.Today.{Today}
+use Rattle.market_core.specs.declared.lead.Today.{Today}
 
 abbrev pub with_breaker_resumed : ℕ → Today → Today
 with_breaker_resumed t today = record { day = today.day; breaker = resumed t today.breaker }

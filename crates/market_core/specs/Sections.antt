@@ -1,4 +1,4 @@
--- Stocks with the moments before which ticks bring them nothing. Private words: no public clause cites them.
+-- Stocks with the moments before which ticks bring them nothing.
 use Rattle.std.specs.Prelude.{◌≡◌, ℕ, ◌<◌, ◌≤◌, true, Option, Some, None, List, slice_get, slice_index}
 use Rattle.wire_in.specs.declared.record.Record.{Record}
 use Rattle.wire_in.specs.Records.{is_tick, moment_of}

@@ -4,6 +4,7 @@
 mod admission;
 mod directory;
 mod law;
+mod lead;
 mod market;
 mod section;
 mod since;
@@ -13,5 +14,7 @@ mod tests;
 
 pub use admission::Admission;
 pub use directory::Directory;
-pub use law::a_symbol_is_isolated;
-pub use market::{MOST_MESSAGES, Market, Today, most_messages_of};
+pub use law::{a_symbol_is_isolated, sections_are_one};
+pub use lead::{Lead, Today};
+pub use market::{MOST_MESSAGES, Market, most_messages_of};
+pub use section::Section;

@@ -5,33 +5,24 @@ ghost use Rattle.wire_in.specs.Records.{moment_of, name_of, is_day, is_tick};
 ghost use Rattle.breaker_core.specs.BreakerState.{started};
 ghost use Rattle.rulebook.specs.Admission.{verdict, most_names, IsLawful};
 ghost use Rattle.rulebook.specs.Isolation.{for_symbol};
-ghost use Rattle.rulebook.specs.Market.{breaks};
 ghost use Rattle.rulebook.specs.Book.{newest_messages};
 ghost use Rattle.symbol_core.specs.Evaluates.{most_of_symbol};
 ghost use Rattle.market_core.specs.Kinds.{is_trade};
 ghost use Rattle.market_core.specs.MarketState.{most_of_names};
 ghost use Rattle.market_core.specs.Isolation.{newest_isolated};
 ghost use Rattle.market_core.specs.AdmissionState.{is_full_for, lacks_room, added};
+ghost use Rattle.market_core.specs.Ruled.{stamped, view_of};
 
-use crate::directory::Directory;
+use crate::lead::{Lead, Today};
 use crate::section::Section;
-use crate::symbols::append;
 use breaker_core::Breaker;
-use price_core::{Index, NoMemory};
+use price_core::NoMemory;
 use rulebook::MOST_NAMES;
-use session_core::{Day, Moment};
 use std::alloc::Global;
 use std::marker::Model;
 use symbol_core::{MOST_OF_SYMBOL, MarketView, Symbol};
 use wire_in::Record;
-use wire_out::{Message, Stamped};
-
-/// A day, and its market-wide breakers.
-#[derive(Drop)]
-pub struct Today {
-    pub day: Day,
-    pub breaker: Breaker,
-}
+use wire_out::Stamped;
 
 /// The most messages of one record: two of the market, and those of each symbol.
 pub const MOST_MESSAGES: usize = 2 + MOST_OF_SYMBOL * MOST_NAMES;
@@ -47,8 +38,7 @@ pub fn most_messages_of(names: u32) -> usize
 #[derive(Drop)]
 pub struct Market {
     alloc: Global,
-    directory: Directory,
-    today: Option<Today>,
+    lead: Lead,
     section: Section,
 }
 
@@ -58,80 +48,14 @@ impl Model for Market {
 
     ghost Value = { MarketState };
 
-    ghost view = { λ market. record { directory = market.directory; today = market.today; symbols = market.section.symbols } };
+    ghost view = { λ market. record { directory = market.lead.directory; today = market.lead.today; symbols = market.section.symbols } };
 
-    ghost invariant = { λ market. length market.section.symbols ≡ length market.directory };
-}
-
-impl Today {
-    ghost use Rattle.market_core.specs.Ruled.{with_breaker_resumed, level_on, with_level_on, resumption, tick_messages, ruled, ruling, stamped, view_of};
-
-    /// Ends a market halt that is over.
-    fn resume(&mut self, t: Moment, out: &mut Vec<Stamped>)
-        requires { vec_len out.old + 1 ≤ vec_capacity out.old }
-        ensures given { out.new.items ≡ out.old.items ++ stamped t (resumption t self.old) }
-        ensures kept { self.new ≡ with_breaker_resumed t self.old }
-        ensures room { vec_capacity out.old ≤ vec_capacity out.new }
-        ensures len { vec_len out.new ≤ vec_len out.old + 1 }
-    {
-        if self.breaker.time(t) {
-            append(out, t, Message::MarketResume);
-        }
-    }
-
-    /// Declares the level that an index value reaches.
-    fn declare(&mut self, t: Moment, index: Index, out: &mut Vec<Stamped>)
-        requires { vec_len out.old + 1 ≤ vec_capacity out.old }
-        ensures given { out.new.items ≡ out.old.items ++ stamped t (breaks index (level_on t index self.old)) }
-        ensures kept { self.new ≡ with_level_on t index self.old }
-        ensures room { vec_capacity out.old ≤ vec_capacity out.new }
-        ensures len { vec_len out.new ≤ vec_len out.old + 1 }
-    {
-        if let Some(level) = self.breaker.index(t, index, &self.day) {
-            append(out, t, Message::Breaker { level, index });
-        }
-    }
-
-    /// The market-wide rules at an index tick.
-    fn tick(&mut self, t: Moment, index: Index, out: &mut Vec<Stamped>)
-        requires { vec_len out.old + 2 ≤ vec_capacity out.old }
-        ensures given { out.new.items ≡ out.old.items ++ stamped t (tick_messages t index self.old) }
-        ensures kept { self.new ≡ with_level_on t index (with_breaker_resumed t self.old) }
-        ensures room { vec_capacity out.old ≤ vec_capacity out.new }
-        ensures len { vec_len out.new ≤ vec_len out.old + 2 }
-    {
-        self.resume(t, out);
-        self.declare(t, index, out);
-    }
-
-    /// The market-wide rules.
-    fn rule(&mut self, x: &Record, out: &mut Vec<Stamped>)
-        requires { vec_len out.old + 2 ≤ vec_capacity out.old }
-        ensures given { out.new.items ≡ out.old.items ++ stamped (moment_of x.now) (ruling x.now self.old) }
-        ensures kept { self.new ≡ ruled x.now self.old }
-        ensures room { vec_capacity out.old ≤ vec_capacity out.new }
-        ensures len { vec_len out.new ≤ vec_len out.old + 2 }
-    {
-        match *x {
-            Record::IndexTick { moment, value } => self.tick(moment, value, out),
-            Record::Clock { moment } => self.resume(moment, out),
-            _ => {}
-        }
-    }
-
-    /// What the day is to its symbols.
-    fn view(&self) -> MarketView
-        ensures { result ≡ view_of self.now }
-    {
-        MarketView {
-            day: self.day,
-            stopped: self.breaker.stopped(),
-        }
-    }
+    ghost invariant = { λ market. length market.section.symbols ≡ length market.lead.directory };
 }
 
 impl Market {
     ghost use Rattle.market_core.specs.MarketState.{Represents, most_messages};
+    ghost use Rattle.market_core.specs.Leads.{IsLed, lead_of, led, market_messages, market_view, rulings, with_listed};
     ghost use Rattle.market_core.specs.Applied.{EachEvaluated, OneEvaluated, Finds, Lists, OnToday, Ticks, Evaluated, Applies};
 
     /// A market with no names and no day.
@@ -140,8 +64,7 @@ impl Market {
     {
         Ok(Market {
             alloc,
-            directory: Directory::new(alloc)?,
-            today: None,
+            lead: Lead::new(alloc)?,
             section: Section::new(alloc)?,
         })
     }
@@ -151,7 +74,14 @@ impl Market {
         ensures names { result ≡ length self.now.directory }
         ensures bound { result ≤ most_names }
     {
-        self.directory.len() as u32
+        self.lead.names()
+    }
+
+    /// The id of a name, where it was ever listed.
+    pub fn id(&self, name: &[u8; 8]) -> Option<u16>
+        ensures { result ≡ position (bytes_eq name.now) self.now.directory }
+    {
+        self.lead.id(name)
     }
 
     /// Begins a day.
@@ -171,9 +101,8 @@ impl Market {
     {
         // For the proof: it says of the record what the condition says.
         let _day = x.is_day();
-        out.reserve(MOST_OF_SYMBOL * self.directory.len())?;
-        let market = today.view();
-        self.today = Some(today);
+        out.reserve(MOST_OF_SYMBOL * self.lead.names() as usize)?;
+        let market = self.lead.begin_day(today);
         self.section.begin_day(x, &market, out);
         Ok(())
     }
@@ -188,11 +117,10 @@ impl Market {
         ensures keeps_room { vec_capacity out.old ≤ vec_capacity out.new }
         ensures names { self.new.directory ≡ self.old.directory }
     {
-        out.reserve(2 + MOST_OF_SYMBOL * self.directory.len())?;
-        if let Some(today) = &mut self.today {
-            today.rule(x, out);
-            let ruled = today.view();
-            self.section.tick(x, &ruled, out);
+        out.reserve(2 + MOST_OF_SYMBOL * self.lead.names() as usize)?;
+        self.lead.rule(x, out);
+        if let Some(market) = self.lead.view() {
+            self.section.tick(x, &market, out);
         }
         Ok(())
     }
@@ -207,10 +135,9 @@ impl Market {
         ensures keeps_room { vec_capacity out.old ≤ vec_capacity out.new }
         ensures names { self.new.directory ≡ self.old.directory }
     {
-        let Some(today) = &self.today else {
+        let Some(market) = self.lead.view() else {
             return Ok(());
         };
-        let market = today.view();
         let index = id as usize;
         if self.section.len() <= index {
             return Ok(());
@@ -226,10 +153,12 @@ impl Market {
         ensures ok { IfOk result (λ id. Finds name id self.old self.new) }
         ensures err { OnErr result (self.new ≡ self.old) }
         ensures names { length self.new.directory ≤ length self.old.directory + 1 }
+        ensures listed { OnOk result (self.new.directory ≡ self.old.directory ++ name ∷ []) }
+        ensures today { self.new.today ≡ self.old.today }
     {
         self.section.reserve()?;
-        let symbol = Symbol::new(self.alloc, self.directory.len() as u16)?;
-        let id = self.directory.push(name);
+        let symbol = Symbol::new(self.alloc, self.lead.names() as u16)?;
+        let id = self.lead.push(name);
         self.section.push(symbol);
         Ok(id)
     }
@@ -240,12 +169,14 @@ impl Market {
         ensures ok { is_full_for self.old.directory name ≡ false → IfOk result (λ found. IsSomeAnd found (λ id. Finds name id self.old self.new)) }
         ensures err { OnErr result (self.new ≡ self.old) }
         ensures names { length self.new.directory ≤ length self.old.directory + 1 }
+        ensures listed { OnOk result (self.new.directory ≡ with_listed self.old.directory name) }
+        ensures today { self.new.today ≡ self.old.today }
     {
         // For the proof: it has the invariant, that there are as many symbols as names.
         let _symbols = self.section.len();
-        match self.directory.id(name) {
+        match self.lead.id(&name) {
             Some(id) => Ok(Some(id)),
-            None if self.directory.len() >= MOST_NAMES => Ok(None),
+            None if self.lead.names() as usize >= MOST_NAMES => Ok(None),
             None => Ok(Some(self.make(name)?)),
         }
     }
@@ -268,6 +199,55 @@ impl Market {
         Ok(())
     }
 
+    /// Leads a listing: a new name gets its symbol, which isn't evaluated.
+    fn lead_listing(&mut self, name: [u8; 8]) -> Result<MarketView, NoMemory>
+        requires day { IsSome self.old.today }
+        ensures listed { OnOk result (self.new.directory ≡ with_listed self.old.directory name) }
+        ensures today { self.new.today ≡ self.old.today }
+        ensures seen { IfOk result (λ view. option_map view_of self.old.today ≡ Some view) }
+        ensures err { OnErr result (self.new ≡ self.old) }
+    {
+        self.find(name)?;
+        Ok(self.lead.view().unwrap())
+    }
+
+    /// Leads a record, by what is kept.
+    fn keep_lead(&mut self, x: &Record, out: &mut Vec<Stamped>) -> Result<MarketView, NoMemory>
+        requires day { is_day x.now ≡ false → IsSome self.old.today }
+        ensures kept { OnOk result (lead_of self.new ≡ led x.now (lead_of self.old)) }
+        ensures said { OnOk result (out.new.items ≡ out.old.items ++ stamped (moment_of x.now) (rulings x.now self.old.today)) }
+        ensures seen { IfOk result (λ view. option_map view_of self.new.today ≡ Some view) }
+        ensures err { OnErr result ((self.new ≡ self.old) × (out.new.items ≡ out.old.items)) }
+        ensures few { vec_len out.new ≤ vec_len out.old + 2 }
+        ensures room { name_of x.now ≡ None → vec_len out.old + 2 ≤ vec_capacity out.old → IsOk result }
+        ensures keeps_room { vec_capacity out.old ≤ vec_capacity out.new }
+    {
+        match *x {
+            Record::Listing { name, .. } => self.lead_listing(name),
+            _ => self.lead.lead(x, out),
+        }
+    }
+
+    /// Leads a record that is admissible after the led ones: it does what `apply` does, but evaluates no symbol. It appends
+    /// the market's messages, and answers what the market then is to its symbols. A day has begun, or the record begins
+    /// one. A new name gets a symbol that isn't evaluated: so a market stands for what was led in its names, its day and
+    /// its breakers alone, and where a listed symbol was led past it represents no list. An error leaves all as it was.
+    pub fn lead(&mut self, x: &Record, out: &mut Vec<Stamped>) -> Result<MarketView, NoMemory>
+        requires day { is_day x.now ≡ false → IsSome self.old.today }
+        ensures given { (capacity : ℕ) (before : List Record) → IsLed (lead_of self.old) before → verdict capacity before x.now ≡ None
+            → OnOk result (out.new.items ≡ out.old.items ++ market_messages (x.now ∷ before)) }
+        ensures leads { (capacity : ℕ) (before : List Record) → IsLed (lead_of self.old) before → verdict capacity before x.now ≡ None
+            → OnOk result (IsLed (lead_of self.new) (x.now ∷ before)) }
+        ensures view { (capacity : ℕ) (before : List Record) → IsLed (lead_of self.old) before → verdict capacity before x.now ≡ None
+            → IfOk result (λ view. market_view (x.now ∷ before) ≡ Some view) }
+        ensures err { OnErr result ((self.new ≡ self.old) × (out.new.items ≡ out.old.items)) }
+        ensures few { vec_len out.new ≤ vec_len out.old + 2 }
+        ensures room { name_of x.now ≡ None → vec_len out.old + 2 ≤ vec_capacity out.old → IsOk result }
+        ensures keeps_room { vec_capacity out.old ≤ vec_capacity out.new }
+    {
+        self.keep_lead(x, out)
+    }
+
     /// Applies a record, by what is kept. It is a function of its own so that what the code does at a record is one fact, from
     /// which the clauses of `apply` follow.
     fn keep(&mut self, x: &Record, out: &mut Vec<Stamped>) -> Result<(), NoMemory>
@@ -280,7 +260,7 @@ impl Market {
         ensures one_more { length self.new.directory ≤ length self.old.directory + 1 }
     {
         // For the proof: it has the invariant, that the names are few enough.
-        let _names = self.directory.len();
+        let _names = self.lead.names();
         match *x {
             Record::Day {
                 day,

@@ -585,3 +585,30 @@ fn each_of_many_stocks_begins_to_trade_at_the_open(rt: HostRuntime) -> Result<()
     }
     Ok(())
 }
+
+#[test]
+fn a_led_market_gives_its_own_messages_alone(rt: HostRuntime) -> Result<(), Fail> {
+    let early = at(9, 0, 0, 0)?;
+    let start = at(10, 0, 0, 0)?;
+    let end = at(10, 15, 0, 0)?;
+    let mut lead = Lead::new(rt.alloc())?;
+    let mut out = Vec::new(rt.alloc());
+    for (x, stopped) in [
+        (day(3)?, false),
+        (listing(early, name(1))?, false),
+        (listing(early, name(0))?, false),
+        (clock(start), false),
+        (tick(start, 465_000)?, true),
+        (clock(end), false),
+    ] {
+        assert!(rt; x.is_day() || lead.view().is_some());
+        let seen = lead.lead(&x, &mut out)?;
+        assert_eq!(rt; seen.stopped, stopped);
+    }
+    let want = [breaker(start, Level::One, 465_000)?, resumption(end)];
+    assert_eq!(rt; out.as_slice(), want.as_slice());
+    assert_eq!(rt; lead.id(&name(1)), Some(0));
+    assert_eq!(rt; lead.id(&name(0)), Some(1));
+    assert_eq!(rt; lead.id(&name(2)), None);
+    Ok(())
+}

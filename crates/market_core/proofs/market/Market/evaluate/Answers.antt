@@ -1,8 +1,9 @@
+use Rattle.std.proofs.Common.{sym, ◌∙◌}
 use Rattle.market_core.proofs.Appending.{one_evaluated}
 use Rattle.market_core.proofs.market.Market.evaluate.Goals as goal
 
 pub returns-clause-ok : goal.returns-clause-ok
 returns-clause-ok c =
-    one_evaluated c.evaluate.result c.args.id c.args.x.now c.args.self.now c.self.inside.directory c.self.inside.today c.in-Some.today c.self.inside.section.symbols c.evaluate.new.self.symbols c.view-market.result
+    one_evaluated c.evaluate.result c.args.id c.args.x.now c.args.self.now c.self.inside.lead.directory c.self.inside.lead.today c.self.inside.section.symbols c.evaluate.new.self.symbols c.in-Some.market
     c.reserve.new.self.items c.args.out.now.items c.evaluate.new.out.items
-    c.self.view_is c.in-Some.is c.view-market.ensures c.reserve.ensures.items c.evaluate.ensures.ok
+    c.self.view_is (sym c.view.ensures ∙ c.in-Some.is) c.reserve.ensures.items c.evaluate.ensures.ok
