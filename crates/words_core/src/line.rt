@@ -207,19 +207,19 @@ fn generate_line<'a>(alloc: Global) -> Result<Command<'a>, AllocError>
 }
 
 /// The program without its commands.
-fn program<'a>(alloc: Global) -> Command<'a>
-    ensures app { app_of result ≡ program }
-    ensures local { (fields_of result).has_globals ≡ false }
+fn program<'a>(alloc: Global) -> Result<Command<'a>, AllocError>
+    ensures app { IfOk result (λ c. app_of c ≡ program) }
+    ensures local { IfOk result (λ c. (fields_of c).has_globals ≡ false) }
 {
     command(
         alloc,
         "halts",
         "Trading halts of US equities over a live input and a journal",
     )
-    .override_usage("halts <journal> <COMMAND>")
     .no_binary_name(true)
     .version(VERSION)
     .subcommand_required(true)
+    .bin_name("halts <journal>")
 }
 
 /// The version that `--version` tells.
@@ -230,7 +230,8 @@ fn with_sessions<'a>(alloc: Global) -> Result<Command<'a>, AllocError>
     ensures app { IfOk result (λ c. app_of c ≡ with_sessions) }
     ensures local { IfOk result (λ c. (fields_of c).has_globals ≡ false) }
 {
-    let halts = with_command(program(alloc), format_line(alloc)?)?;
+    let halts = program(alloc)?;
+    let halts = with_command(halts, format_line(alloc)?)?;
     let halts = with_command(halts, serve_line(alloc)?)?;
     let halts = with_command(halts, replay_line(alloc)?)?;
     with_command(

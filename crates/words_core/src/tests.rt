@@ -178,6 +178,13 @@ fn help_and_the_version_are_told(rt: HostRuntime) {
     assert!(rt;
         tells(
             alloc,
+            &["serve", "-h"],
+            "Usage: halts <journal> serve [OPTIONS]"
+        )
+    );
+    assert!(rt;
+        tells(
+            alloc,
             &["help", "generate"],
             "from 1 to 16384 [default: 500]"
         )
