@@ -109,7 +109,7 @@ impl Recovery {
     ghost use Rattle.live_core.specs.InternalServing.{IsFinished};
 
     /// Evaluates the records of the batch that was read last, one after the other, up to the first that may not follow.
-    fn resume<H: Host>(
+    pub fn resume<H: Host>(
         &mut self,
         host: &mut H,
         from: Option<u64>,
@@ -168,7 +168,7 @@ impl Recovery {
     }
 
     /// Begins at the header of a journal.
-    fn begin<H: Host>(alloc: Global, host: &mut H, outbox: Outbox) -> Result<Recovery, Status>
+    pub fn begin<H: Host>(alloc: Global, host: &mut H, outbox: Outbox) -> Result<Recovery, Status>
         requires { outbox ≡ [] }
         ensures recovers { IfOk result (λ recovery. (from : Option ℕ) (disk : List ℕ) → (H.outside host.new).disk ≡ Some disk
             → Recovers (again from) (H.outside host.new).sent disk recovery (H.outside host.new)) }

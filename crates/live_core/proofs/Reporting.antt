@@ -1,0 +1,226 @@
+-- Telling what a journal holds, from its parts.
+use Rattle.std.proofs.Common.{◌≡◌, ◌⊎◌, inl, inr, ℕ, List, [], ◌∷◌, ◌++◌, refl, sym, ap, subst, ◌∙◌, arith}
+use Rattle.std.specs.Prelude.{Option, Some, None, IsTrue}
+use Rattle.std.specs.Io.KnownBytes.{append_known}
+use Rattle.std.proofs.lemmas.List.{append-nil}
+use Rattle.host_core.specs.declared.status.Status.{Status}
+use Rattle.host_core.specs.declared.status.Status.TheVariants.{Done, SendFault, DiskFault, Damaged, NoJournal, NoMemory}
+use Rattle.host_core.specs.Outside.{Outside, Agrees, MayLeave, Elapses, NoFault, Continues, Sends}
+use Rattle.host_core.specs.Frames.{OnlyReadsDisk, OnlySends}
+use Rattle.host_core.proofs.Moments.{widened, ended, nothing}
+use Rattle.host_core.proofs.Causes.{faultless, no_fault}
+use Rattle.host_core.proofs.Known.{append_known-nil}
+use Rattle.wire_in.specs.declared.record.Record.{Record}
+use Rattle.journal_core.specs.Layout.{Holds, records_of}
+use Rattle.journal_core.specs.Scan.{HasNoHeader}
+use Rattle.journal_core.proofs.Readable.{readable, read_holds}
+use Rattle.rulebook.specs.Admission.{IsLawful}
+use Rattle.engine_core.specs.EngineState.{Represents}
+use Rattle.engine_core.specs.Pending.{SendsPrefix, SentPrefix}
+use Rattle.engine_core.proofs.Pending.{prefix_sent, sends_none}
+use Rattle.engine_core.proofs.Sending.{sends_longer, sends_on, sends_prefix}
+use Rattle.live_core.specs.declared.recovery.Recovery.{Recovery}
+use Rattle.live_core.specs.Damage.{IsDamagedAt}
+use Rattle.live_core.specs.Ends.{TellsNoJournal, TellsDamage}
+use Rattle.live_core.specs.InternalRecovery.{again, SendsAgain, StarvesAgain, Recovers, OnlyRecovers, HasDamage, Hinders}
+use Rattle.live_core.specs.InternalReport.{Tells, IsTold, IsGathered, IsUngathered}
+use Rattle.live_core.specs.Reported.{Reported, IsHeld, IsReport, report_of}
+use Rattle.live_core.proofs.OneDamage.{covers_held, covers_damaged, one_damage, lawful_undamaged}
+use Rattle.live_core.proofs.Recovering.{sends_then, only_read, only_sent, recovers_on, hinders_on, why_at}
+
+nothing_left : (a b : List ℕ) → a ++ b ≡ [] → a ≡ []
+nothing_left [] b is = refl
+nothing_left (x ∷ a) b is = cc is
+
+-- while the disk is only read, nothing is sent again
+reads_still : {old mid : Outside} → OnlyReadsDisk old mid → (disk : List ℕ) → SendsAgain None old.sent disk old mid
+reads_still {old} reads disk all covers = widened reads.moments (SendsPrefix old.sent (again None all) old) (sends_none (again None all) old)
+
+-- no journal was begun
+pub ungathered_at_once : (here : Type 0) (status : Status) {old mid : Outside} → OnlyReadsDisk old mid → TellsNoJournal status
+    → Hinders (λ at. ⊥) ((disk : List ℕ) → mid.disk ≡ Some disk → HasNoHeader disk) here status old mid → IsUngathered status old mid
+ungathered_at_once here status {old} {mid} reads tells why = record {
+  moments = λ disk known. reads_still reads disk;
+  no_header = λ disk known none. tells;
+  unsent = λ is. reads.sent;
+  keeps = only_read reads;
+  hinders = hinders_on _ _ (no_fault old) (λ at none. absurd none) (λ missing disk known. missing disk (reads.disk ∙ known)) (λ before. tt) why;
+}
+
+-- A journal was begun, and then read.
+module _ {old mid new : Outside} {recovery : Recovery} (reads : OnlyReadsDisk old mid) (none : NoFault old mid)
+    (begun : (from : Option ℕ) (disk : List ℕ) → mid.disk ≡ Some disk → Recovers (again from) mid.sent disk recovery mid) (keeps : OnlyRecovers mid new)
+    (moments : (begin : Option (List ℕ)) (disk : List ℕ) → Recovers (again None) begin disk recovery mid → SendsAgain None begin disk mid new) where
+  begun_at : (disk : List ℕ) → old.disk ≡ Some disk → Recovers (again None) old.sent disk recovery mid
+  begun_at disk known = subst (λ b. Recovers (again None) b disk recovery mid) reads.sent (begun None disk (reads.disk ∙ known))
+
+  all_moments : (disk : List ℕ) → old.disk ≡ Some disk → SendsAgain None old.sent disk old new
+  all_moments disk known all covers = sends_then (reads_still reads disk all covers) (moments old.sent disk (begun_at disk known) all covers)
+
+  -- but not to its end
+  pub ungathered : (status : Status) → ((disk : List ℕ) → mid.disk ≡ Some disk → ¬ HasNoHeader disk)
+      → Hinders (λ at. (begin : Option (List ℕ)) (disk : List ℕ) → Recovers (again None) begin disk recovery mid → HasDamage at disk) ⊥
+      ((begin : Option (List ℕ)) (disk : List ℕ) → Recovers (again None) begin disk recovery mid → StarvesAgain None begin disk new) status mid new → IsUngathered status old new
+  ungathered status header why = record {
+    moments = all_moments;
+    no_header = λ disk known missing. absurd (header disk (reads.disk ∙ known) missing);
+    unsent = λ is. absurd (why_at _ _ _ mid new NoJournal is why).1;
+    keeps = recovers_on (only_read reads) keeps;
+    hinders = hinders_on _ _ none (λ at there disk known. there old.sent disk (begun_at disk known)) (λ missing. absurd missing) (λ hungry. tt) why;
+  }
+
+  -- to its end
+  module _ (after : Recovery) (all_read : (begin : Option (List ℕ)) (disk : List ℕ) → Recovers (again None) begin disk recovery mid → Recovers (again None) begin disk after new)
+      (is_closed : IsTrue after.scan.is_closed) (more : NoFault mid new) where
+    done : (disk : List ℕ) → old.disk ≡ Some disk → Recovers (again None) old.sent disk after new
+    done disk known = all_read old.sent disk (begun_at disk known)
+
+    unsent : (disk : List ℕ) → old.disk ≡ Some disk → new.sent ≡ old.sent
+    unsent disk known =
+        let waits = (done disk known).resumes.pending_is in
+        waits.known ∙ ap (append_known old.sent) (nothing_left waits.sent after.outbox waits.whole) ∙ append_known-nil old.sent
+
+    represents : (capacity : ℕ) (held : List Record) → IsHeld capacity held old → (after.scan.capacity ≡ capacity) × Represents after.engine after.scan.capacity held held
+    represents capacity held h =
+        let d = done h.disk h.known in
+        let all = readable.all h.disk capacity held after.scan d.batches h.holds d.read is_closed in
+        (all.0, subst (λ r. Represents after.engine after.scan.capacity r r) all.1 d.resumes.engine_is)
+
+    sound : (disk : List ℕ) → old.disk ≡ Some disk → (capacity : ℕ) × (held : List Record) × IsHeld capacity held old
+    sound disk known =
+        let d = done disk known in
+        (after.scan.capacity, records_of d.batches, record { disk = disk; known = known; holds = read_holds disk after.scan d.batches d.read is_closed; lawful = d.resumes.lawful })
+
+    pub gathered : IsGathered after old new
+    gathered = record {
+      sound = sound;
+      represents = represents;
+      unsent = λ capacity held h. unsent h.disk h.known;
+      moments = all_moments;
+      keeps = recovers_on (only_read reads) keeps;
+      none = faultless none more;
+    }
+
+-- The whole command.
+module _ (status : Status) (old new : Outside) (sent_now : (image bytes : List ℕ) → new.leaves new.moment image bytes → Agrees new.sent bytes)
+    (stops_now : (sent : List ℕ) → new.sent ≡ Some sent → (image : List ℕ) × MayLeave new image) (keeps : OnlyRecovers old new) where
+  -- what was sent at the end is a prefix of what may be sent at each stop
+  part_of : (text : List ℕ) → Elapses old new (SendsPrefix old.sent text old) → SentPrefix old.sent new.sent text
+  part_of text run = prefix_sent old old.sent new.sent text keeps.continues.sent (λ sent is.
+      let now = stops_now sent is in (
+        now.0,
+        subst (λ bytes. SendsPrefix old.sent text old now.0 bytes) (sent_now now.0 now.1.bytes now.1.left sent is) (ended run now.1),
+      ))
+
+  nothing_sent : Elapses old new (SendsPrefix old.sent [] old) → new.sent ≡ old.sent
+  nothing_sent run =
+      let part = part_of [] run in
+      part.sent ∙ ap (append_known old.sent) (nothing_left part.since part.unsent part.prefix) ∙ append_known-nil old.sent
+
+  kind_by : (damaged : ℕ → Type 0) (missing starved : Type 0) (s : Status) → Hinders damaged missing starved s old new → IsReport s
+  kind_by damaged missing starved s why = grind arith
+
+  -- it was not read to its end
+  pub unread_reported : IsUngathered status old new → Reported status old new
+  unread_reported u = record {
+    exact = λ capacity held h is. absurd (at Done is);
+    sound = λ disk known is. absurd (at Done is);
+    moments = moments;
+    part = λ capacity held h. part_of (report_of capacity held) (moments capacity held h);
+    no_journal = λ is. (at NoJournal is).1;
+    no_header = u.no_header;
+    unsent = u.unsent;
+    damaged = λ place is. (at (Damaged place) is).1;
+    damage_is_told = λ capacity place before disk known damage has. tells disk known damage has status u.hinders;
+    damage_is_unsent = λ place disk is known.
+        let damage = (at (Damaged place) is).1 disk known in
+        nothing_sent (u.moments disk known damage.1 (covers_damaged damage.2));
+    disk = keeps.disk;
+    input = keeps.input;
+    asks = keeps.asks;
+    send_cause = at SendFault;
+    disk_cause = at DiskFault;
+    memory = λ is. (at NoMemory is).0;
+    kind = kind_by _ _ _ status u.hinders;
+    continues = keeps.continues;
+  }
+    where
+      at : (s : Status) → status ≡ s → Hinders (λ at. (disk : List ℕ) → old.disk ≡ Some disk → HasDamage at disk) ((disk : List ℕ) → old.disk ≡ Some disk → HasNoHeader disk) (Unit {0}) s old new
+      at s is = why_at _ _ _ old new s is u.hinders
+
+      moments : (capacity : ℕ) (held : List Record) → IsHeld capacity held old → Elapses old new (SendsPrefix old.sent (report_of capacity held) old)
+      moments capacity held h = sends_longer [] (report_of capacity held) (report_of capacity held) refl (u.moments h.disk h.known held (covers_held h.holds))
+
+      tells : {capacity place : ℕ} {before : List Record} (disk : List ℕ) → old.disk ≡ Some disk → IsDamagedAt capacity place before disk → ¬ HasNoHeader disk
+          → (s : Status) → Hinders (λ at. (disk : List ℕ) → old.disk ≡ Some disk → HasDamage at disk) ((disk : List ℕ) → old.disk ≡ Some disk → HasNoHeader disk) (Unit {0}) s old new → TellsDamage place s
+      tells disk known damage has (Damaged other) why = inl (ap (λ k. Damaged k) (one_damage (why.1 disk known).2 damage))
+      tells disk known damage has NoJournal why = absurd (has (why.1 disk known))
+      tells disk known damage has s why = grind arith
+
+  -- it was read to its end, and then told
+  module _ {mid : Outside} (recovery : Recovery) (gathered : IsGathered recovery old mid) (sends : OnlySends mid new) (told : IsTold status mid new)
+      (tells : (held : List Record) → Represents recovery.engine recovery.scan.capacity held held → Tells (report_of recovery.scan.capacity held) status mid new) where
+    told_at : (s : Status) → status ≡ s → IsTold s mid new
+    told_at s is = subst (λ s. IsTold s mid new) is told
+
+    tells_held : (capacity : ℕ) (held : List Record) → IsHeld capacity held old → Tells (report_of capacity held) status mid new
+    tells_held capacity held h =
+        let r = gathered.represents capacity held h in
+        subst (λ c. Tells (report_of c held) status mid new) r.0 (tells held r.1)
+
+    run : (capacity : ℕ) (held : List Record) → IsHeld capacity held old → Elapses old new (SendsPrefix old.sent (report_of capacity held) old)
+    run capacity held h =
+        let text = report_of capacity held in
+        sends_on (sends_longer [] text text refl (gathered.moments h.disk h.known held (covers_held h.holds))) text [] (append-nil text)
+        (subst (λ b. Elapses mid new (SendsPrefix b text mid)) (gathered.unsent capacity held h) (tells_held capacity held h).moments)
+
+    pub told_reported : Reported status old new
+    told_reported = record {
+      exact = λ capacity held h is.
+          (tells_held capacity held h).done is ∙ ap (λ b. append_known b (report_of capacity held)) (gathered.unsent capacity held h);
+      sound = λ disk known is. gathered.sound disk known;
+      moments = run;
+      part = λ capacity held h. part_of (report_of capacity held) (run capacity held h);
+      no_journal = λ is. absurd (told_at NoJournal is);
+      no_header = λ disk known missing.
+          let held = gathered.sound disk known in absurd (headed disk known held.2 missing);
+      unsent = λ is. absurd (told_at NoJournal is);
+      damaged = λ place is. absurd (told_at (Damaged place) is);
+      damage_is_told = λ capacity place before disk known damage has.
+          let held = gathered.sound disk known in absurd (lawful_undamaged (subst (λ d. IsDamagedAt capacity place before d) (same known held.2.known) damage) held.2.holds held.2.lawful);
+      damage_is_unsent = λ place disk is known. absurd (told_at (Damaged place) is);
+      disk = keeps.disk;
+      input = keeps.input;
+      asks = keeps.asks;
+      send_cause = λ is. rw (gathered.none.sending) at (told_at SendFault is);
+      disk_cause = λ is. absurd (told_at DiskFault is);
+      memory = λ is. faultless gathered.none (told_at NoMemory is);
+      kind = told_kind status told;
+      continues = keeps.continues;
+    }
+      where
+        same : {known : Option (List ℕ)} {a b : List ℕ} → known ≡ Some a → known ≡ Some b → a ≡ b
+        same first second = cc
+
+        headed : {capacity : ℕ} {held : List Record} (disk : List ℕ) → old.disk ≡ Some disk → IsHeld capacity held old → HasNoHeader disk → ⊥
+        headed {capacity} {held} disk known h missing = readable.header h.disk capacity held h.holds (subst HasNoHeader (same known h.known) missing)
+
+        told_kind : (s : Status) → IsTold s mid new → IsReport s
+        told_kind s t = grind arith
+
+-- The parts of the sending.
+
+-- nothing of a text was sent
+pub untold : (now : Outside) → ((image bytes : List ℕ) → now.leaves now.moment image bytes → Agrees now.sent bytes) → (text : List ℕ) → Tells text NoMemory now now
+untold now sent_now text = record { done = λ is. cc is; moments = widened (nothing now sent_now) (SendsPrefix now.sent text now) (sends_none text now) }
+
+-- a piece that is this text was sent
+module _ {old new : Outside} (piece text : List ℕ) (same : piece ≡ text) (run : Elapses old new (Sends piece old)) where
+  piece_moments : Elapses old new (SendsPrefix old.sent text old)
+  piece_moments = widened run _ (sends_prefix old.sent old piece text text (record { sent = []; known = sym (append_known-nil old.sent); whole = refl }) same)
+
+  pub told_all : new.sent ≡ append_known old.sent piece → Tells text Done old new
+  told_all sent = record { done = λ is. sent ∙ ap (append_known old.sent) same; moments = piece_moments }
+
+  pub told_in_part : Tells text SendFault old new
+  told_in_part = record { done = λ is. cc is; moments = piece_moments }

@@ -1,0 +1,44 @@
+-- The parts of telling what a journal holds.
+use Rattle.std.specs.Prelude.{◌≡◌, ℕ, List, Option, Some, None}
+use Rattle.std.specs.Io.KnownBytes.{append_known}
+use Rattle.host_core.specs.declared.status.Status.{Status}
+use Rattle.host_core.specs.declared.status.Status.TheVariants.{Done, SendFault, NoJournal, NoMemory}
+use Rattle.host_core.specs.Outside.{Outside, Elapses, Rose, NoFault}
+use Rattle.wire_in.specs.declared.record.Record.{Record}
+use Rattle.journal_core.specs.Scan.{HasNoHeader}
+use Rattle.engine_core.specs.EngineState.{Represents}
+use Rattle.engine_core.specs.Pending.{SendsPrefix}
+use Rattle.live_core.specs.Ends.{TellsNoJournal}
+use Rattle.live_core.specs.InternalRecovery.{HasDamage, Hinders, OnlyRecovers, SendsAgain}
+use Rattle.live_core.specs.Reported.{IsHeld}
+use Rattle.live_core.specs.declared.recovery.Recovery.{Recovery}
+
+-- a text was sent, as far as the status says
+pub record Tells (text : List ℕ) (status : Status) (old new : Outside) : Type 0 where
+  pub done : status ≡ Done → new.sent ≡ append_known old.sent text
+  pub moments : Elapses old new (SendsPrefix old.sent text old)
+
+-- how the sending ended
+abbrev pub IsTold : Status → Outside → Outside → Type 0
+IsTold Done old new = Unit {0}
+IsTold SendFault old new = Rose old.send_faults new.send_faults
+IsTold NoMemory old new = NoFault old new
+IsTold status old new = ⊥
+
+-- a journal was read to its end: what was read is the lawful list that the disk held, and nothing was sent
+pub record IsGathered (recovery : Recovery) (old new : Outside) : Type 0 where
+  pub sound : (disk : List ℕ) → old.disk ≡ Some disk → (capacity : ℕ) × (held : List Record) × IsHeld capacity held old
+  pub represents : (capacity : ℕ) (held : List Record) → IsHeld capacity held old
+      → (recovery.scan.capacity ≡ capacity) × Represents recovery.engine recovery.scan.capacity held held
+  pub unsent : (capacity : ℕ) (held : List Record) → IsHeld capacity held old → new.sent ≡ old.sent
+  pub moments : (disk : List ℕ) → old.disk ≡ Some disk → SendsAgain None old.sent disk old new
+  pub keeps : OnlyRecovers old new
+  pub none : NoFault old new
+
+-- a journal was not read to its end, for this reason, and nothing was sent
+pub record IsUngathered (status : Status) (old new : Outside) : Type 0 where
+  pub moments : (disk : List ℕ) → old.disk ≡ Some disk → SendsAgain None old.sent disk old new
+  pub no_header : (disk : List ℕ) → old.disk ≡ Some disk → HasNoHeader disk → TellsNoJournal status
+  pub unsent : status ≡ NoJournal → new.sent ≡ old.sent
+  pub keeps : OnlyRecovers old new
+  pub hinders : Hinders (λ at. (disk : List ℕ) → old.disk ≡ Some disk → HasDamage at disk) ((disk : List ℕ) → old.disk ≡ Some disk → HasNoHeader disk) (Unit {0}) status old new

@@ -1,0 +1,79 @@
+-- What a journal holds, told in five lines, and what the command that tells it did, whatever its answer.
+use Rattle.std.specs.Prelude.{◌≡◌, ◌≢◌, ◌⊎◌, ℕ, List, [], ◌∷◌, ◌++◌, length, Option, Some, None, codes, decimal}
+use Rattle.std.specs.Io.KnownBytes.{append_known}
+use Rattle.host_core.specs.declared.status.Status.{Status}
+use Rattle.host_core.specs.declared.status.Status.TheVariants.{Done, SendFault, DiskFault, Damaged, NoJournal, NoMemory}
+use Rattle.host_core.specs.Outside.{Outside, Elapses, Rose, NoFault, Continues}
+use Rattle.session_core.specs.Dates.{text_of}
+use Rattle.session_core.specs.declared.day.Day.{Day}
+use Rattle.wire_in.specs.declared.record.Record.{Record}
+use Rattle.journal_core.specs.Layout.{Holds}
+use Rattle.journal_core.specs.Scan.{HasNoHeader}
+use Rattle.rulebook.specs.Admission.{IsLawful, last_day, names}
+use Rattle.rulebook.specs.Book.{messages_of}
+use Rattle.engine_core.specs.Pending.{SendsPrefix, SentPrefix}
+use Rattle.live_core.specs.Damage.{IsDamagedAt}
+use Rattle.live_core.specs.Ends.{TellsNoJournal, TellsDamage}
+
+-- a word and a value, with a blank between them, and a newline (10)
+abbrev pub line : List ℕ → List ℕ → List ℕ
+line word value = word ++ codes " " ++ value ++ 10 ∷ []
+
+-- a date, or none
+abbrev pub day_word : Option Day → List ℕ
+day_word None = codes "none"
+day_word (Some day) = text_of day.date
+
+-- Of a journal of this capacity that holds these records, the newest first: how many they are, how many messages they gave,
+-- the capacity, the last day, and how many names were ever listed.
+abbrev pub report_of : ℕ → List Record → List ℕ
+report_of capacity held =
+    line (codes "inputs") (decimal (length held))
+    ++ line (codes "messages") (decimal (length (messages_of held)))
+    ++ line (codes "limit") (decimal capacity)
+    ++ line (codes "day") (day_word (last_day held))
+    ++ line (codes "names") (decimal (length (names held)))
+
+-- the disk holds this lawful list
+pub record IsHeld (capacity : ℕ) (held : List Record) (now : Outside) : Type 0 where
+  pub disk : List ℕ
+  pub known : now.disk ≡ Some disk
+  pub holds : Holds disk capacity held
+  pub lawful : IsLawful capacity held
+
+-- the answers of the command
+abbrev pub IsReport : Status → Type 0
+IsReport Done = Unit {0}
+IsReport SendFault = Unit {0}
+IsReport DiskFault = Unit {0}
+IsReport (Damaged at) = Unit {0}
+IsReport NoJournal = Unit {0}
+IsReport NoMemory = Unit {0}
+IsReport _ = ⊥
+
+-- a journal was told of
+pub record Reported (status : Status) (old new : Outside) : Type 0 where
+  -- where all went well, exactly the five lines were sent, and the disk held a lawful list
+  pub exact : (capacity : ℕ) (held : List Record) → IsHeld capacity held old → status ≡ Done → new.sent ≡ append_known old.sent (report_of capacity held)
+  pub sound : (disk : List ℕ) → old.disk ≡ Some disk → status ≡ Done → (capacity : ℕ) × (held : List Record) × IsHeld capacity held old
+  -- whenever the run is stopped, and at its end, a prefix of them was sent, and what the disk may be left with is as before
+  pub moments : (capacity : ℕ) (held : List Record) → IsHeld capacity held old → Elapses old new (SendsPrefix old.sent (report_of capacity held) old)
+  pub part : (capacity : ℕ) (held : List Record) → IsHeld capacity held old → SentPrefix old.sent new.sent (report_of capacity held)
+  -- where no header stands it is told, unless the disk fails or memory is short, and nothing is sent
+  pub no_journal : status ≡ NoJournal → (disk : List ℕ) → old.disk ≡ Some disk → HasNoHeader disk
+  pub no_header : (disk : List ℕ) → old.disk ≡ Some disk → HasNoHeader disk → TellsNoJournal status
+  pub unsent : status ≡ NoJournal → new.sent ≡ old.sent
+  -- damage is told at the gate of the first batch that has no form or holds a record that may not follow, and nothing is sent
+  pub damaged : (at : ℕ) → status ≡ Damaged at → (disk : List ℕ) → old.disk ≡ Some disk → (capacity : ℕ) × (before : List Record) × IsDamagedAt capacity at before disk
+  pub damage_is_told : (capacity at : ℕ) (before : List Record) (disk : List ℕ) → old.disk ≡ Some disk → IsDamagedAt capacity at before disk → ¬ HasNoHeader disk → TellsDamage at status
+  pub damage_is_unsent : (at : ℕ) (disk : List ℕ) → status ≡ Damaged at → old.disk ≡ Some disk → new.sent ≡ old.sent
+  -- whatever the answer, nothing is written, and no input is read
+  pub disk : new.disk ≡ old.disk
+  pub input : new.input ≡ old.input
+  pub asks : new.asks ≡ old.asks
+  -- a fault is told only where the host met one, and want of memory only where it met none
+  pub send_cause : status ≡ SendFault → Rose old.send_faults new.send_faults
+  pub disk_cause : status ≡ DiskFault → Rose old.disk_faults new.disk_faults
+  pub memory : status ≡ NoMemory → NoFault old new
+  pub kind : IsReport status
+  pub continues : Continues old new

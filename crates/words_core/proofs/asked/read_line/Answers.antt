@@ -1,0 +1,32 @@
+use Rattle.std.proofs.Common.{◌≡◌, ◌∙◌, true, sym, ap, subst, refl, map, List, ℕ}
+use Rattle.std.specs.Borrow.{Bor}
+use Rattle.clap.specs.Words.{App, HasKind, Text, app_of, fault_of, is_simple, is_simple_and_free, subcommand_of}
+use Rattle.clap.proofs.OnLiterals.{clap_on_literals}
+use Rattle.words_core.specs.Line.{halts_line}
+use Rattle.words_core.specs.Asked.{Gives, command_found}
+use Rattle.words_core.proofs.Asking.{told, given}
+use Rattle.words_core.proofs.asked.read_line.Goals as goal
+
+is_free : (kinds : Bor (List (Bor Text))) → is_simple_and_free (halts_line kinds) ≡ true
+unfolding clap_on_literals
+is_free kinds = refl
+
+is_plain : (kinds : Bor (List (Bor Text))) → is_simple (halts_line kinds) ≡ true
+unfolding clap_on_literals
+is_plain kinds = refl
+
+pub returns-in-Ok-try_get_matches_from-clause-allowed : goal.returns-in-Ok-try_get_matches_from-clause-allowed
+returns-in-Ok-try_get_matches_from-clause-allowed c =
+    let words = map (λ w. w.now) c.args.words.now in
+    let line = c.in-Ok.ensures.app in
+    let none = c.in-Ok-try_get_matches_from.ensures.kinds (ap is_simple_and_free line ∙ is_free c.args.kinds) in
+    let found = (c.in-Ok-try_get_matches_from.ensures.matches (ap is_simple line ∙ is_plain c.args.kinds)).1 in
+    given _ _ c.command_asked.result (sym (ap (λ a. fault_of a words) line) ∙ none)
+    (subst (λ s. Gives (command_found s) c.command_asked.result) (found ∙ ap (λ a. subcommand_of a words) line) c.command_asked.ensures.asked)
+
+pub returns-in-Err-clause-allowed : goal.returns-in-Err-clause-allowed
+returns-in-Err-clause-allowed c =
+    let words = map (λ w. w.now) c.args.words.now in
+    let line = c.in-Ok.ensures.app in
+    let has = c.in-Err.ensures.kinds (ap is_simple_and_free line ∙ is_free c.args.kinds) in
+    told _ _ c.in-Err.error c.answer_to.result (subst (λ a. HasKind (fault_of a words) c.in-Err.error) line has) c.answer_to.ensures

@@ -1,0 +1,17 @@
+use Rattle.std.proofs.Common.{◌≡◌, ◌∙◌, ap, ap₂}
+use Rattle.std.proofs.lemmas.Result.{IfOk-weaker}
+use Rattle.clap.specs.Words.{App, app_of, with_subcommand}
+use Rattle.words_core.specs.Line.{program, format_line, serve_line, replay_line}
+use Rattle.words_core.proofs.line.with_sessions.Goals as goal
+
+pub returns-clause-app : goal.returns-clause-app
+returns-clause-app c =
+    let top = λ (a : App). a.top in
+    let first = c.in_ok-halts-2.ensures.app ∙ ap₂ with_subcommand c.in_ok-halts.ensures.app (ap top c.in_ok-format_line.ensures.app) in
+    let second = c.in_ok-halts-3.ensures.app ∙ ap₂ with_subcommand first (ap top c.in_ok-serve_line.ensures.app) in
+    let third = c.in_ok-halts-4.ensures.app ∙ ap₂ with_subcommand second (ap top c.in_ok-replay_line.ensures.app) in
+    IfOk-weaker c.with_command-4.result _ _ (λ line is. is ∙ ap₂ with_subcommand third (ap top c.command.ensures.app)) c.with_command-4.ensures.app
+
+pub returns-clause-local : goal.returns-clause-local
+returns-clause-local c =
+    c.with_command-4.ensures.local (c.in_ok-halts-4.ensures.local (c.in_ok-halts-3.ensures.local (c.in_ok-halts-2.ensures.local c.in_ok-halts.ensures.local)))

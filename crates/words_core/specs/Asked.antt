@@ -1,0 +1,97 @@
+-- What words ask for: a plain line for its command, and other words for what `clap` makes of the command line.
+use Rattle.std.specs.Prelude.{◌≡◌, ◌≢◌, ◌⊎◌, ℕ, Bool, true, false, List, [], Option, Some, None, Result, Ok, Err, if◌then◌else◌, codes, option_map, option_and_then}
+use Rattle.std.specs.Str.{bytes_eq}
+use Rattle.clap.specs.Words.{Kinds, IsAmong, Row, Text, fault_of, first_of, subcommand_of}
+use Rattle.clap.specs.declared.error.kind.ErrorKind.{ErrorKind}
+use Rattle.clap.specs.declared.error.kind.ErrorKind.TheVariants.{DisplayHelp, DisplayVersion, OutOfMemory}
+use Rattle.text_core.specs.declared.kind.Kind.{Kind}
+use Rattle.words_core.specs.Commands.{verb_of, kind_of, IsInRange}
+use Rattle.words_core.specs.Numbers.{numeral_in}
+use Rattle.words_core.specs.Line.{CommandLine, app_of_line}
+use Rattle.words_core.specs.declared.asked.Asked.{Asked}
+use Rattle.words_core.specs.declared.asked.Asked.TheVariants as asked
+use Rattle.words_core.specs.declared.asked.WordsError.{WordsError}
+use Rattle.words_core.specs.declared.asked.WordsError.TheVariants.{Usage, NoMemory}
+use Rattle.words_core.specs.declared.command.Command.{Command}
+use Rattle.words_core.specs.declared.command.Command.TheVariants as commands
+use Rattle.words_core.specs.declared.command.Verb.{Verb}
+use Rattle.words_core.specs.declared.command.Verb.TheVariants.{Format, Serve, Replay, Status, Print, Pack, Generate}
+
+-- the number of an option
+abbrev pub number_of : ℕ → ℕ → Text → List Row → Option ℕ
+number_of least most id rows = option_and_then (numeral_in least most) (first_of id rows)
+
+-- the number of an option without a default: none where it was not given
+abbrev pub number_if_given : ℕ → ℕ → Option Text → Option (Option ℕ)
+number_if_given least most None = Some None
+number_if_given least most (Some word) = option_map (λ n. Some n) (numeral_in least most word)
+
+abbrev pub bytes_in : List Row → Option ℕ
+bytes_in = number_of 1 1099511627776 (codes "bytes")
+
+abbrev pub kind_in : List Row → Option Kind
+kind_in rows = option_and_then kind_of (first_of (codes "kind") rows)
+
+abbrev pub is_given : Option Text → Bool
+is_given None = false
+is_given (Some word) = bytes_eq word (codes "true")
+
+-- the command of a name, with the options that `clap` found
+abbrev pub command_from : Verb → List Row → Option Command
+command_from Format rows = option_map (λ limit. commands.Format limit) (number_of 1 2000000000 (codes "limit") rows)
+command_from Serve rows =
+    option_and_then (λ from. option_map (λ bytes. commands.Serve from bytes) (bytes_in rows))
+    (number_if_given 1 18446744073709551615 (first_of (codes "from") rows))
+command_from Replay rows = option_map (λ bytes. commands.Replay bytes) (bytes_in rows)
+command_from Status rows = Some commands.Status
+command_from Print rows = option_map (λ kind. commands.Print kind) (kind_in rows)
+command_from Pack rows = option_map (λ kind. commands.Pack kind) (kind_in rows)
+command_from Generate rows =
+    option_and_then (λ seed. option_and_then (λ symbols. option_map (λ records. commands.Generate seed symbols records (is_given (first_of (codes "summary") rows)))
+    (number_of 0 100000000 (codes "records") rows)) (number_of 1 16384 (codes "symbols") rows))
+    (number_of 0 18446744073709551615 (codes "seed") rows)
+
+abbrev pub command_found : Option (Text × List Row) → Option Command
+command_found found = option_and_then (λ p. option_and_then (λ verb. command_from verb p.1) (verb_of p.0)) found
+
+-- a text is asked for: the help or the version
+abbrev pub asks_for_text : ErrorKind → Bool
+asks_for_text DisplayHelp = true
+asks_for_text DisplayVersion = true
+asks_for_text kind = false
+
+-- a kind of error of these asks for a text, or refuses the words
+abbrev pub SomeKind : Bool → Kinds → Type 0
+SomeKind asks kinds = (kind : ErrorKind) × IsAmong kind kinds × (asks_for_text kind ≡ asks)
+
+-- What may be answered, where the words may have errors of these kinds, and ask for this command where they have none. Memory
+-- may be short in any case.
+abbrev pub Allows : Kinds → Option Command → Result Asked WordsError → Type 0
+Allows kinds command (Ok (asked.Command c)) = (kinds ≡ []) × (command ≡ Some c)
+Allows kinds command (Ok (asked.Text text)) = SomeKind true kinds
+Allows kinds command (Err Usage) = SomeKind false kinds ⊎ ((kinds ≡ []) × (command ≡ None))
+Allows kinds command (Err NoMemory) = Unit {0}
+
+-- what a kind of error comes to
+abbrev pub Tells : ErrorKind → Result Asked WordsError → Type 0
+Tells kind (Ok (asked.Command c)) = ⊥
+Tells kind (Ok (asked.Text text)) = asks_for_text kind ≡ true
+Tells kind (Err Usage) = (asks_for_text kind ≡ false) × (kind ≢ OutOfMemory)
+Tells kind (Err NoMemory) = Unit {0}
+
+-- what a line comes to that has no error
+abbrev pub Gives : Option Command → Result Asked WordsError → Type 0
+Gives command (Ok (asked.Command c)) = command ≡ Some c
+Gives command (Ok (asked.Text text)) = ⊥
+Gives command (Err Usage) = command ≡ None
+Gives command (Err NoMemory) = ⊥
+
+-- words that are no plain line are answered as the command line says
+pub record Reads (words : List Text) (answer : Result Asked WordsError) : Type 0 where
+  pub line : CommandLine
+  pub allowed : Allows (fault_of (app_of_line line) words) (command_found (subcommand_of (app_of_line line) words)) answer
+
+-- the numbers of a command that is asked for are in their ranges
+abbrev pub IsAskedInRange : Asked → Type 0
+IsAskedInRange (asked.Command command) = IsInRange command
+IsAskedInRange (asked.Text text) = Unit {0}

@@ -1,0 +1,38 @@
+-- The names of commands and kinds, and the ranges of a command's numbers.
+use Rattle.std.specs.Prelude.{ℕ, ◌≤◌, List, Option, Some, None, IfSome, if◌then◌else◌, codes}
+use Rattle.std.specs.Str.{bytes_eq}
+use Rattle.text_core.specs.declared.kind.Kind.{Kind}
+use Rattle.text_core.specs.declared.kind.Kind.TheVariants.{Records, Published}
+use Rattle.words_core.specs.declared.command.Command.{Command}
+use Rattle.words_core.specs.declared.command.Command.TheVariants as commands
+use Rattle.words_core.specs.declared.command.Verb.{Verb}
+use Rattle.words_core.specs.declared.command.Verb.TheVariants.{Format, Serve, Replay, Status, Print, Pack, Generate}
+
+-- the command of a name
+abbrev pub verb_of : List ℕ → Option Verb
+verb_of word =
+    if bytes_eq word (codes "format") then Some Format
+    else if bytes_eq word (codes "serve") then Some Serve
+    else if bytes_eq word (codes "replay") then Some Replay
+    else if bytes_eq word (codes "status") then Some Status
+    else if bytes_eq word (codes "print") then Some Print
+    else if bytes_eq word (codes "pack") then Some Pack
+    else if bytes_eq word (codes "generate") then Some Generate
+    else None
+
+-- the kind of a name
+abbrev pub kind_of : List ℕ → Option Kind
+kind_of word =
+    if bytes_eq word (codes "records") then Some Records
+    else if bytes_eq word (codes "published") then Some Published
+    else None
+
+-- the numbers of a command are in their ranges
+abbrev pub IsInRange : Command → Type 0
+IsInRange (commands.Format limit) = (1 ≤ limit) × (limit ≤ 2000000000)
+IsInRange (commands.Serve from bytes) = IfSome from (λ n. 1 ≤ n) × (1 ≤ bytes) × (bytes ≤ 1099511627776)
+IsInRange (commands.Replay bytes) = (1 ≤ bytes) × (bytes ≤ 1099511627776)
+IsInRange commands.Status = Unit {0}
+IsInRange (commands.Print kind) = Unit {0}
+IsInRange (commands.Pack kind) = Unit {0}
+IsInRange (commands.Generate seed symbols records summary) = (1 ≤ symbols) × (symbols ≤ 16384) × (records ≤ 100000000)

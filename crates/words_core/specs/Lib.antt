@@ -1,0 +1,5 @@
+pub mod Commands
+pub mod Numbers
+pub mod Plain
+pub mod Line
+pub mod Asked

@@ -1,0 +1,81 @@
+-- The command line: its commands, their options, and the range and default of each number, as the crate that reads other
+-- lines than plain ones takes them.
+use Rattle.std.specs.Prelude.{◌≡◌, ℕ, true, List, [], ◌∷◌, Some, codes, map}
+use Rattle.std.specs.Borrow.{Bor}
+use Rattle.clap.specs.Words.{App, Rule, Text, new_app, new_rule, with_rule, with_subcommand}
+use Rattle.clap.specs.Simple.{on_top}
+use Rattle.clap.specs.declared.builder.action.ArgAction.TheVariants.{SetTrue}
+use Rattle.clap.specs.declared.builder.value_parser.ValueParser.{ValueParser}
+use Rattle.clap.specs.declared.builder.value_parser.ValueParser.TheVariants.{Unsigned, Names}
+
+-- an option `--name` with one value
+abbrev pub valued : Text → ValueParser → Rule
+valued name parser = record (new_rule name) { long = Some name; value_names = 1; parser = Some parser }
+
+-- an option `--name` with a number in a range
+abbrev pub number_option : Text → ℕ → ℕ → Rule
+number_option name least most = valued name (Unsigned least most)
+
+abbrev pub with_default : Text → Rule → Rule
+with_default value rule = record rule { defaults = value ∷ [] }
+
+abbrev pub bytes_option : Rule
+bytes_option = with_default (codes "1099511627776") (number_option (codes "bytes") 1 1099511627776)
+
+-- `--kind` is required, and its value is one of these words
+abbrev pub kind_option : Bor (List (Bor Text)) → Rule
+kind_option kinds = record (valued (codes "kind") (Names kinds)) { required = true }
+
+-- `--summary` has no value
+abbrev pub summary_option : Rule
+summary_option = record (new_rule (codes "summary")) { long = Some (codes "summary"); action = Some SetTrue }
+
+abbrev pub format_line : App
+format_line = with_rule (new_app (codes "format")) (with_default (codes "100000000") (number_option (codes "limit") 1 2000000000))
+
+abbrev pub serve_line : App
+serve_line = with_rule (with_rule (new_app (codes "serve")) (number_option (codes "from") 1 18446744073709551615)) bytes_option
+
+abbrev pub replay_line : App
+replay_line = with_rule (new_app (codes "replay")) bytes_option
+
+abbrev pub status_line : App
+status_line = new_app (codes "status")
+
+-- `print` and `pack`
+abbrev pub text_line : Text → Bor (List (Bor Text)) → App
+text_line name kinds = with_rule (new_app name) (kind_option kinds)
+
+abbrev pub seed_option : Rule
+seed_option = with_default (codes "1") (number_option (codes "seed") 0 18446744073709551615)
+
+abbrev pub symbols_option : Rule
+symbols_option = with_default (codes "500") (number_option (codes "symbols") 1 16384)
+
+abbrev pub records_option : Rule
+records_option = with_default (codes "400000") (number_option (codes "records") 0 100000000)
+
+abbrev pub generate_line : App
+generate_line = with_rule (with_rule (with_rule (with_rule (new_app (codes "generate")) seed_option) symbols_option) records_option) summary_option
+
+-- the program, of which one command is required; the words do not begin with its own name
+abbrev pub program : App
+program = on_top (λ s. record s { no_binary_name = true; has_version = true; subcommand_required = true }) (new_app (codes "halts"))
+
+-- the program with the commands that a journal has
+abbrev pub with_sessions : App
+with_sessions =
+    with_subcommand (with_subcommand (with_subcommand (with_subcommand program format_line.top) serve_line.top) replay_line.top) status_line.top
+
+-- the whole command line
+abbrev pub halts_line : Bor (List (Bor Text)) → App
+halts_line kinds =
+    with_subcommand (with_subcommand (with_subcommand with_sessions (text_line (codes "print") kinds).top) (text_line (codes "pack") kinds).top) generate_line.top
+
+-- the command line, wherever the two words of its kinds stand
+pub record CommandLine : Type 0 where
+  pub kinds : Bor (List (Bor Text))
+  pub words : map (λ word. word.now) kinds.now ≡ codes "records" ∷ codes "published" ∷ []
+
+abbrev pub app_of_line : CommandLine → App
+app_of_line line = halts_line line.kinds

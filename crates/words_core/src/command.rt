@@ -1,0 +1,87 @@
+//! A command with its options.
+
+use text_core::Kind;
+
+/// What the words of a process ask for.
+#[derive(Clone, Copy, Debug, PartialEq, Eq)]
+pub enum Command {
+    /// Makes an empty journal that takes so many records, from 1 to 2,000,000,000.
+    Format {
+        limit: u64,
+    },
+    /// Serves a session that sends the messages from a number on again, where one is given, and reads so many bytes at
+    /// most, from 1 to 1,099,511,627,776.
+    Serve {
+        from: Option<u64>,
+        bytes: u64,
+    },
+    /// Replays the input, up to so many bytes.
+    Replay {
+        bytes: u64,
+    },
+    /// Tells what a journal holds.
+    Status,
+    /// Prints a line for each frame of the input.
+    Print {
+        kind: Kind,
+    },
+    /// Packs a frame for each line of the input.
+    Pack {
+        kind: Kind,
+    },
+    /// Generates a day of a seed with so many symbols, from 1 to 16,384, and so many records behind their listings, up to
+    /// 100,000,000; or tells counts of it alone.
+    Generate {
+        seed: u64,
+        symbols: u32,
+        records: u32,
+        summary: bool,
+    },
+}
+
+/// The name of a command.
+#[derive(Clone, Copy, Debug, PartialEq, Eq)]
+pub enum Verb {
+    Format,
+    Serve,
+    Replay,
+    Status,
+    Print,
+    Pack,
+    Generate,
+}
+
+impl Verb {
+    ghost use Rattle.std.specs.Prelude.{◌≡◌};
+    ghost use Rattle.words_core.specs.Commands.{verb_of};
+
+    /// The command of this name.
+    pub fn of(word: &str) -> Option<Verb>
+        ensures { result ≡ verb_of word.now }
+    {
+        match word {
+            "format" => Some(Verb::Format),
+            "serve" => Some(Verb::Serve),
+            "replay" => Some(Verb::Replay),
+            "status" => Some(Verb::Status),
+            "print" => Some(Verb::Print),
+            "pack" => Some(Verb::Pack),
+            "generate" => Some(Verb::Generate),
+            _ => None,
+        }
+    }
+}
+
+ghost use Rattle.std.specs.Prelude.{◌≡◌};
+ghost use Rattle.words_core.specs.Commands.{kind_of};
+
+/// The kind of this name.
+pub fn kind_of(word: &str) -> Option<Kind>
+    ensures { result ≡ kind_of word.now }
+{
+    match word {
+        "records" => Some(Kind::Records),
+        "published" => Some(Kind::Published),
+        _ => None,
+    }
+}

@@ -1,0 +1,15 @@
+//! The command line: what the words of a process ask for.
+#![tactic(auto)]
+
+mod asked;
+mod command;
+mod line;
+mod number;
+mod options;
+mod plain;
+mod rows;
+#[cfg(test)]
+mod tests;
+
+pub use asked::{Asked, WordsError, parse};
+pub use command::Command;

@@ -1,0 +1,263 @@
+//! The command line as `clap` takes it.
+
+ghost use Rattle.std.specs.Prelude.{◌≡◌, IfOk, codes, false};
+ghost use Rattle.clap.specs.Words.{App, Rule, app_of, rule_of, new_app, with_rule, with_subcommand, shape_of};
+ghost use Rattle.clap.specs.declared.builder.command.Command.TheViews.{out-Command as fields_of};
+ghost use Rattle.words_core.specs.Line.{number_option, with_default, bytes_option, kind_option, summary_option, format_line, serve_line, replay_line, status_line, text_line, seed_option, symbols_option, records_option, generate_line, program, with_sessions, halts_line};
+
+use clap::builder::ValueParser;
+use clap::{Arg, ArgAction, Command};
+use std::alloc::{AllocError, Global};
+
+/// An option with a number in a range.
+fn number_option<'a>(alloc: Global, name: &'a str, least: u64, most: u64, help: &'a str) -> Arg<'a>
+    ensures rule { rule_of result ≡ number_option name.entry.now least most }
+    ensures local { result.global ≡ false }
+{
+    Arg::new(alloc, name)
+        .long(name)
+        .value_name("N")
+        .value_parser(ValueParser::unsigned(least, most))
+        .help(help)
+}
+
+fn bytes_option<'a>(alloc: Global) -> Arg<'a>
+    ensures rule { rule_of result ≡ bytes_option }
+    ensures local { result.global ≡ false }
+{
+    number_option(
+        alloc,
+        "bytes",
+        1,
+        1_099_511_627_776,
+        "How many bytes of the input are read at most, from 1 to 1099511627776",
+    )
+    .default_value("1099511627776")
+}
+
+fn kind_option<'a>(alloc: Global, kinds: &'a [&'a str]) -> Arg<'a>
+    ensures rule { rule_of result ≡ kind_option kinds.entry }
+    ensures local { result.global ≡ false }
+{
+    Arg::new(alloc, "kind")
+        .long("kind")
+        .value_name("KIND")
+        .value_parser(kinds)
+        .required(true)
+        .help("What the lines are of")
+}
+
+/// A command without options.
+fn command<'a>(alloc: Global, name: &'a str, about: &'a str) -> Command<'a>
+    ensures app { app_of result ≡ new_app name.entry.now }
+    ensures local { (fields_of result).has_globals ≡ false }
+{
+    Command::new(alloc, name).about(about)
+}
+
+/// A command with one option more.
+fn with_option<'a>(command: Command<'a>, option: Arg<'a>) -> Result<Command<'a>, AllocError>
+    requires option { option.global ≡ false }
+    ensures app { IfOk result (λ c. app_of c ≡ with_rule (app_of command.entry) (rule_of option.entry)) }
+    ensures local { (fields_of command.entry).has_globals ≡ false → IfOk result (λ c. (fields_of c).has_globals ≡ false) }
+{
+    command.arg(option)
+}
+
+/// A program with one command more.
+fn with_command<'a>(program: Command<'a>, command: Command<'a>) -> Result<Command<'a>, AllocError>
+    requires command { (fields_of command).has_globals ≡ false }
+    ensures app { IfOk result (λ c. app_of c ≡ with_subcommand (app_of program.entry) (app_of command.entry).top) }
+    ensures local { (fields_of program.entry).has_globals ≡ false → IfOk result (λ c. (fields_of c).has_globals ≡ false) }
+{
+    program.subcommand(command)
+}
+
+fn format_line<'a>(alloc: Global) -> Result<Command<'a>, AllocError>
+    ensures app { IfOk result (λ c. app_of c ≡ format_line) }
+    ensures local { IfOk result (λ c. (fields_of c).has_globals ≡ false) }
+{
+    let limit = number_option(
+        alloc,
+        "limit",
+        1,
+        2_000_000_000,
+        "How many records the journal takes, from 1 to 2000000000",
+    )
+    .default_value("100000000");
+    with_option(
+        command(
+            alloc,
+            "format",
+            "Makes an empty journal, over what stands there",
+        ),
+        limit,
+    )
+}
+
+fn serve_line<'a>(alloc: Global) -> Result<Command<'a>, AllocError>
+    ensures app { IfOk result (λ c. app_of c ≡ serve_line) }
+    ensures local { IfOk result (λ c. (fields_of c).has_globals ≡ false) }
+{
+    let from = number_option(
+        alloc,
+        "from",
+        1,
+        u64::MAX,
+        "The number from which on messages are sent again, from 1 to 18446744073709551615; none if not given",
+    );
+    let serve = with_option(
+        command(
+            alloc,
+            "serve",
+            "Answers the frames of the input over the journal",
+        ),
+        from,
+    )?;
+    with_option(serve, bytes_option(alloc))
+}
+
+fn replay_line<'a>(alloc: Global) -> Result<Command<'a>, AllocError>
+    ensures app { IfOk result (λ c. app_of c ≡ replay_line) }
+    ensures local { IfOk result (λ c. (fields_of c).has_globals ≡ false) }
+{
+    with_option(
+        command(
+            alloc,
+            "replay",
+            "Sends the messages of the frames of the input, without a journal",
+        ),
+        bytes_option(alloc),
+    )
+}
+
+fn text_line<'a>(
+    alloc: Global,
+    name: &'a str,
+    about: &'a str,
+    kinds: &'a [&'a str],
+) -> Result<Command<'a>, AllocError>
+    ensures app { IfOk result (λ c. app_of c ≡ text_line name.entry.now kinds.entry) }
+    ensures local { IfOk result (λ c. (fields_of c).has_globals ≡ false) }
+{
+    with_option(command(alloc, name, about), kind_option(alloc, kinds))
+}
+
+fn seed_option<'a>(alloc: Global) -> Arg<'a>
+    ensures rule { rule_of result ≡ seed_option }
+    ensures local { result.global ≡ false }
+{
+    number_option(
+        alloc,
+        "seed",
+        0,
+        u64::MAX,
+        "The seed of the draws, from 0 to 18446744073709551615",
+    )
+    .default_value("1")
+}
+
+fn symbols_option<'a>(alloc: Global) -> Arg<'a>
+    ensures rule { rule_of result ≡ symbols_option }
+    ensures local { result.global ≡ false }
+{
+    number_option(
+        alloc,
+        "symbols",
+        1,
+        16_384,
+        "How many symbols are listed, from 1 to 16384",
+    )
+    .default_value("500")
+}
+
+fn records_option<'a>(alloc: Global) -> Arg<'a>
+    ensures rule { rule_of result ≡ records_option }
+    ensures local { result.global ≡ false }
+{
+    number_option(
+        alloc,
+        "records",
+        0,
+        100_000_000,
+        "How many records follow the listings, from 0 to 100000000",
+    )
+    .default_value("400000")
+}
+
+fn summary_option<'a>(alloc: Global) -> Arg<'a>
+    ensures rule { rule_of result ≡ summary_option }
+    ensures local { result.global ≡ false }
+{
+    Arg::new(alloc, "summary")
+        .long("summary")
+        .action(ArgAction::SetTrue)
+        .help("Tells counts of the day in place of its frames")
+}
+
+fn generate_line<'a>(alloc: Global) -> Result<Command<'a>, AllocError>
+    ensures app { IfOk result (λ c. app_of c ≡ generate_line) }
+    ensures local { IfOk result (λ c. (fields_of c).has_globals ≡ false) }
+{
+    let generate = command(alloc, "generate", "Sends the frames of a day for trials");
+    let generate = with_option(generate, seed_option(alloc))?;
+    let generate = with_option(generate, symbols_option(alloc))?;
+    let generate = with_option(generate, records_option(alloc))?;
+    with_option(generate, summary_option(alloc))
+}
+
+/// The program without its commands.
+fn program<'a>(alloc: Global) -> Result<Command<'a>, AllocError>
+    ensures app { IfOk result (λ c. app_of c ≡ program) }
+    ensures local { IfOk result (λ c. (fields_of c).has_globals ≡ false) }
+{
+    command(
+        alloc,
+        "halts",
+        "Trading halts of US equities over a live input and a journal",
+    )
+    .no_binary_name(true)
+    .version(VERSION)
+    .subcommand_required(true)
+    .bin_name("halts <journal>")
+}
+
+/// The version that `--version` tells.
+const VERSION: &str = "0.1.0";
+
+/// The program with the commands that a journal has.
+fn with_sessions<'a>(alloc: Global) -> Result<Command<'a>, AllocError>
+    ensures app { IfOk result (λ c. app_of c ≡ with_sessions) }
+    ensures local { IfOk result (λ c. (fields_of c).has_globals ≡ false) }
+{
+    let halts = program(alloc)?;
+    let halts = with_command(halts, format_line(alloc)?)?;
+    let halts = with_command(halts, serve_line(alloc)?)?;
+    let halts = with_command(halts, replay_line(alloc)?)?;
+    with_command(
+        halts,
+        command(alloc, "status", "Tells what the journal holds"),
+    )
+}
+
+/// The whole command line, with the words for kinds of lines.
+pub fn halts_line<'a>(alloc: Global, kinds: &'a [&'a str]) -> Result<Command<'a>, AllocError>
+    ensures app { IfOk result (λ c. app_of c ≡ halts_line kinds.entry) }
+{
+    let halts = with_sessions(alloc)?;
+    let print = text_line(
+        alloc,
+        "print",
+        "Prints a line for each frame of the input",
+        kinds,
+    )?;
+    let halts = with_command(halts, print)?;
+    let pack = text_line(
+        alloc,
+        "pack",
+        "Packs a frame for each line of the input",
+        kinds,
+    )?;
+    let halts = with_command(halts, pack)?;
+    with_command(halts, generate_line(alloc)?)
+}

@@ -1,0 +1,131 @@
+//! The command of a line that `clap` took.
+
+ghost use Rattle.std.specs.Prelude.{◌≡◌, IfSome, ◌≤◌, codes, option_map};
+ghost use Rattle.clap.specs.Words.{found_of, first_of, rows_of, subcommand_rows_of};
+ghost use Rattle.words_core.specs.Commands.{IsInRange};
+ghost use Rattle.words_core.specs.Asked.{number_of, number_if_given, bytes_in, kind_in, is_given, command_from, command_found};
+
+use crate::command::{Command, Verb, kind_of};
+use crate::number::numeral_in;
+use clap::ArgMatches;
+use text_core::Kind;
+
+/// The most bytes that one run reads.
+const BYTES_MAX: u64 = 1_099_511_627_776;
+
+/// The first value of an option, as text.
+fn text_of<'a>(found: &ArgMatches<'a>, id: &str) -> Option<&'a str>
+    ensures { option_map (λ s. s.now) result ≡ first_of id.now (rows_of (found_of found.now)) }
+{
+    found.get_str(id)
+}
+
+fn number_of(found: &ArgMatches<'_>, id: &str, least: u64, most: u64) -> Option<u64>
+    ensures exact { result ≡ number_of least most id.now (rows_of (found_of found.now)) }
+    ensures range { IfSome result (λ n. (least ≤ n) × (n ≤ most)) }
+{
+    match text_of(found, id) {
+        Some(word) => numeral_in(word.as_bytes(), least, most),
+        None => None,
+    }
+}
+
+/// The number of `--from`; none inside where it was not given.
+fn from_of(found: &ArgMatches<'_>) -> Option<Option<u64>>
+    ensures exact { result ≡ number_if_given 1 18446744073709551615 (first_of (codes "from") (rows_of (found_of found.now))) }
+    ensures range { IfSome result (λ from. IfSome from (λ n. 1 ≤ n)) }
+{
+    match text_of(found, "from") {
+        Some(word) => match numeral_in(word.as_bytes(), 1, u64::MAX) {
+            Some(from) => Some(Some(from)),
+            None => None,
+        },
+        None => Some(None),
+    }
+}
+
+fn kind_in(found: &ArgMatches<'_>) -> Option<Kind>
+    ensures { result ≡ kind_in (rows_of (found_of found.now)) }
+{
+    match text_of(found, "kind") {
+        Some(word) => kind_of(word),
+        None => None,
+    }
+}
+
+fn is_given(found: &ArgMatches<'_>, id: &str) -> bool
+    ensures { result ≡ is_given (first_of id.now (rows_of (found_of found.now))) }
+{
+    match text_of(found, id) {
+        Some(word) => word == "true",
+        None => false,
+    }
+}
+
+fn format_of(found: &ArgMatches<'_>) -> Option<Command>
+    ensures exact { result ≡ command_from Verb.Format (rows_of (found_of found.now)) }
+    ensures range { IfSome result IsInRange }
+{
+    let limit = number_of(found, "limit", 1, 2_000_000_000)?;
+    Some(Command::Format { limit })
+}
+
+fn serve_of(found: &ArgMatches<'_>) -> Option<Command>
+    ensures exact { result ≡ command_from Verb.Serve (rows_of (found_of found.now)) }
+    ensures range { IfSome result IsInRange }
+{
+    let from = from_of(found)?;
+    let bytes = number_of(found, "bytes", 1, BYTES_MAX)?;
+    Some(Command::Serve { from, bytes })
+}
+
+fn replay_of(found: &ArgMatches<'_>) -> Option<Command>
+    ensures exact { result ≡ command_from Verb.Replay (rows_of (found_of found.now)) }
+    ensures range { IfSome result IsInRange }
+{
+    let bytes = number_of(found, "bytes", 1, BYTES_MAX)?;
+    Some(Command::Replay { bytes })
+}
+
+fn generate_of(found: &ArgMatches<'_>) -> Option<Command>
+    ensures exact { result ≡ command_from Verb.Generate (rows_of (found_of found.now)) }
+    ensures range { IfSome result IsInRange }
+{
+    let seed = number_of(found, "seed", 0, u64::MAX)?;
+    let symbols = number_of(found, "symbols", 1, 16_384)?;
+    let records = number_of(found, "records", 0, 100_000_000)?;
+    Some(Command::Generate {
+        seed,
+        symbols: symbols as u32,
+        records: records as u32,
+        summary: is_given(found, "summary"),
+    })
+}
+
+fn command_from(verb: Verb, found: &ArgMatches<'_>) -> Option<Command>
+    ensures exact { result ≡ command_from verb (rows_of (found_of found.now)) }
+    ensures range { IfSome result IsInRange }
+{
+    match verb {
+        Verb::Format => format_of(found),
+        Verb::Serve => serve_of(found),
+        Verb::Replay => replay_of(found),
+        Verb::Status => Some(Command::Status),
+        Verb::Print => Some(Command::Print {
+            kind: kind_in(found)?,
+        }),
+        Verb::Pack => Some(Command::Pack {
+            kind: kind_in(found)?,
+        }),
+        Verb::Generate => generate_of(found),
+    }
+}
+
+/// The command of a line that was taken.
+pub fn command_found(found: &ArgMatches<'_>) -> Option<Command>
+    ensures exact { result ≡ command_found (subcommand_rows_of found.now) }
+    ensures range { IfSome result IsInRange }
+{
+    let (name, options) = found.subcommand()?;
+    command_from(Verb::of(name)?, options)
+}
