@@ -21,7 +21,7 @@ use std::thread::Threads;
 const BYTES_MAX: u64 = 1_099_511_627_776;
 
 /// How many frames are judged before they are answered.
-const FRAMES: usize = 1;
+const FRAMES: usize = 64;
 
 /// What a replay is told.
 #[derive(Clone, Copy, Debug, PartialEq, Eq)]
