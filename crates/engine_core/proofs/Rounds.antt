@@ -1,10 +1,13 @@
 -- The outcomes of a round, and the records that it accepts.
-use Rattle.std.proofs.Common.{◌≡◌, ℕ, ◌≤◌, List, [], ◌∷◌, ◌++◌, length, refl, ap, ◌∙◌, append_assoc, arith}
+use Rattle.std.proofs.Common.{◌≡◌, ℕ, ◌≤◌, List, [], ◌∷◌, ◌++◌, length, refl, sym, ap, ◌∙◌, append_assoc, arith}
 use Rattle.std.specs.Prelude.{Option, Some, None, Result, Ok, Err}
 use Rattle.std.proofs.lemmas.List.{reverse-append}
 use Rattle.wire_in.specs.declared.record.Record.{Record}
 use Rattle.wire_in.specs.declared.record.Refusal.{Refusal}
 use Rattle.wire_in.specs.Reading.{record_of}
+use Rattle.wire_in.specs.Cutting.{bodies_of, rest_of}
+use Rattle.wire_in.proofs.Cuts.{bodies_of-append, rest_of-append, cut_framed}
+use Rattle.wire_core.specs.Frames.{framed}
 use Rattle.journal_core.specs.Layout.{with_batch}
 use Rattle.rulebook.specs.Admission.{verdict}
 use Rattle.rulebook.specs.Sent.{record_or_refusal, admitted, judged, with_record, accepted_of}
@@ -58,3 +61,12 @@ pub few_records : (outcomes : List Outcome) → length (records_in outcomes) ≤
 few_records [] = omega arith
 few_records (Ok x ∷ later) = let le = few_records later in omega (arith, le)
 few_records (Err refusal ∷ later) = let le = few_records later in omega (arith, le)
+
+-- a whole frame behind whole frames
+pub whole_on : (read taken body : List ℕ) → rest_of read ≡ [] → framed body ≡ taken → (bodies_of (read ++ taken) ≡ bodies_of read ++ body ∷ []) × (rest_of (read ++ taken) ≡ [])
+whole_on read taken body none is =
+    let joined : rest_of read ++ taken ≡ framed body = ap (λ (rest : List ℕ). rest ++ taken) none ∙ sym is in
+    let first = cut_framed body in (
+      bodies_of-append read taken ∙ ap (λ (bytes : List ℕ). bodies_of read ++ bodies_of bytes) joined ∙ ap (λ (bodies : List (List ℕ)). bodies_of read ++ bodies) first.0,
+      rest_of-append read taken ∙ ap rest_of joined ∙ first.1,
+    )

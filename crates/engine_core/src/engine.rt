@@ -37,11 +37,13 @@ pub fn judge(admission: &Admission, body: &[u8]) -> Outcome
     ensures admissible { IfOk result (λ x. refusal_of admission.now x ≡ None) }
     ensures range { IfOk result InRange }
 {
-    let x = decode(body)?;
-    match admission.verdict(&x) {
-        None => Ok(x),
-        Some(refusal) => Err(refusal),
+    let outcome = decode(body);
+    if let Ok(x) = &outcome {
+        if let Some(refusal) = admission.verdict(x) {
+            return Err(refusal);
+        }
     }
+    outcome
 }
 
 /// Empties a list of messages, and at a Listing takes room for those of one stock more.

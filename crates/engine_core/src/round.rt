@@ -8,6 +8,7 @@ use journal_core::{BATCH_MAX, Batch};
 use price_core::NoMemory;
 use std::alloc::Global;
 use std::marker::Model;
+use std::slice;
 use wire_in::{Record, Refusal};
 
 /// What was found of a frame: its record, which is accepted, or the first refusal that applies.
@@ -62,7 +63,7 @@ impl Round {
     {
         accept(&mut self.accepted, outcome);
         // It has room for them all.
-        self.outcomes.extend_from_slice(&[*outcome]).unwrap();
+        self.outcomes.extend_from_slice(slice::from_ref(outcome)).unwrap();
     }
 
     /// The outcomes, the oldest first.

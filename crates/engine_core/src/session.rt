@@ -1,13 +1,13 @@
 //! A session: from pieces of the input to what is kept and sent.
 
-ghost use Rattle.std.specs.Prelude.{◌≡◌, ◌≢◌, ◌-◌, ◌+◌, ◌*◌, ◌<◌, ◌≤◌, ◌^◌, ◌++◌, ◌∷◌, [], ℕ, Bool, List, Option, None, Err, OnOk, OnErr, IfOk, IsTrue, length, take};
+ghost use Rattle.std.specs.Prelude.{◌≡◌, ◌≢◌, ◌-◌, ◌+◌, ◌*◌, ◌<◌, ◌≤◌, ◌^◌, ◌++◌, ◌∷◌, [], ℕ, Bool, List, Option, None, Err, OnOk, OnErr, IfOk, IfSome, IsSome, length, take};
 ghost use Rattle.host_core.specs.Outside.{Outside, Elapses};
 ghost use Rattle.host_core.specs.Frames.{OnlySends, OnlyWrites};
 ghost use Rattle.host_core.specs.Faults.{Causes};
 ghost use Rattle.wire_in.specs.declared.record.Record.{Record};
 ghost use Rattle.wire_in.specs.Spelling.{InRange};
 ghost use Rattle.wire_core.specs.Frames.{framed};
-ghost use Rattle.wire_in.specs.Cutting.{bodies_of, rest_of, is_frame};
+ghost use Rattle.wire_in.specs.Cutting.{bodies_of, pending};
 ghost use Rattle.journal_core.specs.Layout.{with_batch};
 ghost use Rattle.rulebook.specs.Sent.{with_record};
 ghost use Rattle.market_core.specs.AdmissionState.{refusal_of};
@@ -15,7 +15,7 @@ ghost use Rattle.stream_core.specs.Pending.{SendsPrefix};
 ghost use Rattle.engine_core.specs.EngineState.{Represents};
 ghost use Rattle.engine_core.specs.Rounds.{Outcome, records_in};
 ghost use Rattle.engine_core.specs.Sessions.{Start, Starved, expected};
-ghost use Rattle.engine_core.specs.Answering.{Answers};
+ghost use Rattle.engine_core.specs.Answering.{Answers, Waits};
 ghost use Rattle.engine_core.specs.Unwritten.{WritesNothing, AcceptsNone};
 ghost use Rattle.engine_core.specs.Serving.{Serves, IsSound, IsReady, Keeps, Leaves, OnlyAnswers};
 
@@ -53,6 +53,37 @@ fn admit(engine: &mut Engine, outcome: &Outcome)
         Ok(x) => engine.admit(x),
         Err(_) => {}
     }
+}
+
+/// The body of a frame that stands whole at the front of a piece, where none was begun before. It is judged where it
+/// lies.
+fn whole_frame<'a>(cutter: &Cutter, piece: &'a [u8]) -> Option<&'a [u8]>
+    ensures between { IsSome result → pending cutter.now ≡ [] }
+    ensures front { IfSome result (λ body. framed body.now ≡ take (length body.now + 1) piece.now) }
+    ensures within { IfSome result (λ body. length body.now < length piece.now) }
+    ensures short { IfSome result (λ body. length body.now ≤ 255) }
+{
+    if cutter.inside() {
+        return None;
+    }
+    let (len, rest) = piece.split_first()?;
+    rest.get(..usize::from(*len))
+}
+
+/// Judges the frame of a body, and admits its record where it is accepted. It waits to be answered.
+fn judge_next(engine: &mut Engine, round: &mut Round, body: &[u8])
+    requires short { length body.now ≤ 255 }
+    requires room { length round.old < BATCH_MAX }
+    ensures waits { (start : Start) (answered all : List (List ℕ)) (number : ℕ) → Waits start answered all number round.old engine.old
+        → Waits start answered (all ++ body.now ∷ []) number round.new engine.new }
+    ensures more { length round.new ≡ length round.old + 1 }
+    ensures sound { (answered : ℕ) → IsSound engine.old round.old answered → IsSound engine.new round.new answered }
+    ensures rest { engine.new ≡ record engine.old { admission = engine.new.admission } }
+    ensures capacity { engine.new.admission.capacity ≡ engine.old.admission.capacity }
+{
+    let outcome = judge(&engine.admission, body);
+    admit(engine, &outcome);
+    round.push(&outcome);
 }
 
 /// Answers the frames of a round, the first of which comes behind so many answered ones.
@@ -193,7 +224,6 @@ fn settle<K: Keeper, H: Host>(
 
 impl Session {
     ghost use Rattle.engine_core.specs.Serving.{Judges};
-    ghost use Rattle.engine_core.specs.Answering.{Waits};
 
     /// A session that has read nothing.
     pub fn new(engine: Engine, round: Round, outbox: Outbox) -> Session
@@ -212,23 +242,6 @@ impl Session {
         }
     }
 
-    /// Judges the frame that the cutter has whole, and admits its record where it is accepted.
-    fn judge(&mut self)
-        requires whole { IsTrue (is_frame self.old.cutter) }
-        requires room { length self.old.round < BATCH_MAX }
-        ensures waits { (body : List ℕ) × (framed body ≡ self.old.cutter)
-            × ((start : Start) (answered all : List (List ℕ)) → Waits start answered all self.old.answered self.old.round self.old.engine
-            → Waits start answered (all ++ body ∷ []) self.new.answered self.new.round self.new.engine) }
-        ensures more { length self.new.round ≡ length self.old.round + 1 }
-        ensures sound { IsSound self.old.engine self.old.round self.old.answered → IsSound self.new.engine self.new.round self.new.answered }
-        ensures rest { self.new ≡ record self.old { engine = record self.old.engine { admission = self.new.engine.admission }; round = self.new.round } }
-        ensures capacity { self.new.engine.admission.capacity ≡ self.old.engine.admission.capacity }
-    {
-        let outcome = judge(&self.engine.admission, self.cutter.body());
-        admit(&mut self.engine, &outcome);
-        self.round.push(&outcome);
-    }
-
     /// Takes bytes up to the end of a frame or of the piece, and judges the frame if it is whole. Answers how many bytes
     /// it took.
     fn advance(&mut self, piece: &[u8]) -> usize
@@ -243,11 +256,15 @@ impl Session {
         ensures outbox { self.new.outbox ≡ self.old.outbox }
         ensures answered { self.new.answered ≡ self.old.answered }
     {
+        if let Some(body) = whole_frame(&self.cutter, piece) {
+            judge_next(&mut self.engine, &mut self.round, body);
+            return body.len() + 1;
+        }
         let cut = self.cutter.take(piece);
         if !cut.whole {
             return cut.used;
         }
-        self.judge();
+        judge_next(&mut self.engine, &mut self.round, self.cutter.body());
         cut.used
     }
 

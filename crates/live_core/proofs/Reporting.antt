@@ -16,9 +16,9 @@ use Rattle.journal_core.specs.Scan.{HasNoHeader}
 use Rattle.journal_core.proofs.Readable.{readable, read_holds}
 use Rattle.rulebook.specs.Admission.{IsLawful}
 use Rattle.engine_core.specs.EngineState.{Represents}
-use Rattle.engine_core.specs.Pending.{SendsPrefix, SentPrefix}
-use Rattle.engine_core.proofs.Pending.{prefix_sent, sends_none}
-use Rattle.engine_core.proofs.Sending.{sends_longer, sends_on, sends_prefix}
+use Rattle.stream_core.specs.Pending.{SendsPrefix, SentPrefix}
+use Rattle.stream_core.proofs.Pending.{prefix_sent, sends_none}
+use Rattle.stream_core.proofs.Sending.{sends_longer, sends_on, sends_prefix}
 use Rattle.live_core.specs.declared.recovery.Recovery.{Recovery}
 use Rattle.live_core.specs.Damage.{IsDamagedAt}
 use Rattle.live_core.specs.Ends.{TellsNoJournal, TellsDamage}

@@ -7,7 +7,7 @@ use Rattle.host_core.specs.Outside.{Outside, Elapses, Rose, NoFault}
 use Rattle.wire_in.specs.declared.record.Record.{Record}
 use Rattle.journal_core.specs.Scan.{HasNoHeader}
 use Rattle.engine_core.specs.EngineState.{Represents}
-use Rattle.engine_core.specs.Pending.{SendsPrefix}
+use Rattle.stream_core.specs.Pending.{SendsPrefix}
 use Rattle.live_core.specs.Ends.{TellsNoJournal}
 use Rattle.live_core.specs.InternalRecovery.{HasDamage, Hinders, OnlyRecovers, SendsAgain}
 use Rattle.live_core.specs.Reported.{IsHeld}

@@ -11,7 +11,7 @@ use Rattle.journal_core.specs.Layout.{Holds}
 use Rattle.journal_core.specs.Scan.{HasNoHeader}
 use Rattle.rulebook.specs.Admission.{IsLawful, last_day, names}
 use Rattle.rulebook.specs.Book.{messages_of}
-use Rattle.engine_core.specs.Pending.{SendsPrefix, SentPrefix}
+use Rattle.stream_core.specs.Pending.{SendsPrefix, SentPrefix}
 use Rattle.live_core.specs.Damage.{IsDamagedAt}
 use Rattle.live_core.specs.Ends.{TellsNoJournal, TellsDamage}
 

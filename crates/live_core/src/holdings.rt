@@ -10,7 +10,7 @@ ghost use Rattle.live_core.specs.InternalReport.{Tells, IsTold, IsGathered, IsUn
 ghost use Rattle.live_core.specs.Reported.{Reported, line, day_word, report_of};
 
 use crate::recovery::Recovery;
-use engine_core::Outbox;
+use stream_core::Outbox;
 use host_core::{Host, Status, send_all};
 use itoa::Buffer;
 use journal_core::Batch;

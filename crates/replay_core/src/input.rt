@@ -24,7 +24,7 @@ use stream_core::{Outbox, PIECE, answer_of};
 const BYTES_MAX: u64 = 1_099_511_627_776;
 
 /// How many frames are judged before they are answered.
-const FRAMES: usize = 1;
+const FRAMES: usize = 64;
 
 /// What a replay is told.
 #[derive(Clone, Copy, Debug, PartialEq, Eq)]

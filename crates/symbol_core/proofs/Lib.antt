@@ -17,3 +17,4 @@ pub mod Twins
 pub mod Waiting
 pub mod Unmoved
 pub mod Quiet
+pub mod Quoted

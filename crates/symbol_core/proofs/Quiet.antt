@@ -6,8 +6,7 @@ use Rattle.wire_in.specs.declared.record.Record.TheVariants as in_
 use Rattle.wire_out.specs.declared.message.Message.{Message}
 use Rattle.window_core.specs.declared.window.Deal.{Deal}
 use Rattle.window_core.specs.Deals.{live, mean_of}
-use Rattle.rulebook.specs.Book.{all_obeyed, symbol_rules}
-use Rattle.rulebook.specs.declared.event.Event.{Event}
+use Rattle.rulebook.specs.Book.{symbol_rules}
 use Rattle.rulebook.specs.History.{publish}
 use Rattle.rulebook.specs.Rules.{asks_to_pause}
 use Rattle.session_core.specs.declared.day.Day.{Day}
@@ -15,10 +14,10 @@ use Rattle.symbol_core.specs.declared.due.Due.{Due}
 use Rattle.symbol_core.specs.declared.kept.Kept.{Kept}
 use Rattle.symbol_core.specs.declared.kept.Step.{Step}
 use Rattle.symbol_core.specs.declared.symbol.MarketView.{MarketView}
-use Rattle.symbol_core.specs.Idle.{IsDue, IsIdle, IsQuiet, IsRested, IsSettled, PricesFrom, Waits, WaitsAt, comes_often, is_out}
+use Rattle.symbol_core.specs.Idle.{IsDue, IsQuiet, IsSettled, Waits, WaitsAt, comes_often, is_out}
 use Rattle.symbol_core.specs.Kept.{announcing, triggering}
 use Rattle.symbol_core.specs.Pricing.{reference}
-use Rattle.symbol_core.specs.Stands.{ObeysAll, Says, Speaks, Stands, named}
+use Rattle.symbol_core.specs.Stands.{ObeysAll, Says, Speaks, Stands}
 use Rattle.symbol_core.specs.Taken.{finished, taken}
 use Rattle.symbol_core.specs.Window.{window}
 use Rattle.symbol_core.proofs.Chains.{none}

@@ -13,7 +13,7 @@ use Rattle.wire_in.specs.Records.{is_tick, moment_of}
 use Rattle.wire_out.specs.declared.message.Message.{Message}
 use Rattle.wire_out.specs.declared.message.Message.TheVariants as out
 use Rattle.wire_out.specs.declared.message.ShortKind.TheVariants.{Triggered}
-use Rattle.pause_core.specs.Phases.{can_market_halt, is_done, is_in_regulatory_halt, is_trading}
+use Rattle.pause_core.specs.Phases.{is_done, is_in_regulatory_halt, is_trading}
 use Rattle.pause_core.specs.Turns.{phase_after_regulatory_halt}
 use Rattle.pause_core.specs.Turns as turns
 use Rattle.refprice_core.specs.declared.reference.Priced.{Priced}
@@ -189,7 +189,7 @@ bands_none k step e = by k.band e where
   by (Some last) e = ap (λ (b : Bool). if b then band k step Times last.reference else []) e
 
 -- a step without a deal of its own leaves the window as it is
-window_rested : (k : Kept) (deals : List Deal) → IsRested k → window k deals ≡ deals
+pub window_rested : (k : Kept) (deals : List Deal) → IsRested k → window k deals ≡ deals
 window_rested k deals r =
     (λ i. (if r.is_fresh i then [] else deals) ++ (if is_some k.begun then option_to_list (r.deal i) else [])) ∙ ap (λ (ds : List Deal). deals ++ ds) (quote_stays (is_some k.begun) []) ∙ append-nil deals
 

@@ -1,6 +1,7 @@
 -- When a clock or an index tick finds nothing to say of a symbol. Private words: no public clause cites them.
 use Rattle.std.specs.Prelude.{◌≡◌, ◌+◌, ◌<◌, ◌≤◌, ℕ, Bool, true, false, nat_lt, Option, Some, None, List, ◌&&◌, ◌||◌, not, is_some, unwrap_or}
 use Rattle.std.specs.Option.{option_map_or}
+use Rattle.price_core.specs.declared.quote.Quotation.{Quotation}
 use Rattle.session_core.specs.declared.day.Day.{Day}
 use Rattle.session_core.specs.declared.state.Phase.TheVariants.{LimitLow, LimitHigh}
 use Rattle.session_core.specs.Durations.{five_minutes}
@@ -19,8 +20,9 @@ use Rattle.rulebook.specs.Rules.{asks_to_pause, at_band}
 use Rattle.symbol_core.specs.declared.due.Due.{Due}
 use Rattle.symbol_core.specs.declared.kept.Kept.{Kept}
 use Rattle.symbol_core.specs.declared.kept.Step.{Step}
-use Rattle.symbol_core.specs.Kept.{is_straddling_now, triggering}
+use Rattle.symbol_core.specs.Kept.{is_straddling_now, triggering, with_quote}
 use Rattle.symbol_core.specs.Pricing.{adoption, reference, time_changes}
+use Rattle.symbol_core.specs.Rests.{Held}
 use Rattle.symbol_core.specs.Window.{window}
 
 -- the last step left nothing for the rules of its own record
@@ -134,3 +136,7 @@ awaits_after k t (Some b) = has_stood (adoption k b) t
 
 abbrev pub awaits_mean : Kept → ℕ → Bool
 awaits_mean k t = awaits_after k t k.band
+
+-- the symbol once a quotation of its run is taken in at a moment, and nothing else
+abbrev pub quoted : Held → ℕ → Quotation → Held
+quoted held t quote = record { kept = with_quote held.kept (Some quote); deals = live t held.deals }

@@ -32,6 +32,10 @@ abbrev pub quoted_by : ℕ → Record → Option Quotation
 quoted_by s (in_.Quote t symbol bid offer x y) = if symbol == s then Some (record { bid = bid; offer = offer }) else None
 quoted_by s x = None
 
+-- the kept state with another last quotation
+abbrev pub with_quote : Kept → Option Quotation → Kept
+with_quote k quote = record k { quote = quote }
+
 abbrev pub begins : Kept → Phase → Bool
 begins k p = is_trading p && not (is_limit k.phase)
 

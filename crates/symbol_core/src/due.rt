@@ -9,7 +9,7 @@ ghost use Rattle.window_core.specs.declared.window.Deal.{Deal};
 ghost use Rattle.rulebook.specs.Rules.{at_band};
 ghost use Rattle.symbol_core.specs.Idle.{ChangesBandsFrom, IsDue, IsRested, IsSettled, PausesFrom, PricesFrom, ReopensFrom, StartsFrom, Waits, WaitsAt, is_out, leaves_limit};
 ghost use Rattle.window_core.specs.Deals.{live, mean_of};
-ghost use Rattle.symbol_core.specs.Kept.{triggering};
+ghost use Rattle.symbol_core.specs.Kept.{triggering, with_quote};
 ghost use Rattle.symbol_core.specs.Pricing.{reference, time_changes};
 ghost use Rattle.symbol_core.specs.Window.{window};
 
@@ -21,6 +21,7 @@ use crate::turns::at_band;
 use pause_core::{
     can_market_halt, can_start, is_done, is_in_regulatory_halt, is_limit, is_trading,
 };
+use price_core::Quotation;
 use refprice_core::is_in_opening_period;
 use rulebook::Banded;
 use session_core::{
@@ -140,28 +141,44 @@ fn earlier(a: u64, b: u64) -> u64
 }
 
 impl Kept {
-    fn leaves_limit(&self) -> bool
-        ensures { result ≡ leaves_limit self.now }
+    fn leaves_limit(&self, quote: &Option<Quotation>) -> bool
+        ensures { result ≡ leaves_limit (with_quote self.now quote.now) }
     {
-        is_limit(self.phase) && !at_band(self.phase, &self.quote, &self.band)
+        is_limit(self.phase) && !at_band(self.phase, quote, &self.band)
     }
 
-    fn enters_limit(&self, side: Phase) -> bool
-        ensures { result ≡ (is_trading self.now.phase && at_band side self.now.quote self.now.band) }
+    fn enters_limit(&self, side: Phase, quote: &Option<Quotation>) -> bool
+        ensures { result ≡ (is_trading self.now.phase && at_band side quote.now self.now.band) }
     {
-        is_trading(self.phase) && at_band(side, &self.quote, &self.band)
+        is_trading(self.phase) && at_band(side, quote, &self.band)
+    }
+
+    /// Whether no rule says anything at a tick, whatever its time, where that is the run's last quotation.
+    fn is_settled_at(&self, quote: &Option<Quotation>, stopped: bool) -> bool
+        ensures { result ≡ true → IsSettled (with_quote self.now quote.now) stopped }
+    {
+        !(stopped && can_market_halt(self.phase))
+            && self.halted == is_in_regulatory_halt(self.phase)
+            && !self.leaves_limit(quote)
+            && !self.enters_limit(Phase::LimitLow, quote)
+            && !self.enters_limit(Phase::LimitHigh, quote)
+            && self.straddles_at(quote) == self.straddling
     }
 
     /// Whether no rule says anything at a tick, whatever its time.
     fn is_settled(&self, stopped: bool) -> bool
         ensures { result ≡ true → IsSettled self.now stopped }
     {
-        !(stopped && can_market_halt(self.phase))
-            && self.halted == is_in_regulatory_halt(self.phase)
-            && !self.leaves_limit()
-            && !self.enters_limit(Phase::LimitLow)
-            && !self.enters_limit(Phase::LimitHigh)
-            && self.is_straddling_now() == self.straddling
+        self.is_settled_at(&self.quote, stopped)
+    }
+
+    /// Whether a quotation leaves a stock in a run in peace, whatever the time.
+    pub fn is_settled_by(&self, quote: &Quotation, stopped: bool) -> bool
+        ensures listed { result ≡ true → is_out self.now ≡ false }
+        ensures run { result ≡ true → is_some self.now.begun ≡ true }
+        ensures settled { result ≡ true → IsSettled (with_quote self.now (Some quote.now)) stopped }
+    {
+        !self.is_out() && self.begun.is_some() && self.is_settled_at(&Some(*quote), stopped)
     }
 }
 

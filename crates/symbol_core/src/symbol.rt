@@ -6,16 +6,16 @@ ghost use Rattle.rulebook.specs.declared.event.Event.{Event};
 ghost use Rattle.rulebook.specs.Symbol as of;
 ghost use Rattle.rulebook.specs.Symbol.{traded_price};
 ghost use Rattle.symbol_core.specs.Evaluates.{most_of_symbol};
-ghost use Rattle.symbol_core.specs.Idle.{IsDue, IsRested, IsSettled, Waits, WaitsAt};
+ghost use Rattle.symbol_core.specs.Idle.{IsDue, IsRested, IsSettled, Waits, WaitsAt, quoted};
 ghost use Rattle.symbol_core.specs.Stands.{Speaks};
 ghost use Rattle.symbol_core.specs.Steps.{Steps};
 ghost use Rattle.symbol_core.specs.Taken.{deal_of};
 
 use crate::due::Due;
 use crate::kept::{Kept, Step};
-use crate::records::traded_price;
+use crate::records::{quoted_by, traded_price};
 use crate::taking::{drop_cancelled, keep_deals};
-use price_core::NoMemory;
+use price_core::{NoMemory, Quotation};
 use session_core::{Day, Moment, Phase};
 use std::alloc::Global;
 use std::marker::Model;
@@ -50,6 +50,13 @@ impl Model for Symbol {
     ghost view = { λ s. record { kept = s.kept; deals = s.deals.deals } };
 
     ghost invariant = { λ s. IsDue s.due s.kept s.deals.deals };
+}
+
+/// A quotation at which no rule says anything, and when the stock is due after it.
+#[derive(Clone, Copy, Debug)]
+struct Passed {
+    quote: Quotation,
+    due: Due,
 }
 
 /// The step of a record.
@@ -168,6 +175,35 @@ impl Symbol {
         self.due = Some(due);
     }
 
+    /// The quotation that a record brings to the run, where it and its moment bring nothing else.
+    fn passes_quote(&self, x: &Record, market: &MarketView) -> Option<Passed>
+        ensures nothing { IfSome result (λ passed. (before : List Said) → Evaluates market.now x.now self.now (quoted self.now (moment_of x.now) passed.quote) before before) }
+        ensures due { IfSome result (λ passed. IsDue (Some passed.due) (quoted self.now (moment_of x.now) passed.quote).kept (quoted self.now (moment_of x.now) passed.quote).deals) }
+    {
+        let quote = quoted_by(self.kept.id, x)?;
+        match &self.due {
+            Some(due)
+                if due.holds(x.moment(), market)
+                    && self.kept.is_settled_by(&quote, market.stopped) => {
+                Some(Passed {
+                    quote,
+                    due: due.since(x.moment()),
+                })
+            }
+            _ => None,
+        }
+    }
+
+    /// Takes a quotation in that brings nothing else, and removes the trades that are five minutes old.
+    fn pass_quote(&mut self, t: Moment, passed: &Passed)
+        requires { IsDue (Some passed.now.due) (quoted self.old t passed.now.quote).kept (quoted self.old t passed.now.quote).deals }
+        ensures { self.new ≡ quoted self.old t passed.now.quote }
+    {
+        self.kept.quote = Some(passed.quote);
+        self.deals.keep_live(t);
+        self.due = Some(passed.due);
+    }
+
     /// Evaluates a record: appends what it announces of the symbol and what the rules then give. It appends nothing at a
     /// Day record, which begins the day, nor at a clock or an index tick of a day on which the symbol isn't listed. Out of
     /// memory, it changes nothing; that can't come of room for its messages and a record that is no eligible trade of the
@@ -195,6 +231,10 @@ impl Symbol {
         }
         if let Some(due) = self.passes(x, market) {
             self.pass(x.moment(), due);
+            return Ok(());
+        }
+        if let Some(passed) = self.passes_quote(x, market) {
+            self.pass_quote(x.moment(), &passed);
             return Ok(());
         }
         self.obey(x, market, out)

@@ -6,7 +6,7 @@ ghost use Rattle.limit_core.specs.Limits.{straddles};
 ghost use Rattle.pause_core.specs.Phases.{is_done, is_trading};
 ghost use Rattle.rulebook.specs.Rules as rules;
 ghost use Rattle.rulebook.specs.Rules.{at_band, meets};
-ghost use Rattle.symbol_core.specs.Kept.{becoming, brakes, is_straddling_now, straddling};
+ghost use Rattle.symbol_core.specs.Kept.{becoming, brakes, is_straddling_now, straddling, with_quote};
 ghost use Rattle.symbol_core.specs.Stands.{Obeys, Says};
 
 use crate::kept::{Kept, Step};
@@ -154,10 +154,17 @@ impl Kept {
         }
     }
 
-    pub fn is_straddling_now(&self) -> bool
+    /// Whether that quotation straddles the bands.
+    pub fn straddles_at(&self, quote: &Option<Quotation>) -> bool
+        ensures { result ≡ is_straddling_now (with_quote self.now quote.now) }
+    {
+        is_trading(self.phase) && straddles_bands(quote, &self.band)
+    }
+
+    fn is_straddling_now(&self) -> bool
         ensures { result ≡ is_straddling_now self.now }
     {
-        is_trading(self.phase) && straddles_bands(&self.quote, &self.band)
+        self.straddles_at(&self.quote)
     }
 
     fn straddling(&mut self, step: &Step, out: &mut Vec<Message>)

@@ -1,4 +1,4 @@
-use Rattle.std.proofs.Common.{refl, sym, ◌∙◌}
+use Rattle.std.proofs.Common.{sym, ◌∙◌}
 use Rattle.symbol_core.proofs.Quiet.{speaks-quiet}
 use Rattle.symbol_core.proofs.symbol.speak.Goals as goal
 

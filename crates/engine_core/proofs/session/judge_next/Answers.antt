@@ -6,21 +6,18 @@ use Rattle.engine_core.specs.Rounds.{Outcome, records_in}
 use Rattle.engine_core.specs.Sessions.{held_after}
 use Rattle.engine_core.proofs.Rounds.{records-append}
 use Rattle.engine_core.proofs.Answering.{waits_more}
-use Rattle.engine_core.proofs.session.Session.judge.Goals as goal
+use Rattle.engine_core.proofs.session.judge_next.Goals as goal
 
 pub returns-clause-waits : goal.returns-clause-waits
-returns-clause-waits c = (
-  c.body.result.now,
-  c.body.ensures.frame,
-  λ start answered all waits.
-      let held = held_after start all in
-      let is : c.judge-outcome.result ≡ judged start.capacity held c.body.result.now =
-      c.judge-outcome.ensures.exact held waits.engine_is.admission ∙ ap (λ (n : ℕ). judged n held c.body.result.now) waits.engine_is.within in
-      waits_more waits c.body.result.now _ _ _ is c.push.ensures (c.admit.ensures.represents start.capacity held _ waits.engine_is),
-)
+returns-clause-waits c = λ start answered all number waits.
+    let held = held_after start all in
+    let body = c.args.body.now in
+    let is : c.judge-outcome.result ≡ judged start.capacity held body =
+    c.judge-outcome.ensures.exact held waits.engine_is.admission ∙ ap (λ (n : ℕ). judged n held body) waits.engine_is.within in
+    waits_more waits body _ _ _ is c.push.ensures (c.admit.ensures.represents start.capacity held _ waits.engine_is)
 
 pub returns-clause-sound : goal.returns-clause-sound
-returns-clause-sound c = λ sound.
+returns-clause-sound c = λ answered sound.
     let more = simp (records-append, length-append) at (ap (λ (o : List Outcome). length (records_in o)) c.push.ensures) in
     let evaluated = ap (λ (e : Engine). e.evaluated) c.admit.ensures.rest in
     record {

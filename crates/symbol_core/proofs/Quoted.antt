@@ -1,0 +1,125 @@
+-- A stock in a run that takes a quotation in at which no rule says anything.
+use Rattle.std.proofs.Common.{arith, ◌≡◌, ℕ, ◌<◌, ◌≤◌, Bool, true, false, List, refl, sym, ap, ◌∙◌, subst}
+use Rattle.std.specs.Prelude.{Option, Some, None, if◌then◌else◌, filter, is_some}
+use Rattle.price_core.specs.declared.quote.Quotation.{Quotation}
+use Rattle.wire_in.specs.declared.record.Record.{Record}
+use Rattle.wire_in.specs.declared.record.Record.TheVariants as in_
+use Rattle.wire_in.specs.Records.{moment_of}
+use Rattle.wire_out.specs.declared.message.Message.{Message}
+use Rattle.window_core.specs.declared.window.Deal.{Deal}
+use Rattle.window_core.specs.Deals.{live, mean_of}
+use Rattle.window_core.proofs.Deals.{live-live}
+use Rattle.rulebook.specs.Rules.{or_else}
+use Rattle.symbol_core.specs.declared.due.Due.{Due}
+use Rattle.symbol_core.specs.declared.kept.Kept.{Kept}
+use Rattle.symbol_core.specs.declared.kept.Step.{Step}
+use Rattle.symbol_core.specs.declared.symbol.MarketView.{MarketView}
+use Rattle.symbol_core.specs.Evaluates.{Evaluates}
+use Rattle.symbol_core.specs.Idle.{IsDue, IsIdle, IsRested, IsSettled, WaitsAt, is_out, quoted}
+use Rattle.symbol_core.specs.Kept.{quoted_by, with_quote}
+use Rattle.symbol_core.specs.Pricing.{reference}
+use Rattle.symbol_core.specs.Steps.{Steps}
+use Rattle.symbol_core.specs.Taken.{leaves, taken}
+use Rattle.symbol_core.specs.Window.{SameLive, window}
+use Rattle.symbol_core.proofs.Cancels.{leaves-all}
+use Rattle.symbol_core.proofs.Evaluated.{step-evaluated, step_for}
+use Rattle.symbol_core.proofs.Quiet.{speaks-quiet, waits-due, waits-taken}
+use Rattle.symbol_core.proofs.Steps.{step-evaluates}
+use Rattle.symbol_core.proofs.Unmoved.{window_rested}
+
+-- when the stock is due after it
+pub quoted-due : (k : Kept) (deals : List Deal) (due : Due) (t : ℕ) (quote : Quotation) (market : MarketView) → IsDue (Some due) k deals → due.from ≤ t → market ≡ due.market → IsSettled (with_quote k (Some quote)) market.stopped
+    → IsDue (Some (record due { from = t })) (with_quote k (Some quote)) (live t deals)
+quoted-due k deals due t quote market is from same settled = λ inside. by (is inside) where
+  by : IsIdle k deals due → IsIdle (with_quote k (Some quote)) (live t deals) (record due { from = t })
+  by idle =
+      let waits = idle.waits in
+      let rested = idle.rested in
+      record {
+        rested = record { left_limit = rested.left_limit; released = rested.released; deal = rested.deal; is_fresh = rested.is_fresh };
+        settled = subst (λ (m : MarketView). IsSettled (with_quote k (Some quote)) m.stopped) same settled;
+        waits = record {
+          closes = waits.closes;
+          starts = waits.starts;
+          pauses = waits.pauses;
+          reopens = waits.reopens;
+          bands = λ step day le lt. waits.bands step day (omega arith) lt;
+        };
+        within = idle.within;
+        prices = λ step tick le lt. ap (λ (ds : List Deal). reference k step (mean_of ds)) (live-live t step.moment le deals) ∙ idle.prices step tick (omega arith) lt;
+      }
+
+quote_first : (a : Bool) (q : Quotation) (o : Option Quotation) (b : Option Quotation) → a ≡ true → o ≡ Some q → Some q ≡ (if a then or_else o b else b)
+quote_first a q o b is offered = rw (is, offered) refl
+
+module _ (market : MarketView) (t i y z : ℕ) (bid offer : Option ℕ) (k : Kept) (deals : List Deal) (due : Due) (quote : Quotation)
+    (is : IsDue (Some due) k deals) (inside : is_out k ≡ false) (from : due.from ≤ t) (until : t < due.until) (same : market ≡ due.market)
+    (run : is_some k.begun ≡ true) (settled : IsSettled (with_quote k (Some quote)) market.stopped) (offered : quoted_by k.id (in_.Quote t i bid offer y z) ≡ Some quote) where
+  abbrev x : Record
+  x = in_.Quote t i bid offer y z
+
+  abbrev step : Step
+  step = step_for market x
+
+  idle : IsIdle k deals due
+  idle = is inside
+
+  abbrev with_it : Kept
+  with_it = with_quote k (Some quote)
+
+  rested : IsRested with_it
+  rested = record { left_limit = idle.rested.left_limit; released = idle.rested.released; deal = idle.rested.deal; is_fresh = idle.rested.is_fresh }
+
+  -- the kept state once the quotation is taken in
+  took : with_it ≡ taken k step
+  took = λ j. record k {
+    quote = quote_first (is_some k.begun) quote (quoted_by k.id x) k.quote run offered j;
+    left_limit = idle.rested.left_limit j;
+    released = idle.rested.released j;
+    deal = idle.rested.deal j;
+    is_fresh = idle.rested.is_fresh j;
+  }
+
+  abbrev stayed : List Deal
+  stayed = live t (filter (leaves k.id x) deals)
+
+  all : stayed ≡ live t deals
+  all = ap (live t) (leaves-all k.id x deals refl)
+
+  waits : WaitsAt k step due.waits
+  waits = waits-due k deals due step refl from (let within = idle.within in omega (arith, within, until)) same is inside
+
+  -- a quotation offers no price
+  no_price : reference with_it step (mean_of (live t (window with_it stayed))) ≡ None
+  no_price =
+      ap (λ (ds : List Deal). reference with_it step (mean_of (live t ds))) (window_rested with_it stayed rested ∙ all)
+      ∙ ap (λ (ds : List Deal). reference with_it step (mean_of ds)) (live-live t t (omega arith) deals)
+      ∙ idle.prices (record step { input = in_.Clock t }) refl from until
+
+  keeps : SameLive t (live t deals) (window (taken k step) stayed)
+  keeps =
+      subst (λ (ds : List Deal). SameLive t (live t deals) ds) (sym (window_rested (taken k step) stayed (record { left_limit = refl; released = refl; deal = refl; is_fresh = refl }) ∙ all))
+      (record { at = λ u le. refl })
+
+  pub quote-steps : (before : List Message) → Steps step k with_it deals (live t deals) before before
+  quote-steps before =
+      let spoken = speaks-quiet (taken k step) stayed step before (Some due.waits) refl (waits-taken k step (Some due.waits) waits)
+      (subst (λ (kept : Kept). IsSettled kept market.stopped) took settled)
+      (subst (λ (kept : Kept). reference kept step (mean_of (live t (window kept stayed))) ≡ None) took no_price) refl in
+      step-evaluates step k spoken.said (taken k step) (taken k step) with_it deals (filter (leaves k.id x) deals) stayed stayed (live t deals) before spoken.between before
+      refl refl refl refl spoken.announces spoken.obeys keeps took
+
+pub quoted-evaluated : (market : MarketView) (x : Record) (k : Kept) (deals : List Deal) (due : Due) (quote : Quotation) (before : List Message) → IsDue (Some due) k deals → is_out k ≡ false → due.from ≤ moment_of x → moment_of x < due.until
+    → market ≡ due.market → is_some k.begun ≡ true → IsSettled (with_quote k (Some quote)) market.stopped → quoted_by k.id x ≡ Some quote
+    → Evaluates market x (record { kept = k; deals = deals }) (quoted (record { kept = k; deals = deals }) (moment_of x) quote) before before
+quoted-evaluated market (in_.Day t d c) k deals due quote before is inside from until same run settled offered = absurd cc
+quoted-evaluated market (in_.Listing t name tier l c) k deals due quote before is inside from until same run settled offered = absurd cc
+quoted-evaluated market (in_.Trade t i n p q f) k deals due quote before is inside from until same run settled offered = absurd cc
+quoted-evaluated market (in_.Cancel t i n) k deals due quote before is inside from until same run settled offered = absurd cc
+quoted-evaluated market (in_.Quote t i bid offer y z) k deals due quote before is inside from until same run settled offered =
+    step-evaluated market (in_.Quote t i bid offer y z) (record { kept = k; deals = deals }) (quoted (record { kept = k; deals = deals }) t quote) before before refl refl
+    (quote-steps market t i y z bid offer k deals due quote is inside from until same run settled offered before)
+quoted-evaluated market (in_.IndexTick t v) k deals due quote before is inside from until same run settled offered = absurd cc
+quoted-evaluated market (in_.Clock t) k deals due quote before is inside from until same run settled offered = absurd cc
+quoted-evaluated market (in_.Notice t i kind) k deals due quote before is inside from until same run settled offered = absurd cc
+quoted-evaluated market (in_.Indication t i p u) k deals due quote before is inside from until same run settled offered = absurd cc
