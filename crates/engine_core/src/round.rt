@@ -63,7 +63,9 @@ impl Round {
     {
         accept(&mut self.accepted, outcome);
         // It has room for them all.
-        self.outcomes.extend_from_slice(slice::from_ref(outcome)).unwrap();
+        self.outcomes
+            .extend_from_slice(slice::from_ref(outcome))
+            .unwrap();
     }
 
     /// The outcomes, the oldest first.

@@ -4,3 +4,9 @@ pub mod Words
 pub mod Fields
 pub mod Records
 pub mod Frames
+pub mod Units
+pub mod Answering
+pub mod Reading
+pub mod Packing
+pub mod Beginning
+pub mod Statuses

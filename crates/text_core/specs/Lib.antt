@@ -2,3 +2,6 @@ pub mod Words
 pub mod Lines
 pub mod Reading
 pub mod Laws
+pub mod Streams
+pub mod Translated
+pub mod InternalStreams

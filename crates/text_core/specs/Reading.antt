@@ -1,6 +1,6 @@
 -- How the words of a line are taken for values. A line is read by this, and then compared with the line of what was
 -- read: so here each value must be found in its own line, and it doesn't matter what is found in others.
-use Rattle.std.specs.Prelude.{ℕ, Bool, true, false, zero, suc, ◌+◌, ◌-◌, ◌*◌, ◌/◌, ◌%◌, ◌^◌, ◌==◌, nat_le, nat_lt, min, not, if◌then◌else◌, List, ◌++◌, length, take, drop, replicate, slice_index, Option, Some, None, codes, bytes_eq}
+use Rattle.std.specs.Prelude.{ℕ, Bool, true, false, zero, suc, ◌+◌, ◌-◌, ◌*◌, ◌/◌, ◌%◌, ◌^◌, ◌==◌, ◌&&◌, nat_le, nat_lt, min, not, if◌then◌else◌, List, ◌++◌, length, take, drop, replicate, slice_index, Option, Some, None, codes, bytes_eq}
 use Rattle.std.specs.Char.{is_ascii_digit}
 use Rattle.std.specs.List.{fold, take_while}
 use Rattle.std.specs.Result.{result_ok}
@@ -25,6 +25,9 @@ use Rattle.wire_out.specs.declared.message.ShortKind.TheVariants as shorts
 use Rattle.wire_core.specs.Fields.{checked, is_moment, is_price, is_index}
 use Rattle.wire_in.specs.Codes.{leverage_of_byte}
 use Rattle.wire_core.specs.OptionSteps.{◌>>=◌}
+use Rattle.wire_core.specs.Names.{is_name}
+use Rattle.wire_out.specs.Codes.{is_code, is_field}
+use Rattle.text_core.specs.Lines.{line_of_record, line_of_frame}
 use Rattle.wire_in.specs.declared.record.NoticeKind.{NoticeKind}
 use Rattle.wire_in.specs.declared.record.NoticeKind.TheVariants as kinds
 use Rattle.wire_in.specs.declared.record.Record.{Record}
@@ -350,3 +353,43 @@ frame_of line =
     else if bytes_eq (word_at 0 line) (codes "ack") then Some (Ack (number_in (word_at 1 line)))
     else if bytes_eq (word_at 0 line) (codes "refused") then refused_of line
     else numbered_of line
+
+abbrev pub is_since18 : Profile → Bool
+is_since18 profiles.Since18 = true
+is_since18 profiles.Before18 = false
+
+-- what of a record's fields isn't kept by their types: the profile, a name, and the ten assigned flags
+abbrev pub is_in_range : Record → Bool
+is_in_range (Day m d v) = is_since18 d.profile
+is_in_range (Listing m n t l c) = is_name n
+is_in_range (Trade m s n p z f) = nat_le f 1023
+is_in_range _ = true
+
+abbrev pub is_line_of : List ℕ → Record → Bool
+is_line_of line x = is_in_range x && bytes_eq line (line_of_record x)
+
+-- the record that a line prints, if it prints one
+unfoldable pub record_in : List ℕ → Option Record
+record_in line = do
+  x ← record_of line
+  checked (is_line_of line x) x
+
+abbrev pub is_sayable : Message → Bool
+is_sayable (Listed s name) = is_name name
+is_sayable _ = true
+
+-- what the types of a frame don't keep
+abbrev pub is_frame_in_range : Frame → Bool
+is_frame_in_range (Hello i m) = true
+is_frame_in_range (Ack i) = nat_lt 0 i
+is_frame_in_range (Refused p c f) = nat_lt 0 p && (is_code c && is_field c f)
+is_frame_in_range (Numbered n x) = nat_lt 0 n && is_sayable x.message
+
+abbrev pub is_line_of_frame : List ℕ → Frame → Bool
+is_line_of_frame line f = is_frame_in_range f && bytes_eq line (line_of_frame f)
+
+-- the published frame that a line prints, if it prints one
+unfoldable pub frame_in : List ℕ → Option Frame
+frame_in line = do
+  f ← frame_of line
+  checked (is_line_of_frame line f) f

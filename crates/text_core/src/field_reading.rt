@@ -152,7 +152,8 @@ pub fn name(word: &[u8]) -> Option<[u8; 8]>
 
 /// Whether a name has one to eight visible characters, and then zero bytes.
 pub fn is_name(name: [u8; 8]) -> bool
-    ensures { IsTrue result ↔ ((length name ≡ 8) × IsTrue (is_name name)) }
+    ensures value { result ≡ is_name name }
+    ensures tells { IsTrue result ↔ ((length name ≡ 8) × IsTrue (is_name name)) }
 {
     name_at(&name, 0).is_some()
 }

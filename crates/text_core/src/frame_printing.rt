@@ -31,6 +31,7 @@ fn listed_line(line: Line, symbol: u16, name: [u8; 8]) -> Line
     requires name { IsTrue (is_name name) }
     ensures types { IsTyped (messages.Listed symbol name) }
     ensures text { result ≡ followed_by line (words_of_message (messages.Listed symbol name)) }
+    ensures short { length result ≤ 240 }
 {
     line.word("listed").number(u64::from(symbol)).name(&name)
 }
@@ -39,6 +40,7 @@ fn state_line(line: Line, symbol: u16, phase: Phase) -> Line
     requires { length line ≤ 45 }
     ensures types { IsTyped (messages.State symbol phase) }
     ensures text { result ≡ followed_by line (words_of_message (messages.State symbol phase)) }
+    ensures short { length result ≤ 240 }
 {
     line.word("state")
         .number(u64::from(symbol))
@@ -56,6 +58,7 @@ fn band_line(
     requires { length line ≤ 45 }
     ensures types { IsTyped (messages.Band symbol cause reference lower upper) }
     ensures text { result ≡ followed_by line (words_of_message (messages.Band symbol cause reference lower upper)) }
+    ensures short { length result ≤ 240 }
 {
     line.word("band")
         .number(u64::from(symbol))
@@ -69,6 +72,7 @@ fn straddle_line(line: Line, symbol: u16, on: bool) -> Line
     requires { length line ≤ 45 }
     ensures types { IsTyped (messages.Straddle symbol on) }
     ensures text { result ≡ followed_by line (words_of_message (messages.Straddle symbol on)) }
+    ensures short { length result ≤ 240 }
 {
     line.word("straddle")
         .number(u64::from(symbol))
@@ -79,6 +83,7 @@ fn collar_line(line: Line, symbol: u16, round: u16, lower: Price, upper: Price) 
     requires { length line ≤ 45 }
     ensures types { IsTyped (messages.Collar symbol round lower upper) }
     ensures text { result ≡ followed_by line (words_of_message (messages.Collar symbol round lower upper)) }
+    ensures short { length result ≤ 240 }
 {
     line.word("collar")
         .number(u64::from(symbol))
@@ -91,6 +96,7 @@ fn release_line(line: Line, symbol: u16, price: Price) -> Line
     requires { length line ≤ 45 }
     ensures types { IsTyped (messages.Release symbol price) }
     ensures text { result ≡ followed_by line (words_of_message (messages.Release symbol price)) }
+    ensures short { length result ≤ 240 }
 {
     line.word("release").number(u64::from(symbol)).price(price)
 }
@@ -99,6 +105,7 @@ fn short_line(line: Line, symbol: u16, kind: ShortKind) -> Line
     requires { length line ≤ 45 }
     ensures types { IsTyped (messages.Short symbol kind) }
     ensures text { result ≡ followed_by line (words_of_message (messages.Short symbol kind)) }
+    ensures short { length result ≤ 240 }
 {
     line.word("short")
         .number(u64::from(symbol))
@@ -109,6 +116,7 @@ fn breaker_line(line: Line, level: Level, index: Index) -> Line
     requires { length line ≤ 45 }
     ensures types { IsTyped (messages.Breaker level index) }
     ensures text { result ≡ followed_by line (words_of_message (messages.Breaker level index)) }
+    ensures short { length result ≤ 240 }
 {
     line.word("breaker").word(level_word(level)).index(index)
 }
@@ -117,6 +125,7 @@ fn market_resume_line(line: Line) -> Line
     requires { length line ≤ 45 }
     ensures types { IsTyped messages.MarketResume }
     ensures text { result ≡ followed_by line (words_of_message messages.MarketResume) }
+    ensures short { length result ≤ 240 }
 {
     line.word("marketresume")
 }
@@ -127,6 +136,7 @@ fn message_line(line: Line, message: Message) -> Line
     requires ranges { IsSayable message }
     ensures types { IsTyped message }
     ensures text { result ≡ followed_by line (words_of_message message) }
+    ensures short { length result ≤ 240 }
 {
     match message {
         Message::Listed { symbol, name } => listed_line(line, symbol, name),
@@ -157,6 +167,7 @@ pub fn frame_line(f: &Frame) -> Line
     requires { InRange f.now }
     ensures types { HasTypes f.now }
     ensures text { result ≡ line_of_frame f.now }
+    ensures short { length result ≤ 240 }
 {
     match *f {
         Frame::Hello { inputs, messages } => Line::of("hello").number(inputs).number(messages),

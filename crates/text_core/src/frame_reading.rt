@@ -1,11 +1,12 @@
 //! From a line to its published frame.
 
-ghost use Rattle.std.specs.Prelude.{◌≡◌, ◌↔◌, ◌<◌, IsTrue, IfOk, Ok};
+ghost use Rattle.std.specs.Prelude.{◌≡◌, ◌↔◌, ◌<◌, ◌&&◌, IsTrue, IfOk, Ok};
+ghost use Rattle.std.specs.Result.{result_ok};
 ghost use Rattle.wire_out.specs.Codes.{is_code, is_field};
 ghost use Rattle.wire_out.specs.Spelling.{InRange, IsSayable};
 ghost use Rattle.wire_out.specs.declared.message.Frame.{Frame};
 ghost use Rattle.text_core.specs.Lines.{PrintsFrame};
-ghost use Rattle.text_core.specs.Reading.{listed_of, state_of, band_of, straddle_of, collar_of, release_of, short_of, breaker_of, message_of, numbered_of, refused_of, frame_of};
+ghost use Rattle.text_core.specs.Reading.{listed_of, state_of, band_of, straddle_of, collar_of, release_of, short_of, breaker_of, message_of, numbered_of, refused_of, frame_of, is_sayable, is_frame_in_range, is_line_of_frame, frame_in};
 
 use crate::error::BadLine;
 use crate::field_reading::{index, is_name, moment, name, number, number8, number16, price, word};
@@ -178,7 +179,8 @@ fn frame(line: &[u8]) -> Option<Frame>
 
 /// Whether a code is one of a refusal, and names that field.
 fn is_refusal(code: u8, field: u8) -> bool
-    ensures { IsTrue result ↔ (IsTrue (is_code code) × IsTrue (is_field code field)) }
+    ensures value { result ≡ (is_code code && is_field code field) }
+    ensures tells { IsTrue result ↔ (IsTrue (is_code code) × IsTrue (is_field code field)) }
 {
     match code {
         3 => 1 <= field && field <= 7,
@@ -189,7 +191,8 @@ fn is_refusal(code: u8, field: u8) -> bool
 
 /// Whether a message is in the ranges that its types don't keep.
 fn is_sayable(message: Message) -> bool
-    ensures { IsTrue result ↔ IsSayable message }
+    ensures value { result ≡ is_sayable message }
+    ensures tells { IsTrue result ↔ IsSayable message }
 {
     match message {
         Message::Listed { name, .. } => is_name(name),
@@ -199,7 +202,8 @@ fn is_sayable(message: Message) -> bool
 
 /// Whether a frame is in the ranges that its types don't keep.
 fn is_in_range(f: &Frame) -> bool
-    ensures { IsTrue result ↔ InRange f.now }
+    ensures value { result ≡ is_frame_in_range f.now }
+    ensures tells { IsTrue result ↔ InRange f.now }
 {
     match *f {
         Frame::Hello { .. } => true,
@@ -211,13 +215,15 @@ fn is_in_range(f: &Frame) -> bool
 
 /// Whether a line prints a frame.
 fn prints(line: &[u8], f: &Frame) -> bool
-    ensures { IsTrue result ↔ PrintsFrame line.now f.now }
+    ensures value { result ≡ is_line_of_frame line.now f.now }
+    ensures tells { IsTrue result ↔ PrintsFrame line.now f.now }
 {
     is_in_range(f) && is(line, frame_line(f).as_str())
 }
 
 /// The published frame that a line prints, without its newline; an error exactly where it prints none.
 pub fn read_frame(line: &[u8]) -> Result<Frame, BadLine>
+    ensures exact { result_ok result ≡ frame_in line.now }
     ensures found { IfOk result (PrintsFrame line.now) }
     ensures only { (f : Frame) → PrintsFrame line.now f → result ≡ Ok f }
 {

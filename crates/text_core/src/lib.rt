@@ -8,12 +8,18 @@ mod frame_reading;
 mod kind;
 mod law;
 mod line;
+mod output;
 mod record_printing;
 mod record_reading;
+mod short;
+mod stream;
+mod task;
 #[cfg(test)]
 mod tests;
+mod translator;
 mod word;
 mod word_reading;
+mod writer;
 
 pub use error::BadLine;
 pub use frame_printing::print_frame;
@@ -22,3 +28,4 @@ pub use kind::Kind;
 pub use law::lines_differ;
 pub use record_printing::print_record;
 pub use record_reading::read_record;
+pub use stream::{pack_stream, print_stream};

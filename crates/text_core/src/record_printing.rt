@@ -1,6 +1,6 @@
 //! The lines of records.
 
-ghost use Rattle.std.specs.Prelude.{◌≡◌, IsTrue, IfOk};
+ghost use Rattle.std.specs.Prelude.{◌≡◌, ◌≤◌, IsTrue, IfOk, length};
 ghost use Rattle.std.specs.String.{string_bytes};
 ghost use Rattle.wire_core.specs.Names.{is_name};
 ghost use Rattle.wire_in.specs.Spelling.{HasTypes, InRange};
@@ -17,6 +17,7 @@ use wire_in::{NoticeKind, Record};
 fn day_line(moment: Moment, day: Day, index_close: Index) -> Line
     ensures types { HasTypes (records.Day moment day index_close) }
     ensures text { result ≡ line_of_record (records.Day moment day index_close) }
+    ensures short { length result ≤ 240 }
 {
     Line::of("day")
         .time(moment)
@@ -36,6 +37,7 @@ fn listing_line(
     requires { IsTrue (is_name name) }
     ensures types { HasTypes (records.Listing moment name tier leverage close) }
     ensures text { result ≡ line_of_record (records.Listing moment name tier leverage close) }
+    ensures short { length result ≤ 240 }
 {
     Line::of("listing")
         .time(moment)
@@ -48,6 +50,7 @@ fn listing_line(
 fn trade_line(moment: Moment, symbol: u16, number: u32, price: Price, size: u32, flags: u16) -> Line
     ensures types { HasTypes (records.Trade moment symbol number price size flags) }
     ensures text { result ≡ line_of_record (records.Trade moment symbol number price size flags) }
+    ensures short { length result ≤ 240 }
 {
     Line::of("trade")
         .time(moment)
@@ -61,6 +64,7 @@ fn trade_line(moment: Moment, symbol: u16, number: u32, price: Price, size: u32,
 fn cancel_line(moment: Moment, symbol: u16, number: u32) -> Line
     ensures types { HasTypes (records.Cancel moment symbol number) }
     ensures text { result ≡ line_of_record (records.Cancel moment symbol number) }
+    ensures short { length result ≤ 240 }
 {
     Line::of("cancel")
         .time(moment)
@@ -78,6 +82,7 @@ fn quote_line(
 ) -> Line
     ensures types { HasTypes (records.Quote moment symbol bid offer bid_size offer_size) }
     ensures text { result ≡ line_of_record (records.Quote moment symbol bid offer bid_size offer_size) }
+    ensures short { length result ≤ 240 }
 {
     Line::of("quote")
         .time(moment)
@@ -91,6 +96,7 @@ fn quote_line(
 fn index_tick_line(moment: Moment, value: Index) -> Line
     ensures types { HasTypes (records.IndexTick moment value) }
     ensures text { result ≡ line_of_record (records.IndexTick moment value) }
+    ensures short { length result ≤ 240 }
 {
     Line::of("index").time(moment).index(value)
 }
@@ -98,6 +104,7 @@ fn index_tick_line(moment: Moment, value: Index) -> Line
 fn clock_line(moment: Moment) -> Line
     ensures types { HasTypes (records.Clock moment) }
     ensures text { result ≡ line_of_record (records.Clock moment) }
+    ensures short { length result ≤ 240 }
 {
     Line::of("clock").time(moment)
 }
@@ -105,6 +112,7 @@ fn clock_line(moment: Moment) -> Line
 fn notice_line(moment: Moment, symbol: u16, kind: NoticeKind) -> Line
     ensures types { HasTypes (records.Notice moment symbol kind) }
     ensures text { result ≡ line_of_record (records.Notice moment symbol kind) }
+    ensures short { length result ≤ 240 }
 {
     Line::of("notice")
         .time(moment)
@@ -115,6 +123,7 @@ fn notice_line(moment: Moment, symbol: u16, kind: NoticeKind) -> Line
 fn indication_line(moment: Moment, symbol: u16, price: Price, unmatched: Unmatched) -> Line
     ensures types { HasTypes (records.Indication moment symbol price unmatched) }
     ensures text { result ≡ line_of_record (records.Indication moment symbol price unmatched) }
+    ensures short { length result ≤ 240 }
 {
     Line::of("indication")
         .time(moment)
@@ -128,6 +137,7 @@ pub fn record_line(x: &Record) -> Line
     requires { InRange x.now }
     ensures types { HasTypes x.now }
     ensures text { result ≡ line_of_record x.now }
+    ensures short { length result ≤ 240 }
 {
     match *x {
         Record::Day {

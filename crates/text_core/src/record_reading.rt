@@ -1,10 +1,11 @@
 //! From a line to its record.
 
 ghost use Rattle.std.specs.Prelude.{◌≡◌, ◌↔◌, IsTrue, IfOk, Ok};
+ghost use Rattle.std.specs.Result.{result_ok};
 ghost use Rattle.wire_in.specs.Spelling.{InRange};
 ghost use Rattle.wire_in.specs.declared.record.Record.{Record};
 ghost use Rattle.text_core.specs.Lines.{PrintsRecord};
-ghost use Rattle.text_core.specs.Reading.{day_of, listing_of, trade_of, cancel_of, quote_of, index_tick_of, clock_of, notice_of, indication_of, record_of};
+ghost use Rattle.text_core.specs.Reading.{day_of, listing_of, trade_of, cancel_of, quote_of, index_tick_of, clock_of, notice_of, indication_of, record_of, is_in_range, is_line_of, record_in};
 
 use crate::error::BadLine;
 use crate::field_reading::{
@@ -187,7 +188,8 @@ fn record(line: &[u8]) -> Option<Record>
 
 /// Whether a record is in the ranges that its types don't keep.
 fn is_in_range(x: &Record) -> bool
-    ensures { IsTrue result ↔ InRange x.now }
+    ensures value { result ≡ is_in_range x.now }
+    ensures tells { IsTrue result ↔ InRange x.now }
 {
     match *x {
         Record::Day { day, .. } => day.profile == Profile::Since18,
@@ -199,13 +201,15 @@ fn is_in_range(x: &Record) -> bool
 
 /// Whether a line prints a record.
 fn prints(line: &[u8], x: &Record) -> bool
-    ensures { IsTrue result ↔ PrintsRecord line.now x.now }
+    ensures value { result ≡ is_line_of line.now x.now }
+    ensures tells { IsTrue result ↔ PrintsRecord line.now x.now }
 {
     is_in_range(x) && is(line, record_line(x).as_str())
 }
 
 /// The record that a line prints, without its newline; an error exactly where it prints none.
 pub fn read_record(line: &[u8]) -> Result<Record, BadLine>
+    ensures exact { result_ok result ≡ record_in line.now }
     ensures found { IfOk result (PrintsRecord line.now) }
     ensures only { (x : Record) → PrintsRecord line.now x → result ≡ Ok x }
 {

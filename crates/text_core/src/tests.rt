@@ -1,3 +1,5 @@
+mod streams;
+
 use super::*;
 use price_core::{Cause, Index, Leverage, Price, Tier, Unmatched};
 use session_core::{Close, Date, Day, Level, Moment, Phase, Profile};

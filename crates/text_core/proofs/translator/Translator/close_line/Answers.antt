@@ -1,0 +1,21 @@
+use Rattle.std.proofs.Common.{◌∙◌, ◌<◌, length, ap, arith}
+use Rattle.std.proofs.lemmas.Bool.Decides.{nat_tests}
+use Rattle.stream_core.proofs.Pending.{on_ok}
+use Rattle.stream_core.proofs.Sending.{sends_none}
+use Rattle.text_core.specs.declared.task.Task.TheVariants.{Pack}
+use Rattle.text_core.specs.Streams.{units_of, rest_of}
+use Rattle.text_core.proofs.Answering.{last_line}
+use Rattle.text_core.proofs.translator.Translator.close_line.Goals as goal
+
+pub returns-then-is_empty-clause-moments : goal.returns-then-is_empty-clause-moments
+returns-then-is_empty-clause-moments g c = λ begin read reads. sends_none (g.H.Host.outside c.args.host.now) (g.met.H.Host.sent_now c.args.host.now) _ _ reads.answers.pending_is
+
+pub returns-clause-answers : goal.returns-clause-answers
+returns-clause-answers g c = λ begin read reads.
+    let some : 0 < length c.as_slice-2.result.now =
+    grind (arith, nat_tests, c.is_empty.ensures, c.if-is_empty.false, ap length c.as_slice.ensures.value, ap length c.as_slice-2.ensures.value) in
+    on_ok c.answer.result (c.answer.ensures.answers begin _ reads.answers)
+    (λ answers. last_line (units_of Pack read) c.as_slice-2.result.now (rest_of Pack read) (c.as_slice-2.ensures.value ∙ reads.begun c.requires.open) some answers)
+
+pub returns-clause-moments : goal.returns-clause-moments
+returns-clause-moments g c = λ begin read reads. c.answer.ensures.moments begin _ reads.answers

@@ -1,0 +1,66 @@
+//! What is answered of a stream.
+
+ghost use Rattle.std.specs.Prelude.{◌≡◌, ◌+◌, ◌<◌, ◌≤◌, ◌^◌, ◌++◌, ◌∷◌, [], ℕ, List, Option, length, true, false, if◌then◌else◌, OnOk, IfErr};
+ghost use Rattle.host_core.specs.Outside.{Elapses};
+ghost use Rattle.host_core.specs.Frames.{OnlySends};
+ghost use Rattle.host_core.specs.Faults.{Causes};
+ghost use Rattle.text_core.specs.declared.task.Task.TheVariants as tasks;
+ghost use Rattle.stream_core.specs.Pending.{SendsPrefix};
+ghost use Rattle.text_core.specs.Streams.{text_of};
+ghost use Rattle.text_core.specs.InternalStreams.{Answers};
+
+use crate::kind::Kind;
+use crate::output::output_for;
+use crate::task::Task;
+use host_core::{Fault, Host};
+use stream_core::Outbox;
+
+/// What waits to be sent, how many units were answered, and whether the one behind them was bad.
+#[derive(Drop)]
+pub struct Writer {
+    pub outbox: Outbox,
+    pub number: u64,
+    pub bad: bool,
+}
+
+impl Writer {
+    /// Nothing was answered yet.
+    pub fn new(outbox: Outbox) -> Writer
+        ensures { result ≡ record { outbox = outbox; number = 0; bad = false } }
+    {
+        Writer {
+            outbox,
+            number: 0,
+            bad: false,
+        }
+    }
+
+    /// Answers one unit more. After an error the writer is of no further use.
+    pub fn answer<H: Host>(
+        &mut self,
+        task: Task,
+        kind: Kind,
+        host: &mut H,
+        unit: &[u8],
+    ) -> Result<(), Fault>
+        requires open { self.old.bad ≡ false }
+        requires few { self.old.number < 2 ^ 42 }
+        requires short { task ≡ tasks.Print → length unit.now ≤ 255 }
+        ensures answers { (begin : Option (List ℕ)) (units : List (List ℕ)) → Answers task kind begin units self.old (H.outside host.old).sent
+            → OnOk result (Answers task kind begin (units ++ unit.now ∷ []) self.new (H.outside host.new).sent) }
+        ensures moments { (begin : Option (List ℕ)) (units : List (List ℕ)) → Answers task kind begin units self.old (H.outside host.old).sent
+            → Elapses (H.outside host.old) (H.outside host.new) (SendsPrefix begin (text_of task kind units) (H.outside host.old)) }
+        ensures few { OnOk result (self.new.number ≤ self.old.number + 1) }
+        ensures keeps { OnlySends (H.outside host.old) (H.outside host.new) }
+        ensures causes { Causes result (H.outside host.old) (H.outside host.new) }
+        ensures fault { IfErr result (λ fault. fault ≡ Fault.Send) }
+    {
+        let Some(output) = output_for(task, kind, unit) else {
+            self.bad = true;
+            return Ok(());
+        };
+        self.outbox.append_bytes(host, output.as_slice())?;
+        self.number += 1;
+        Ok(())
+    }
+}
