@@ -1,17 +1,15 @@
 -- What is accepted only grows, and where nothing is, nothing is written.
-use Rattle.std.proofs.Common.{◌≡◌, ℕ, List, [], ◌∷◌, ◌++◌, length, refl, sym, ap, ◌∙◌, append_assoc, length-append, arith}
-use Rattle.std.specs.Prelude.{Option, Ok, Err}
+use Rattle.std.proofs.Common.{◌≡◌, ℕ, List, [], ◌++◌, length, refl, ap, ◌∙◌, length-append, arith}
+use Rattle.std.specs.Prelude.{Option}
 use Rattle.std.proofs.lemmas.List.{nil_from_length, length-reverse}
 use Rattle.host_core.specs.Outside.{Outside, Agrees, Elapses}
 use Rattle.host_core.proofs.Moments.{nothing, widened, goes_on, ended}
 use Rattle.wire_in.specs.declared.record.Record.{Record}
-use Rattle.wire_in.specs.Cutting.{bodies_of, rest_of}
-use Rattle.wire_in.proofs.Cuts.{bodies_of-append}
-use Rattle.rulebook.specs.Sent.{judged, with_record, accepted_of}
+use Rattle.wire_in.specs.Cutting.{bodies_of}
 use Rattle.engine_core.specs.declared.session.Session.{Session}
 use Rattle.stream_core.specs.Pending.{SendsPrefix}
-use Rattle.engine_core.specs.Rounds.{Outcome, records_in}
-use Rattle.engine_core.specs.Sessions.{Start, held_after}
+use Rattle.engine_core.specs.Rounds.{records_in}
+use Rattle.engine_core.specs.Sessions.{Start}
 use Rattle.engine_core.specs.Serving.{Serves}
 use Rattle.engine_core.specs.Unwritten.{WritesNothing, AcceptsNone}
 use Rattle.engine_core.proofs.Expecting.{Begins, accepted_grows, held_further}

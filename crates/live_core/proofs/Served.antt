@@ -22,7 +22,7 @@ use Rattle.stream_core.specs.Taking.{ReadsAtMost}
 use Rattle.engine_core.specs.Ends.{Told}
 use Rattle.stream_core.specs.Pending.{SendsPrefix, SentPrefix}
 use Rattle.engine_core.specs.Serving.{Reads, Leaves}
-use Rattle.engine_core.specs.Sessions.{Prompt, expected}
+use Rattle.engine_core.specs.Sessions.{expected}
 use Rattle.engine_core.proofs.Asking.{no_ask, more_asks}
 use Rattle.engine_core.proofs.Expecting.{Begins as BeginsBytes, keeping_further, safe_of, safe_more, safe_further, added, expected-more}
 use Rattle.stream_core.proofs.Pending.{prefix_sent}
