@@ -1,22 +1,58 @@
--- What a command did.
-use Rattle.std.specs.Prelude.{ℕ, ◌≤◌}
-use Rattle.host_core.specs.declared.status.Status.{Status}
-use Rattle.host_core.specs.Outside.{Outside}
-use Rattle.journal_core.specs.Layout.{IsLimit}
+-- What words did.
+use Rattle.std.specs.Prelude.{◌≡◌, ◌⊎◌, ℕ, List, Result, Ok, Err}
+use Rattle.std.specs.Io.KnownBytes.{append_known}
+use Rattle.host_core.specs.declared.status.Status as status
+use Rattle.host_core.specs.declared.status.Status.TheVariants as statuses
+use Rattle.host_core.specs.Outside.{Outside, Elapses, Sends, Rose}
+use Rattle.host_core.specs.Frames.{OnlySends}
 use Rattle.journal_core.specs.Formatted.{Formatted}
+use Rattle.live_core.specs.Reported.{Reported}
 use Rattle.live_core.specs.Served.{Served}
 use Rattle.replay_core.specs.Replayed.{Replayed}
-use Rattle.halts.specs.declared.words.Command.{Command}
-use Rattle.halts.specs.declared.words.Command.TheVariants.{Format, Serve, Replay}
+use Rattle.words_core.specs.Asked.{Reads}
+use Rattle.words_core.specs.declared.asked.Asked.{Asked}
+use Rattle.words_core.specs.declared.asked.Asked.TheVariants as asked
+use Rattle.words_core.specs.declared.asked.WordsError.{WordsError}
+use Rattle.words_core.specs.declared.asked.WordsError.TheVariants as errors
+use Rattle.words_core.specs.declared.command.Command.{Command}
+use Rattle.words_core.specs.declared.command.Command.TheVariants.{Format, Serve, Replay, Status, Print, Pack, Generate}
 
 -- what a command promises; what says that no call of the host was made is given
-abbrev pub Ran : Type 0 → Command → Status → Outside → Outside → Type 0
+abbrev pub Ran : Type 0 → Command → status.Status → Outside → Outside → Type 0
 Ran unbegun (Format limit) status old new = Formatted limit status old new
 Ran unbegun (Serve from bytes) status old new = Served unbegun from bytes status old new
 Ran unbegun (Replay bytes) status old new = Replayed unbegun bytes status old new
+Ran unbegun Status status old new = Reported status old new
+-- the commands that this program does not have yet
+Ran unbegun (Print kind) status old new = (status ≡ statuses.Usage) × unbegun
+Ran unbegun (Pack kind) status old new = (status ≡ statuses.Usage) × unbegun
+Ran unbegun (Generate seed symbols records summary) status old new = (status ≡ statuses.Usage) × unbegun
 
--- the numbers of a command are in their ranges
-abbrev pub IsInRange : Command → Type 0
-IsInRange (Format limit) = IsLimit limit
-IsInRange (Serve from bytes) = bytes ≤ 1099511627776
-IsInRange (Replay bytes) = bytes ≤ 1099511627776
+-- this program has the command
+abbrev pub IsBuilt : Command → Type 0
+IsBuilt (Format limit) = Unit {0}
+IsBuilt (Serve from bytes) = Unit {0}
+IsBuilt (Replay bytes) = Unit {0}
+IsBuilt Status = Unit {0}
+IsBuilt command = ⊥
+
+-- a text was sent, or the first of its bytes, and nothing else was done
+pub record Shown (text : List ℕ) (status : status.Status) (old new : Outside) : Type 0 where
+  pub exact : status ≡ statuses.Done → new.sent ≡ append_known old.sent text
+  pub moments : Elapses old new (Sends text old)
+  pub keeps : OnlySends old new
+  pub cause : status ≡ statuses.SendFault → Rose old.send_faults new.send_faults
+  pub kind : (status ≡ statuses.Done) ⊎ (status ≡ statuses.SendFault)
+
+-- what was done, by what the words ask for
+abbrev pub Did : Type 0 → Result Asked WordsError → status.Status → Outside → Outside → Type 0
+Did unbegun (Ok (asked.Command command)) status old new = Ran unbegun command status old new
+Did unbegun (Ok (asked.Text text)) status old new = Shown text.bytes.items status old new
+Did unbegun (Err errors.Usage) status old new = (status ≡ statuses.Usage) × unbegun
+Did unbegun (Err errors.NoMemory) status old new = (status ≡ statuses.NoMemory) × unbegun
+
+-- words that are no plain line were answered as the command line says
+pub record Obeyed (unbegun : Type 0) (words : List (List ℕ)) (status : status.Status) (old new : Outside) : Type 0 where
+  pub answer : Result Asked WordsError
+  pub reads : Reads words answer
+  pub did : Did unbegun answer status old new

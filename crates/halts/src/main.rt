@@ -6,7 +6,6 @@ mod run;
 #[cfg(test)]
 mod tests;
 mod told;
-mod words;
 
 use host_core::Status;
 use process::start;

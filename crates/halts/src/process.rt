@@ -1,9 +1,11 @@
 //! The words of a process, done over a host of its streams and the journal's file.
 
-ghost use Rattle.std.specs.Prelude.{◌≡◌, ◌↔◌, None, IfSome, map, get_or, codes, drop};
+ghost use Rattle.std.specs.Prelude.{◌≡◌, ◌≢◌, None, Some, map, get_or, codes, drop};
 ghost use Rattle.host_core.specs.Outside.{Continues};
-ghost use Rattle.halts.specs.Runs.{Ran};
-ghost use Rattle.halts.specs.Words.{asked};
+ghost use Rattle.words_core.specs.declared.command.Command.{Command};
+ghost use Rattle.words_core.specs.Plain.{command_of};
+ghost use Rattle.halts.specs.Runs.{Ran, Obeyed, IsBuilt};
+ghost use Rattle.halts.specs.Words.{command_words};
 
 use crate::run::run;
 use host_core::{Host, JournalFile, RealHost, Status};
@@ -39,11 +41,15 @@ pub fn perform<Rt: Threads + Sync, H: Host>(
     args: &[&str],
     host: &mut H,
 ) -> Status
-    // Exactly where the words are no plain line; then the host is not called.
-    ensures usage { (result ≡ Status.Usage) ↔ (asked (map (λ w. w.now) args.now) ≡ None) }
+    // A plain line does its command, and each command keeps what it promises.
+    ensures ran { (command : Command) → command_of (command_words (map (λ w. w.now) args.now)) ≡ Some command
+        → Ran (host.new ≡ host.old) command result (H.outside host.old) (H.outside host.new) }
+    // Other words are answered as the command line says.
+    ensures others { command_of (command_words (map (λ w. w.now) args.now)) ≡ None
+        → Obeyed (host.new ≡ host.old) (command_words (map (λ w. w.now) args.now)) result (H.outside host.old) (H.outside host.new) }
+    // The words of a command are always understood. Where words are not, the host is not called.
+    ensures understood { (command : Command) → command_of (command_words (map (λ w. w.now) args.now)) ≡ Some command → IsBuilt command → result ≢ Status.Usage }
     ensures untouched { result ≡ Status.Usage → host.new ≡ host.old }
-    // Each command keeps what it promises.
-    ensures ran { IfSome (asked (map (λ w. w.now) args.now)) (λ command. Ran (host.new ≡ host.old) command result (H.outside host.old) (H.outside host.new)) }
     ensures continues { Continues (H.outside host.old) (H.outside host.new) }
 {
     run(rt, alloc, words_behind(args), host)
@@ -57,7 +63,7 @@ pub fn start<Rt: Files + Threads + Sync, R: Read + Drop, W: Write + Drop>(
     input: R,
     output: W,
 ) -> Status
-    ensures usage { (result ≡ Status.Usage) ↔ (asked (map (λ w. w.now) args.now) ≡ None) }
+    ensures understood { (command : Command) → command_of (command_words (map (λ w. w.now) args.now)) ≡ Some command → IsBuilt command → result ≢ Status.Usage }
 {
     let journal = JournalFile::new(rt, journal_path(args));
     let mut host = RealHost::new(input, output, journal);

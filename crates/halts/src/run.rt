@@ -1,19 +1,22 @@
 //! The top call: what a command line asks for, done over a host.
 
-ghost use Rattle.std.specs.Prelude.{◌≡◌, ◌↔◌, None, IfSome, map};
+ghost use Rattle.std.specs.Prelude.{◌≡◌, ◌≢◌, None, Some, IfOk, map};
 ghost use Rattle.host_core.specs.Outside.{Continues};
 ghost use Rattle.journal_core.specs.Layout.{IsLimit};
 ghost use Rattle.journal_core.specs.Formatted.{Formatted};
-ghost use Rattle.halts.specs.Runs.{Ran, IsInRange};
-ghost use Rattle.halts.specs.Words.{command_of};
+ghost use Rattle.words_core.specs.declared.command.Command.{Command};
+ghost use Rattle.words_core.specs.Commands.{IsInRange};
+ghost use Rattle.words_core.specs.Asked.{IsAskedInRange};
+ghost use Rattle.words_core.specs.Plain.{command_of};
+ghost use Rattle.halts.specs.Runs.{Ran, Shown, Did, Obeyed, IsBuilt};
 
-use crate::words::{Command, parse};
-use host_core::{Host, Status};
+use host_core::{Host, Status, send_all};
 use journal_core::format;
-use live_core::{ServeOptions, serve};
+use live_core::{ServeOptions, report, serve};
 use replay_core::{ReplayOptions, replay};
 use std::alloc::Global;
 use std::thread::Threads;
+use words_core::{Asked, Command, WordsError, parse};
 
 /// Makes an empty journal.
 fn format_journal<H: Host>(host: &mut H, limit: u64) -> Status
@@ -42,6 +45,38 @@ fn obey<Rt: Threads + Sync, H: Host>(
         Command::Format { limit } => format_journal(host, limit),
         Command::Serve { from, bytes } => serve(rt, alloc, host, &ServeOptions { from, bytes }),
         Command::Replay { bytes } => replay(rt, alloc, host, &ReplayOptions { bytes }),
+        Command::Status => report(alloc, host),
+        Command::Print { .. } | Command::Pack { .. } | Command::Generate { .. } => Status::Usage,
+    }
+}
+
+/// Sends a text that was asked for.
+fn show<H: Host>(host: &mut H, text: &str) -> Status
+    ensures shown { Shown text.now result (H.outside host.old) (H.outside host.new) }
+    ensures continues { Continues (H.outside host.old) (H.outside host.new) }
+{
+    match send_all(host, text.as_bytes()) {
+        Ok(()) => Status::Done,
+        Err(_) => Status::SendFault,
+    }
+}
+
+/// Does what words ask for.
+fn answer<Rt: Threads + Sync, H: Host>(
+    rt: &Rt,
+    alloc: Global,
+    host: &mut H,
+    asked: &Result<Asked, WordsError>,
+) -> Status
+    requires { IfOk asked.now IsAskedInRange }
+    ensures did { Did (host.new ≡ host.old) asked.now result (H.outside host.old) (H.outside host.new) }
+    ensures continues { Continues (H.outside host.old) (H.outside host.new) }
+{
+    match asked {
+        Ok(Asked::Command(command)) => obey(rt, alloc, host, *command),
+        Ok(Asked::Text(text)) => show(host, text.as_str()),
+        Err(WordsError::Usage) => Status::Usage,
+        Err(WordsError::NoMemory) => Status::NoMemory,
     }
 }
 
@@ -52,15 +87,16 @@ pub fn run<Rt: Threads + Sync, H: Host>(
     words: &[&str],
     host: &mut H,
 ) -> Status
-    // Exactly where the words are no plain line; then the host is not called.
-    ensures usage { (result ≡ Status.Usage) ↔ (command_of (map (λ w. w.now) words.now) ≡ None) }
+    // A plain line does its command, and each command keeps what it promises.
+    ensures ran { (command : Command) → command_of (map (λ w. w.now) words.now) ≡ Some command
+        → Ran (host.new ≡ host.old) command result (H.outside host.old) (H.outside host.new) }
+    // Other words are answered as the command line says.
+    ensures others { command_of (map (λ w. w.now) words.now) ≡ None
+        → Obeyed (host.new ≡ host.old) (map (λ w. w.now) words.now) result (H.outside host.old) (H.outside host.new) }
+    // The words of a command are always understood. Where words are not, the host is not called.
+    ensures understood { (command : Command) → command_of (map (λ w. w.now) words.now) ≡ Some command → IsBuilt command → result ≢ Status.Usage }
     ensures untouched { result ≡ Status.Usage → host.new ≡ host.old }
-    // Each command keeps what it promises.
-    ensures ran { IfSome (command_of (map (λ w. w.now) words.now)) (λ command. Ran (host.new ≡ host.old) command result (H.outside host.old) (H.outside host.new)) }
     ensures continues { Continues (H.outside host.old) (H.outside host.new) }
 {
-    match parse(words) {
-        Some(command) => obey(rt, alloc, host, command),
-        None => Status::Usage,
-    }
+    answer(rt, alloc, host, &parse(alloc, words))
 }

@@ -2,6 +2,7 @@
 mod batches;
 mod bytes;
 mod ends;
+mod holdings;
 mod morning;
 mod process;
 mod refusals;
@@ -84,16 +85,32 @@ fn replays<Rt: Abort + AllocGlobal + Threads + Sync>(rt: &Rt, lines: &[Line]) ->
 }
 
 #[test]
+fn help_and_the_version_go_to_the_output(rt: HostRuntime) -> Result<(), Fail> {
+    let alloc = rt.alloc();
+    for (words, begin) in [
+        (["--help"].as_slice(), "Trading halts"),
+        (&["serve", "--help"], "Answers the frames"),
+        (&["--version"], "halts 0.1.0\n"),
+    ] {
+        let mut host = MemoryHost::new(alloc, b"unread", b"")?;
+        assert_eq!(rt; run(&rt, alloc, words, &mut host), Status::Done);
+        assert!(rt; host.sent().starts_with(begin.as_bytes()));
+        assert_eq!(rt; host.calls(), 1);
+    }
+    Ok(())
+}
+
+#[test]
 fn other_words_call_nothing(rt: HostRuntime) -> Result<(), Fail> {
     let alloc = rt.alloc();
     let session = Session::of(alloc, &fall())?;
     for words in [
         [].as_slice(),
         &["report"],
+        &["status", "now"],
         &["serve", "serve"],
         &["serve", "--batch", "65"],
         &["serve", "--bytes", "0"],
-        &["serve", "--bytes", "01"],
         &["serve", "--bytes", "1099511627777"],
         &["serve", "--from", "18446744073709551616"],
         &["serve", "--from", "1", "--from", "2"],
