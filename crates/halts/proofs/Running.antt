@@ -19,13 +19,13 @@ understood unbegun (Format limit) status old new ran built is = grind (arith, ra
 understood unbegun (Serve from bytes) status old new ran built is = ran.kind.understood is
 understood unbegun (Replay bytes) status old new ran built is = grind (arith, ran.kind, is)
 understood unbegun Status status old new ran built is = grind (arith, ran.kind, is)
-understood unbegun (Print kind) status old new ran built is = absurd built
-understood unbegun (Pack kind) status old new ran built is = absurd built
+understood unbegun (Print kind) status old new ran built is = grind (arith, ran.kind, is)
+understood unbegun (Pack kind) status old new ran built is = grind (arith, ran.kind, is)
 understood unbegun (Generate seed symbols records summary) status old new ran built is = absurd built
 
 untouched_by : (unbegun : Type 0) (command : Command) (status : status.Status) (old new : Outside) → Ran unbegun command status old new → status ≡ statuses.Usage → unbegun
-untouched_by unbegun (Print kind) status old new ran is = ran.1
-untouched_by unbegun (Pack kind) status old new ran is = ran.1
+untouched_by unbegun (Print kind) status old new ran is = absurd (understood unbegun (Print kind) status old new ran tt is)
+untouched_by unbegun (Pack kind) status old new ran is = absurd (understood unbegun (Pack kind) status old new ran tt is)
 untouched_by unbegun (Generate seed symbols records summary) status old new ran is = ran.1
 untouched_by unbegun (Format limit) status old new ran is = absurd (understood unbegun (Format limit) status old new ran tt is)
 untouched_by unbegun (Serve from bytes) status old new ran is = absurd (understood unbegun (Serve from bytes) status old new ran tt is)

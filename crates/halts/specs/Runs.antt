@@ -9,6 +9,7 @@ use Rattle.journal_core.specs.Formatted.{Formatted}
 use Rattle.live_core.specs.Reported.{Reported}
 use Rattle.live_core.specs.Served.{Served}
 use Rattle.replay_core.specs.Replayed.{Replayed}
+use Rattle.text_core.specs.Translated.{Printed, Packed}
 use Rattle.words_core.specs.Asked.{Reads}
 use Rattle.words_core.specs.declared.asked.Asked.{Asked}
 use Rattle.words_core.specs.declared.asked.Asked.TheVariants as asked
@@ -23,9 +24,9 @@ Ran unbegun (Format limit) status old new = Formatted limit status old new
 Ran unbegun (Serve from bytes) status old new = Served unbegun from bytes status old new
 Ran unbegun (Replay bytes) status old new = Replayed unbegun bytes status old new
 Ran unbegun Status status old new = Reported status old new
--- the commands that this program does not have yet
-Ran unbegun (Print kind) status old new = (status ≡ statuses.Usage) × unbegun
-Ran unbegun (Pack kind) status old new = (status ≡ statuses.Usage) × unbegun
+Ran unbegun (Print kind) status old new = Printed kind status old new
+Ran unbegun (Pack kind) status old new = Packed kind status old new
+-- the command that this program does not have yet
 Ran unbegun (Generate seed symbols records summary) status old new = (status ≡ statuses.Usage) × unbegun
 
 -- this program has the command
@@ -34,7 +35,9 @@ IsBuilt (Format limit) = Unit {0}
 IsBuilt (Serve from bytes) = Unit {0}
 IsBuilt (Replay bytes) = Unit {0}
 IsBuilt Status = Unit {0}
-IsBuilt command = ⊥
+IsBuilt (Print kind) = Unit {0}
+IsBuilt (Pack kind) = Unit {0}
+IsBuilt (Generate seed symbols records summary) = ⊥
 
 -- a text was sent, or the first of its bytes, and nothing else was done
 pub record Shown (text : List ℕ) (status : status.Status) (old new : Outside) : Type 0 where

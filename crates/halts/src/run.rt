@@ -16,6 +16,7 @@ use live_core::{ServeOptions, report, serve};
 use replay_core::{ReplayOptions, replay};
 use std::alloc::Global;
 use std::thread::Threads;
+use text_core::{pack_stream, print_stream};
 use words_core::{Asked, Command, WordsError, parse};
 
 /// Makes an empty journal.
@@ -46,7 +47,9 @@ fn obey<Rt: Threads + Sync, H: Host>(
         Command::Serve { from, bytes } => serve(rt, alloc, host, &ServeOptions { from, bytes }),
         Command::Replay { bytes } => replay(rt, alloc, host, &ReplayOptions { bytes }),
         Command::Status => report(alloc, host),
-        Command::Print { .. } | Command::Pack { .. } | Command::Generate { .. } => Status::Usage,
+        Command::Print { kind } => print_stream(alloc, host, kind),
+        Command::Pack { kind } => pack_stream(alloc, host, kind),
+        Command::Generate { .. } => Status::Usage,
     }
 }
 

@@ -8,6 +8,7 @@ mod process;
 mod refusals;
 mod restarts;
 mod stops;
+mod texts;
 mod told;
 mod worked;
 
