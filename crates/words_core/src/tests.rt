@@ -135,6 +135,11 @@ fn other_spellings_are_taken(rt: HostRuntime) {
             }
         )
     );
+}
+
+#[test]
+fn a_generated_day_is_spelled_in_another_way(rt: HostRuntime) {
+    let alloc = rt.alloc();
     let day = Command::Generate {
         seed: 5,
         symbols: 500,
