@@ -3,11 +3,9 @@ use Rattle.std.proofs.Common.{◌≡◌, ◌⊎◌, inl, inr, ℕ, ◌+◌, ◌-
 use Rattle.std.specs.Prelude.{Option, Some, option_map}
 use Rattle.std.specs.Io.KnownBytes.{append_known}
 use Rattle.std.proofs.Math.Seq.{take-add}
-use Rattle.std.proofs.lemmas.List.{drop-drop, length-drop, length-take, take-append-le, take-append-drop}
-use Rattle.host_core.specs.Outside.{Outside, MayLeave, Elapses, Takes}
-use Rattle.host_core.specs.Frames.{OnlySends, OnlyReadsInput}
-use Rattle.host_core.proofs.Moments.{widened, further}
-use Rattle.host_core.proofs.Chains.{stays_left}
+use Rattle.std.proofs.lemmas.List.{drop-drop, length-drop}
+use Rattle.host_core.specs.Outside.{Outside, MayLeave, Elapses}
+use Rattle.host_core.proofs.Moments.{widened}
 use Rattle.wire_in.specs.declared.record.Record.{Record}
 use Rattle.wire_in.specs.Cutting.{bodies_of}
 use Rattle.engine_core.specs.declared.session.Session.{Session}
@@ -15,7 +13,7 @@ use Rattle.stream_core.specs.Pending.{Expects, SendsPrefix}
 use Rattle.engine_core.specs.Sessions.{Start, held_after, expected, Answered, Prompt}
 use Rattle.engine_core.specs.Unwritten.{WritesNothing, AcceptsNone}
 use Rattle.engine_core.specs.Serving.{Serves, Reads, Leaves}
-use Rattle.stream_core.specs.Taking.{TakesPiece, OnlyExchanges}
+use Rattle.stream_core.specs.Taking.{TakesPiece}
 use Rattle.stream_core.proofs.Pending.{expects_nothing}
 use Rattle.engine_core.proofs.Answering.{none_waits}
 use Rattle.engine_core.proofs.Expecting.{Begins, at_rest, safe_sends}

@@ -1,6 +1,6 @@
 -- What a session keeps, and what it represents.
-use Rattle.std.specs.Prelude.{◌≡◌, ◌⊎◌, ℕ, ◌+◌, ◌-◌, ◌*◌, ◌^◌, ◌≤◌, List, [], ◌++◌, length, take, drop, Option, Some, option_map}
-use Rattle.host_core.specs.Outside.{Outside, Agrees, MayLeave, Continues}
+use Rattle.std.specs.Prelude.{◌≡◌, ℕ, ◌+◌, ◌-◌, ◌*◌, ◌^◌, ◌≤◌, List, ◌++◌, length, take, drop, Some}
+use Rattle.host_core.specs.Outside.{Outside, Agrees, Continues}
 use Rattle.wire_in.specs.declared.record.Record.{Record}
 use Rattle.wire_in.specs.Cutting.{pending, bodies_of, rest_of}
 use Rattle.journal_core.specs.Layout.{records_of}

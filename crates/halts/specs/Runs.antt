@@ -6,7 +6,7 @@ use Rattle.host_core.specs.declared.status.Status.TheVariants as statuses
 use Rattle.host_core.specs.Outside.{Outside, Elapses, Sends, Rose}
 use Rattle.host_core.specs.Frames.{OnlySends}
 use Rattle.journal_core.specs.Formatted.{Formatted}
-use Rattle.live_core.specs.Reported.{Reported}
+use Rattle.report_core.specs.Reported.{Reported}
 use Rattle.live_core.specs.Served.{Served}
 use Rattle.replay_core.specs.Replayed.{Replayed}
 use Rattle.text_core.specs.Translated.{Printed, Packed}

@@ -12,8 +12,9 @@ ghost use Rattle.halts.specs.Runs.{Ran, Shown, Did, Obeyed, IsBuilt};
 
 use host_core::{Host, Status, send_all};
 use journal_core::format;
-use live_core::{ServeOptions, report, serve};
+use live_core::{ServeOptions, serve};
 use replay_core::{ReplayOptions, replay};
+use report_core::report;
 use std::alloc::Global;
 use std::thread::Threads;
 use text_core::{pack_stream, print_stream};

@@ -34,7 +34,9 @@ pub fn status_line(status: Status) -> Option<StatusLine>
 {
     match status {
         Status::Done => None,
-        Status::Usage => plain("halts: usage: halts <journal> format|serve|replay|status|print|pack"),
+        Status::Usage => plain(
+            "halts: usage: halts <journal> format|serve|replay|status|print|pack",
+        ),
         Status::Truncated => plain("halts: the input ends inside a frame"),
         Status::ReadFault => plain("halts: the input could not be read"),
         Status::SendFault => plain("halts: the output could not be written"),

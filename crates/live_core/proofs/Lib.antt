@@ -3,4 +3,3 @@ pub mod OneDamage
 pub mod Restoring
 pub mod Regaining
 pub mod Served
-pub mod Reporting

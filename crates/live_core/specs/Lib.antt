@@ -7,5 +7,3 @@ pub mod Written
 pub mod Served
 pub mod InternalRecovery
 pub mod InternalServing
-pub mod Reported
-pub mod InternalReport

@@ -1,10 +1,9 @@
 //! A session over a journal: a live input is answered, and each acknowledged record is kept.
 #![tactic(auto)]
 
-mod holdings;
 mod keeper;
 mod recovery;
 mod serving;
 
-pub use holdings::report;
+pub use recovery::Recovery;
 pub use serving::{ServeOptions, serve};

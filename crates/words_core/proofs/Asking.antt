@@ -1,7 +1,7 @@
 -- What an answer comes from.
-use Rattle.std.proofs.Common.{◌≡◌, ◌⊎◌, ◌∙◌, sym, ap, subst, refl, inl, inr, true, false, Option, Some, None, []}
-use Rattle.std.specs.Prelude.{Result, Ok, Err, ◌≢◌}
-use Rattle.clap.specs.Words.{Kinds, HasKind, IsAmong, kind_of}
+use Rattle.std.proofs.Common.{◌≡◌, ◌∙◌, sym, ap, inl, inr, true, Option, []}
+use Rattle.std.specs.Prelude.{Result, Ok, Err}
+use Rattle.clap.specs.Words.{Kinds, HasKind, kind_of}
 use Rattle.clap.specs.declared.error.Error.{Error}
 use Rattle.clap.specs.declared.error.kind.ErrorKind.{ErrorKind}
 use Rattle.clap.specs.declared.error.kind.ErrorKind.TheVariants.{OutOfMemory}

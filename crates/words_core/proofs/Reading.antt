@@ -1,5 +1,5 @@
 -- The options of a plain line, from word to word.
-use Rattle.std.proofs.Common.{◌≡◌, ◌∙◌, ℕ, Bool, ◌<◌, true, false, List, [], ◌∷◌, length, get_or, drop, map, Option, Some, None, refl, sym, ap, arith, codes}
+use Rattle.std.proofs.Common.{◌≡◌, ℕ, Bool, ◌<◌, true, false, List, [], ◌∷◌, length, get_or, drop, map, Option, Some, None, refl, arith, codes}
 use Rattle.std.specs.Prelude.{option_and_then}
 use Rattle.std.specs.Borrow.{Bor}
 use Rattle.std.specs.Str.{bytes_eq}

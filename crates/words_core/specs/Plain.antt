@@ -1,6 +1,6 @@
 -- Plain lines: a command, and then each of its options at most once, in any order, as the two words of its name and its
 -- value. The option --summary is one word. They ask for the command with these values, and with defaults for the rest.
-use Rattle.std.specs.Prelude.{ℕ, Bool, true, false, List, [], ◌∷◌, Option, Some, None, is_some, if◌then◌else◌, codes, option_map, option_and_then, unwrap_or, IfSome, ◌≤◌}
+use Rattle.std.specs.Prelude.{ℕ, Bool, true, false, List, [], ◌∷◌, Option, Some, None, if◌then◌else◌, codes, option_map, option_and_then, unwrap_or, IfSome, ◌≤◌}
 use Rattle.std.specs.Str.{bytes_eq}
 use Rattle.words_core.specs.Commands.{verb_of, kind_of}
 use Rattle.words_core.specs.Numbers.{number_in}

@@ -12,8 +12,22 @@ fn a_day_is_printed_and_packed_again(rt: HostRuntime) -> Result<(), Fail> {
     let session = Session::of(rt.alloc(), &[day(3)])?;
     let print = ["print", "--kind", "records"];
     let pack = ["pack", "--kind", "records"];
-    runs(&rt, &print, b"", &session.input, DAY.as_bytes(), Status::Done)?;
-    runs(&rt, &pack, b"", DAY.as_bytes(), &session.input, Status::Done)?;
+    runs(
+        &rt,
+        &print,
+        b"",
+        &session.input,
+        DAY.as_bytes(),
+        Status::Done,
+    )?;
+    runs(
+        &rt,
+        &pack,
+        b"",
+        DAY.as_bytes(),
+        &session.input,
+        Status::Done,
+    )?;
     Ok(())
 }
 
@@ -22,7 +36,14 @@ fn a_line_that_is_none_is_told_by_its_number(rt: HostRuntime) -> Result<(), Fail
     let session = Session::of(rt.alloc(), &[day(3)])?;
     let lines = b"day 04:00:00.000000000 2024-06-03 regular since18 5000.00\nclock 9:30:00\n";
     let told = Status::BadText { line: 2 };
-    runs(&rt, &["pack", "--kind", "records"], b"", lines, &session.input, told)?;
+    runs(
+        &rt,
+        &["pack", "--kind", "records"],
+        b"",
+        lines,
+        &session.input,
+        told,
+    )?;
     Ok(())
 }
 

@@ -1,7 +1,6 @@
-use Rattle.std.proofs.Common.{◌≡◌, ◌∙◌, ap, ap₂}
+use Rattle.std.proofs.Common.{◌∙◌, ap, ap₂}
 use Rattle.std.proofs.lemmas.Result.{IfOk-weaker}
-use Rattle.clap.specs.Words.{App, app_of, with_subcommand}
-use Rattle.words_core.specs.Line.{program, format_line, serve_line, replay_line}
+use Rattle.clap.specs.Words.{App, with_subcommand}
 use Rattle.words_core.proofs.line.with_sessions.Goals as goal
 
 pub returns-clause-app : goal.returns-clause-app

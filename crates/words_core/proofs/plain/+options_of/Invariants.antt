@@ -1,4 +1,4 @@
-use Rattle.std.proofs.Common.{length, ℕ}
+use Rattle.std.proofs.Common.{length}
 use Rattle.words_core.proofs.plain.+options_of.Given as goal
 
 abbrev pub decreases-options_of : goal.decreases-options_of

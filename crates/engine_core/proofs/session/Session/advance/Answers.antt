@@ -1,6 +1,6 @@
-use Rattle.std.proofs.Common.{◌≡◌, ◌∷◌, ◌++◌, ◌+◌, [], List, ℕ, Bool, true, false, not, refl, length, take, sym, ap, subst, ◌∙◌, true≢false}
+use Rattle.std.proofs.Common.{◌≡◌, ◌∷◌, ◌++◌, ◌+◌, [], List, ℕ, Bool, true, false, not, refl, length, take, sym, subst, ◌∙◌, true≢false}
 use Rattle.wire_core.specs.Frames.{framed}
-use Rattle.wire_in.specs.Cutting.{bodies_of, rest_of, is_frame, GoesOn}
+use Rattle.wire_in.specs.Cutting.{bodies_of, is_frame, GoesOn}
 use Rattle.engine_core.specs.Answering.{Waits}
 use Rattle.engine_core.proofs.Rounds.{whole_on}
 use Rattle.engine_core.proofs.session.Session.advance.Goals as goal

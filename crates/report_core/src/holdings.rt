@@ -6,13 +6,13 @@ ghost use Rattle.host_core.specs.Outside.{NoFault};
 ghost use Rattle.host_core.specs.Frames.{OnlySends};
 ghost use Rattle.engine_core.specs.EngineState.{Represents};
 ghost use Rattle.live_core.specs.InternalRecovery.{again, SendsAgain, HasDamage, StarvesAgain, IsReading, Recovers, OnlyRecovers, Hinders};
-ghost use Rattle.live_core.specs.InternalReport.{Tells, IsTold, IsGathered, IsUngathered};
-ghost use Rattle.live_core.specs.Reported.{Reported, line, day_word, report_of};
+ghost use Rattle.report_core.specs.InternalReport.{Tells, IsTold, IsGathered, IsUngathered};
+ghost use Rattle.report_core.specs.Reported.{Reported, line, day_word, report_of};
 
-use crate::recovery::Recovery;
 use host_core::{Host, Status, send_all};
 use itoa::Buffer;
 use journal_core::Batch;
+use live_core::Recovery;
 use price_core::NoMemory;
 use session_core::{Day, date_text};
 use std::alloc::Global;

@@ -3,8 +3,8 @@ use Rattle.host_core.specs.declared.status.Status.TheVariants.{NoMemory}
 use Rattle.host_core.proofs.Causes.{no_fault}
 use Rattle.host_core.proofs.Chains.{reads_nothing}
 use Rattle.live_core.proofs.Recovering.{only_read, only_sent, recovers_on}
-use Rattle.live_core.proofs.Reporting.{ungathered_at_once, unread_reported, told_reported}
-use Rattle.live_core.proofs.holdings.report.Goals as goal
+use Rattle.report_core.proofs.Reporting.{ungathered_at_once, unread_reported, told_reported}
+use Rattle.report_core.proofs.holdings.report.Goals as goal
 
 -- there was no room
 pub returns-in_default : goal.returns-in_default

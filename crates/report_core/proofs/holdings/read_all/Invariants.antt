@@ -2,7 +2,7 @@ use Rattle.std.proofs.Common.{◌-◌, ℕ, List}
 use Rattle.std.specs.Prelude.{Option, None}
 use Rattle.host_core.specs.Outside.{NoFault}
 use Rattle.live_core.specs.InternalRecovery.{again, SendsAgain, IsReading, Recovers, OnlyRecovers}
-use Rattle.live_core.proofs.holdings.read_all.Given as goal
+use Rattle.report_core.proofs.holdings.read_all.Given as goal
 
 abbrev pub invariant-batches : goal.invariant-batches
 invariant-batches g l = record {

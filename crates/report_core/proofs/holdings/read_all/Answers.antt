@@ -1,10 +1,10 @@
-use Rattle.std.proofs.Common.{◌≡◌, ◌∙◌, List, ℕ, length, ap, arith}
-use Rattle.std.specs.Prelude.{Option, None}
+use Rattle.std.proofs.Common.{◌≡◌, ◌∙◌, length, ap, arith}
+use Rattle.std.specs.Prelude.{None}
 use Rattle.host_core.proofs.Causes.{no_fault, faultless}
 use Rattle.host_core.proofs.Chains.{reads_nothing, reads_faultless}
 use Rattle.live_core.proofs.Recovering.{sends_then, reads_again, read_on, has_next, has_end, bad_form_there, only_read, only_sent, recovers_on, answered_on, hinders_on, scan_hinders}
 use Rattle.journal_core.proofs.Places.{scan_reaches}
-use Rattle.live_core.proofs.holdings.read_all.Goals as goal
+use Rattle.report_core.proofs.holdings.read_all.Goals as goal
 
 pub batches-init : goal.batches-init
 batches-init g c = record {

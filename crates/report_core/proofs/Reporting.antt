@@ -1,20 +1,19 @@
 -- Telling what a journal holds, from its parts.
-use Rattle.std.proofs.Common.{◌≡◌, ◌⊎◌, inl, inr, ℕ, List, [], ◌∷◌, ◌++◌, refl, sym, ap, subst, ◌∙◌, arith}
+use Rattle.std.proofs.Common.{◌≡◌, inl, ℕ, List, [], ◌∷◌, ◌++◌, refl, sym, ap, subst, ◌∙◌, arith}
 use Rattle.std.specs.Prelude.{Option, Some, None, IsTrue}
 use Rattle.std.specs.Io.KnownBytes.{append_known}
 use Rattle.std.proofs.lemmas.List.{append-nil}
 use Rattle.host_core.specs.declared.status.Status.{Status}
 use Rattle.host_core.specs.declared.status.Status.TheVariants.{Done, SendFault, DiskFault, Damaged, NoJournal, NoMemory}
-use Rattle.host_core.specs.Outside.{Outside, Agrees, MayLeave, Elapses, NoFault, Continues, Sends}
+use Rattle.host_core.specs.Outside.{Outside, Agrees, MayLeave, Elapses, NoFault, Sends}
 use Rattle.host_core.specs.Frames.{OnlyReadsDisk, OnlySends}
 use Rattle.host_core.proofs.Moments.{widened, ended, nothing}
 use Rattle.host_core.proofs.Causes.{faultless, no_fault}
 use Rattle.host_core.proofs.Known.{append_known-nil}
 use Rattle.wire_in.specs.declared.record.Record.{Record}
-use Rattle.journal_core.specs.Layout.{Holds, records_of}
+use Rattle.journal_core.specs.Layout.{records_of}
 use Rattle.journal_core.specs.Scan.{HasNoHeader}
 use Rattle.journal_core.proofs.Readable.{readable, read_holds}
-use Rattle.rulebook.specs.Admission.{IsLawful}
 use Rattle.engine_core.specs.EngineState.{Represents}
 use Rattle.stream_core.specs.Pending.{SendsPrefix, SentPrefix}
 use Rattle.stream_core.proofs.Pending.{prefix_sent, sends_none}
@@ -23,10 +22,10 @@ use Rattle.live_core.specs.declared.recovery.Recovery.{Recovery}
 use Rattle.live_core.specs.Damage.{IsDamagedAt}
 use Rattle.live_core.specs.Ends.{TellsNoJournal, TellsDamage}
 use Rattle.live_core.specs.InternalRecovery.{again, SendsAgain, StarvesAgain, Recovers, OnlyRecovers, HasDamage, Hinders}
-use Rattle.live_core.specs.InternalReport.{Tells, IsTold, IsGathered, IsUngathered}
-use Rattle.live_core.specs.Reported.{Reported, IsHeld, IsReport, report_of}
+use Rattle.report_core.specs.InternalReport.{Tells, IsTold, IsGathered, IsUngathered}
+use Rattle.report_core.specs.Reported.{Reported, IsHeld, IsReport, report_of}
 use Rattle.live_core.proofs.OneDamage.{covers_held, covers_damaged, one_damage, lawful_undamaged}
-use Rattle.live_core.proofs.Recovering.{sends_then, only_read, only_sent, recovers_on, hinders_on, why_at}
+use Rattle.live_core.proofs.Recovering.{sends_then, only_read, recovers_on, hinders_on, why_at}
 
 nothing_left : (a b : List ℕ) → a ++ b ≡ [] → a ≡ []
 nothing_left [] b is = refl

@@ -1,6 +1,6 @@
 use Rattle.std.proofs.Common.{◌∙◌}
-use Rattle.live_core.proofs.Reporting.{untold, told_all, told_in_part}
-use Rattle.live_core.proofs.holdings.tell.Goals as goal
+use Rattle.report_core.proofs.Reporting.{untold, told_all, told_in_part}
+use Rattle.report_core.proofs.holdings.tell.Goals as goal
 
 pub returns-in_default-clause-tells : goal.returns-in_default-clause-tells
 returns-in_default-clause-tells g c = λ held r. untold (g.H.Host.outside c.args.host.now) (g.met.H.Host.sent_now c.args.host.now) _

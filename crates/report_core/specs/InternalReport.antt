@@ -1,5 +1,5 @@
 -- The parts of telling what a journal holds.
-use Rattle.std.specs.Prelude.{◌≡◌, ℕ, List, Option, Some, None}
+use Rattle.std.specs.Prelude.{◌≡◌, ℕ, List, Some, None}
 use Rattle.std.specs.Io.KnownBytes.{append_known}
 use Rattle.host_core.specs.declared.status.Status.{Status}
 use Rattle.host_core.specs.declared.status.Status.TheVariants.{Done, SendFault, NoJournal, NoMemory}
@@ -10,7 +10,7 @@ use Rattle.engine_core.specs.EngineState.{Represents}
 use Rattle.stream_core.specs.Pending.{SendsPrefix}
 use Rattle.live_core.specs.Ends.{TellsNoJournal}
 use Rattle.live_core.specs.InternalRecovery.{HasDamage, Hinders, OnlyRecovers, SendsAgain}
-use Rattle.live_core.specs.Reported.{IsHeld}
+use Rattle.report_core.specs.Reported.{IsHeld}
 use Rattle.live_core.specs.declared.recovery.Recovery.{Recovery}
 
 -- a text was sent, as far as the status says

@@ -1,6 +1,6 @@
 use Rattle.live_core.proofs.Recovering.{answered_on}
-use Rattle.live_core.proofs.Reporting.{ungathered_at_once, ungathered, gathered}
-use Rattle.live_core.proofs.holdings.gather.Goals as goal
+use Rattle.report_core.proofs.Reporting.{ungathered_at_once, ungathered, gathered}
+use Rattle.report_core.proofs.holdings.gather.Goals as goal
 
 pub returns-in_err-recovery-clause-ungathered : goal.returns-in_err-recovery-clause-ungathered
 returns-in_err-recovery-clause-ungathered g c =
