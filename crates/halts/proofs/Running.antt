@@ -1,17 +1,16 @@
 -- What a run did, by its words.
-use Rattle.std.proofs.Common.{◌≡◌, ◌⊎◌, inl, inr, ⊎_elim, ℕ, List, sym, subst, arith}
-use Rattle.std.specs.Prelude.{◌≢◌, Some, None, Result, Ok, Err, IfOk}
+use Rattle.std.proofs.Common.{◌≡◌, arith}
+use Rattle.std.specs.Prelude.{◌≢◌, Result, Ok, Err}
 use Rattle.host_core.specs.declared.status.Status as status
 use Rattle.host_core.specs.declared.status.Status.TheVariants as statuses
 use Rattle.host_core.specs.Outside.{Outside}
-use Rattle.journal_core.specs.Layout.{IsLimit}
 use Rattle.words_core.specs.declared.asked.Asked.{Asked}
 use Rattle.words_core.specs.declared.asked.Asked.TheVariants as asked
 use Rattle.words_core.specs.declared.asked.WordsError.{WordsError}
 use Rattle.words_core.specs.declared.asked.WordsError.TheVariants as errors
 use Rattle.words_core.specs.declared.command.Command.{Command}
 use Rattle.words_core.specs.declared.command.Command.TheVariants.{Format, Serve, Replay, Status, Print, Pack, Generate}
-use Rattle.halts.specs.Runs.{Ran, Shown, Did, IsBuilt}
+use Rattle.halts.specs.Runs.{Ran, Did, IsBuilt}
 
 -- a command that this program has never answers Usage
 pub understood : (unbegun : Type 0) (command : Command) (status : status.Status) (old new : Outside) → Ran unbegun command status old new → IsBuilt command → status ≢ statuses.Usage
