@@ -1,5 +1,5 @@
 -- What a journal holds, told in five lines, and what the command that tells it did, whatever its answer.
-use Rattle.std.specs.Prelude.{◌≡◌, ◌≢◌, ◌⊎◌, ℕ, List, [], ◌∷◌, ◌++◌, length, Option, Some, None, codes, decimal}
+use Rattle.std.specs.Prelude.{◌≡◌, ◌≢◌, ◌⊎◌, ℕ, List, ◌++◌, length, Option, Some, None, codes, decimal}
 use Rattle.std.specs.Io.KnownBytes.{append_known}
 use Rattle.host_core.specs.declared.status.Status.{Status}
 use Rattle.host_core.specs.declared.status.Status.TheVariants.{Done, SendFault, DiskFault, Damaged, NoJournal, NoMemory}
@@ -11,13 +11,10 @@ use Rattle.journal_core.specs.Layout.{Holds}
 use Rattle.journal_core.specs.Scan.{HasNoHeader}
 use Rattle.rulebook.specs.Admission.{IsLawful, last_day, names}
 use Rattle.rulebook.specs.Book.{messages_of}
+use Rattle.stream_core.specs.Lines.{line}
 use Rattle.stream_core.specs.Pending.{SendsPrefix, SentPrefix}
 use Rattle.live_core.specs.Damage.{IsDamagedAt}
 use Rattle.live_core.specs.Ends.{TellsNoJournal, TellsDamage}
-
--- a word and a value, with a blank between them, and a newline (10)
-abbrev pub line : List ℕ → List ℕ → List ℕ
-line word value = word ++ codes " " ++ value ++ 10 ∷ []
 
 -- a date, or none
 abbrev pub day_word : Option Day → List ℕ

@@ -7,7 +7,8 @@ ghost use Rattle.host_core.specs.Frames.{OnlySends};
 ghost use Rattle.engine_core.specs.EngineState.{Represents};
 ghost use Rattle.live_core.specs.InternalRecovery.{again, SendsAgain, HasDamage, StarvesAgain, IsReading, Recovers, OnlyRecovers, Hinders};
 ghost use Rattle.live_core.specs.InternalReport.{Tells, IsTold, IsGathered, IsUngathered};
-ghost use Rattle.live_core.specs.Reported.{Reported, line, day_word, report_of};
+ghost use Rattle.stream_core.specs.Lines.{line};
+ghost use Rattle.live_core.specs.Reported.{Reported, day_word, report_of};
 
 use crate::recovery::Recovery;
 use stream_core::Outbox;

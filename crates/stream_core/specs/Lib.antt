@@ -2,3 +2,4 @@ pub mod Pending
 pub mod Taking
 pub mod Asking
 pub mod Ends
+pub mod Lines
