@@ -1,12 +1,10 @@
 -- Messages counted one by one.
-use Rattle.std.proofs.Common.{◌≡◌, ℕ, suc, ◌+◌, ◌<◌, ◌≤◌, take, get_or, Bool, true, false, List, [], ◌∷◌, ◌++◌, length, filter, refl, sym, ap, ◌∙◌, append_assoc, arith, length-append}
-use Rattle.std.specs.Prelude.{count_by, if◌then◌else◌}
+use Rattle.std.proofs.Common.{◌≡◌, ℕ, suc, ◌+◌, ◌<◌, ◌≤◌, take, get_or, Bool, true, false, List, [], ◌∷◌, ◌++◌, length, filter, sym, ap, ◌∙◌, append_assoc, arith, length-append}
 use Rattle.std.proofs.Math.Seq.{take-suc}
 use Rattle.std.proofs.lemmas.List.Elements.{filter-append}
 use Rattle.std.proofs.lemmas.List.Sums.{length-filter}
 use Rattle.std.proofs.lemmas.List.{append-nil, take_all}
 use Rattle.wire_out.specs.declared.message.Message.{Message}
-use Rattle.wire_out.specs.declared.message.Message.TheVariants.{Listed, State, Band, Straddle, Collar, Release, Short, Breaker, MarketResume}
 use Rattle.wire_out.specs.declared.message.Stamped.{Stamped}
 use Rattle.gen_core.specs.declared.tally.Tally.{Tally}
 use Rattle.gen_core.specs.Tallies.{is_listed, is_state, is_band, is_straddle, is_collar, is_release, is_short, is_breaker, is_resume, count_of, tally_of}
@@ -59,22 +57,31 @@ by_kind t m = λ i. record {
   where
     all : (counted t m).messages ≡ t.messages + 1
     all = grind arith
+
     listed : (counted t m).listed ≡ t.listed + bit (is_listed m)
     listed = grind arith
+
     state : (counted t m).state ≡ t.state + bit (is_state m)
     state = grind arith
+
     band : (counted t m).band ≡ t.band + bit (is_band m)
     band = grind arith
+
     straddle : (counted t m).straddle ≡ t.straddle + bit (is_straddle m)
     straddle = grind arith
+
     collar : (counted t m).collar ≡ t.collar + bit (is_collar m)
     collar = grind arith
+
     release : (counted t m).release ≡ t.release + bit (is_release m)
     release = grind arith
+
     short : (counted t m).short ≡ t.short + bit (is_short m)
     short = grind arith
+
     breaker : (counted t m).breaker ≡ t.breaker + bit (is_breaker m)
     breaker = grind arith
+
     resume : (counted t m).resume ≡ t.resume + bit (is_resume m)
     resume = grind arith
 

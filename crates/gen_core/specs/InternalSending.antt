@@ -1,13 +1,7 @@
 -- The frames of a day on their way. Private words: no public clause cites them.
-use Rattle.std.specs.Prelude.{◌≡◌, ◌≢◌, ℕ, List, ◌++◌, Result, Ok, Err, OnOk, IfOk}
-use Rattle.std.specs.Io.KnownBytes.{append_known}
-use Rattle.host_core.specs.declared.fault.Fault.{Fault}
-use Rattle.host_core.specs.declared.fault.Fault.TheVariants.{Read, Disk, Memory}
-use Rattle.host_core.specs.declared.status.Status.{Status}
-use Rattle.host_core.specs.declared.status.Status.TheVariants.{Done}
+use Rattle.std.specs.Prelude.{◌≡◌, ℕ, List, ◌++◌}
 use Rattle.host_core.specs.Outside.{Outside, Elapses, NoFault}
 use Rattle.host_core.specs.Frames.{OnlySends}
-use Rattle.host_core.specs.Faults.{Causes}
 use Rattle.wire_in.specs.declared.record.Record.{Record}
 use Rattle.stream_core.specs.Pending.{Expects, SendsPrefix}
 use Rattle.gen_core.specs.Sent.{frames_of}

@@ -1,5 +1,5 @@
 -- A tally with one message more. Private words: no public clause cites them.
-use Rattle.std.specs.Prelude.{ℕ, ◌+◌}
+use Rattle.std.specs.Prelude.{◌+◌}
 use Rattle.wire_out.specs.declared.message.Message.{Message}
 use Rattle.wire_out.specs.declared.message.Message.TheVariants.{Listed, State, Band, Straddle, Collar, Release, Short, Breaker, MarketResume}
 use Rattle.gen_core.specs.declared.tally.Tally.{Tally}

@@ -21,11 +21,7 @@ use wire_in::{Record, encode};
 const FRAME: usize = 64;
 
 /// Appends the frame of a record to the bytes that wait.
-fn append_record<H: Host>(
-    outbox: &mut Outbox,
-    host: &mut H,
-    record: &Record,
-) -> Result<(), Fault>
+fn append_record<H: Host>(outbox: &mut Outbox, host: &mut H, record: &Record) -> Result<(), Fault>
     requires range { InRange record.now }
     ensures pending { (begin : Option (List ℕ)) (text : List ℕ) → Expects begin (H.outside host.old).sent outbox.old text
         → OnOk result (Expects begin (H.outside host.new).sent outbox.new (text ++ framed (body_of record.now))) }

@@ -11,13 +11,13 @@ ghost use Rattle.stream_core.specs.Lines.{line};
 ghost use Rattle.live_core.specs.Reported.{Reported, day_word, report_of};
 
 use crate::recovery::Recovery;
-use stream_core::Outbox;
 use host_core::{Host, Status, send_all};
 use itoa::Buffer;
 use journal_core::Batch;
 use price_core::NoMemory;
 use session_core::{Day, date_text};
 use std::alloc::Global;
+use stream_core::Outbox;
 
 /// Reads a journal to its end and evaluates its records. Nothing is sent.
 fn read_all<H: Host>(recovery: &mut Recovery, host: &mut H, batch: &mut Batch) -> Result<(), Status>

@@ -1,5 +1,5 @@
 -- A rehearsal on its way. Private words: no public clause cites them.
-use Rattle.std.specs.Prelude.{◌≡◌, ℕ, ◌+◌, ◌*◌, ◌<◌, ◌≤◌, ◌^◌, List, [], length}
+use Rattle.std.specs.Prelude.{◌≡◌, ◌+◌, ◌*◌, ◌≤◌, List, [], length}
 use Rattle.wire_in.specs.declared.record.Record.{Record}
 use Rattle.rulebook.specs.Book.{messages_of}
 use Rattle.gen_core.specs.Tallies.{tally_of}
@@ -12,7 +12,6 @@ use Rattle.replay_core.specs.Rehearsed.{accepted_after}
 -- counts stay far below the ends of their types
 pub record IsSound (rehearsal : Rehearsal) : Type 0 where
   pub few : rehearsal.engine.published ≤ 262146 * rehearsal.engine.evaluated
-  pub within : rehearsal.engine.evaluated ≤ rehearsal.records
   pub counted : rehearsal.tally.messages ≡ rehearsal.engine.published
   pub sum : IsSum rehearsal.tally
 
@@ -22,4 +21,4 @@ pub record Rehearses (all left : List Record) (rehearsal : Rehearsal) : Type 0 w
   pub engine : Represents rehearsal.engine capacity held held
   pub tally : rehearsal.tally ≡ tally_of (messages_of held)
   pub rest : accepted_after held left ≡ accepted_after [] all
-  pub records : rehearsal.records + length left ≡ length all
+  pub within : rehearsal.engine.evaluated + length left ≤ length all

@@ -24,7 +24,7 @@ abbrev pub lines_for : ℕ → List Record → List ℕ
 lines_for records accepted = summary_lines records (records - length accepted) (tally_of (messages_of accepted))
 
 -- the lines of a plan's records
-abbrev pub summary_of : DayPlan → List ℕ
+unfoldable pub summary_of : DayPlan → List ℕ
 summary_of plan = lines_for (length (generated plan)) (accepted_after [] (generated plan))
 
 -- these lines were sent

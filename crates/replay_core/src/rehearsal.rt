@@ -1,14 +1,16 @@
 //! A generated day, evaluated and summed up.
 
-ghost use Rattle.std.specs.Prelude.{◌≡◌, ◌≢◌, ◌+◌, ◌<◌, ◌^◌, ◌∷◌, [], List, None, Err, OnOk, IfOk, length};
+ghost use Rattle.std.specs.Prelude.{◌≡◌, ◌≢◌, ◌+◌, ◌<◌, ◌≤◌, ◌^◌, ◌∷◌, [], List, None, Err, OnOk, IfOk, length};
 ghost use Rattle.std.specs.Io.KnownBytes.{append_known};
 ghost use Rattle.host_core.specs.Outside.{Elapses};
 ghost use Rattle.host_core.specs.Frames.{OnlySends};
 ghost use Rattle.host_core.specs.Faults.{Causes};
 ghost use Rattle.wire_in.specs.declared.record.Record.{Record};
 ghost use Rattle.market_core.specs.AdmissionState.{refusal_of};
+ghost use Rattle.rulebook.specs.Admission.{verdict};
 ghost use Rattle.stream_core.specs.Pending.{SendsPrefix};
 ghost use Rattle.gen_core.specs.Generated.{IsPlan, generated};
+ghost use Rattle.replay_core.specs.Replayed.{capacity};
 ghost use Rattle.replay_core.specs.Rehearsed.{Rehearsed, summary_of};
 ghost use Rattle.replay_core.specs.InternalRehearsal.{IsSound, Rehearses};
 
@@ -21,11 +23,10 @@ use std::thread::Threads;
 use stream_core::answer_of;
 use wire_in::Record;
 
-/// The accepted ones of the records so far, how many there were, and what messages they gave.
+/// The accepted ones of the records so far, and what messages they gave.
 #[derive(Drop)]
 pub struct Rehearsal {
     pub engine: Engine,
-    pub records: u64,
     pub tally: Tally,
 }
 
@@ -33,12 +34,12 @@ impl Rehearsal {
     /// No records.
     fn new(alloc: Global) -> Result<Rehearsal, NoMemory>
         ensures sound { IfOk result IsSound }
-        ensures none { IfOk result (λ rehearsal. rehearsal.records ≡ 0) }
+        ensures none { IfOk result (λ rehearsal. rehearsal.engine.evaluated ≡ 0) }
         ensures rehearses { (all : List Record) → IfOk result (λ rehearsal. Rehearses all all rehearsal) }
     {
+        let engine = Engine::new(alloc, u64::MAX)?;
         Ok(Rehearsal {
-            engine: Engine::new(alloc, u64::MAX)?,
-            records: 0,
+            engine,
             tally: Tally::new(),
         })
     }
@@ -46,12 +47,12 @@ impl Rehearsal {
     /// Evaluates a record that is accepted, and counts its messages.
     fn accept(&mut self, x: &Record) -> Result<(), NoMemory>
         requires sound { IsSound self.old }
-        requires few { self.old.records < 2 ^ 42 }
+        requires few { self.old.engine.evaluated < 2 ^ 42 }
         requires admissible { refusal_of self.old.engine.admission x.now ≡ None }
-        ensures sound { OnOk result (IsSound (record self.new { records = self.new.records + 1 })) }
-        ensures records { self.new.records ≡ self.old.records }
-        ensures rehearses { (all left : List Record) → Rehearses all (x.now ∷ left) self.old
-            → OnOk result (Rehearses all left (record self.new { records = self.new.records + 1 })) }
+        ensures sound { OnOk result (IsSound self.new) }
+        ensures more { OnOk result (self.new.engine.evaluated ≡ self.old.engine.evaluated + 1) }
+        ensures rehearses { (all left : List Record) → (was : Rehearses all (x.now ∷ left) self.old) → verdict capacity was.held x.now ≡ None
+            → OnOk result (Rehearses all left self.new) }
     {
         self.engine.admit(x);
         self.engine.evaluate(x)?;
@@ -62,23 +63,21 @@ impl Rehearsal {
     /// Judges one record more, and evaluates it where it is accepted.
     fn judge(&mut self, x: &Record) -> Result<(), NoMemory>
         requires sound { IsSound self.old }
-        requires few { self.old.records < 2 ^ 42 }
+        requires few { self.old.engine.evaluated < 2 ^ 42 }
         ensures sound { OnOk result (IsSound self.new) }
-        ensures records { OnOk result (self.new.records ≡ self.old.records + 1) }
+        ensures more { OnOk result (self.new.engine.evaluated ≤ self.old.engine.evaluated + 1) }
         ensures rehearses { (all left : List Record) → Rehearses all (x.now ∷ left) self.old → OnOk result (Rehearses all left self.new) }
     {
-        if self.engine.admission.verdict(x).is_none() {
-            self.accept(x)?;
+        match self.engine.admission.verdict(x) {
+            None => self.accept(x),
+            Some(_) => Ok(()),
         }
-        self.records += 1;
-        Ok(())
     }
 
     /// Judges all records that are left.
     fn judge_all(&mut self, generator: &mut Generator) -> Result<(), NoMemory>
         requires sound { IsSound self.old }
-        requires few { self.old.records + length generator.old < 2 ^ 42 }
-        ensures sound { OnOk result (IsSound self.new) }
+        requires few { self.old.engine.evaluated + length generator.old < 2 ^ 42 }
         ensures rehearses { (all : List Record) → Rehearses all generator.old self.old → OnOk result (Rehearses all [] self.new) }
     {
         while let Some(x) = generator.next() {
@@ -91,8 +90,7 @@ impl Rehearsal {
 /// Judges the records of a plan, each after those before it.
 fn rehearsed(alloc: Global, plan: &DayPlan) -> Result<Rehearsal, NoMemory>
     requires { IsPlan plan.now }
-    ensures sound { IfOk result IsSound }
-    ensures rehearses { IfOk result (λ rehearsal. Rehearses (generated plan.now) [] rehearsal) }
+    ensures { IfOk result (λ rehearsal. Rehearses (generated plan.now) [] rehearsal) }
 {
     let mut generator = Generator::new(alloc, plan)?;
     let mut rehearsal = Rehearsal::new(alloc)?;
@@ -113,8 +111,9 @@ fn sum_up<H: Host>(alloc: Global, host: &mut H, plan: &DayPlan) -> Result<Status
     ensures unkept { result ≢ Err Fault.Disk }
 {
     let rehearsal = rehearsed(alloc, plan)?;
-    let refused = rehearsal.records - rehearsal.engine.evaluated;
-    send_summary(alloc, host, rehearsal.records, refused, &rehearsal.tally)
+    let records = 1 + u64::from(plan.symbols) + u64::from(plan.records);
+    let refused = records - rehearsal.engine.evaluated;
+    send_summary(alloc, host, records, refused, &rehearsal.tally)
 }
 
 /// Evaluates the records of a plan as a replay does, and sends no frames but twelve lines: how many records there are, how

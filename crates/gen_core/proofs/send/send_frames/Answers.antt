@@ -1,7 +1,3 @@
-use Rattle.std.proofs.Common.{List}
-use Rattle.wire_in.specs.declared.record.Record.{Record}
-use Rattle.host_core.specs.Outside.{Elapses}
-use Rattle.stream_core.specs.Pending.{SendsPrefix}
 use Rattle.stream_core.proofs.Sending.{sends_same}
 use Rattle.std.proofs.Common.{ap}
 use Rattle.gen_core.specs.Sent.{frames_of}

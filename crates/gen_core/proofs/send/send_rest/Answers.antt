@@ -1,8 +1,4 @@
-use Rattle.std.proofs.Common.{◌∙◌, ap, subst, sym}
-use Rattle.std.specs.Prelude.{List, ℕ}
-use Rattle.host_core.specs.Outside.{Elapses}
-use Rattle.stream_core.specs.Pending.{Expects, SendsPrefix}
-use Rattle.gen_core.proofs.Sending.{begun, one_more, moments_on, all_done}
+use Rattle.gen_core.proofs.Sending.{begun, one_more, moments_on}
 use Rattle.gen_core.proofs.send.send_rest.Goals as goal
 
 pub loop-record-init : goal.loop-record-init

@@ -1,6 +1,5 @@
-use Rattle.std.proofs.Common.{◌≡◌, ◌+◌, ◌∙◌, ap, arith}
+use Rattle.std.proofs.Common.{ap, arith}
 use Rattle.gen_core.specs.declared.tally.Tally.{Tally}
-use Rattle.gen_core.specs.SummaryLines.{IsSum}
 use Rattle.gen_core.proofs.Counting.{counts_more, counts_all, counts_none, sum_more, all_more}
 use Rattle.gen_core.proofs.tally.Tally.count.Goals as goal
 

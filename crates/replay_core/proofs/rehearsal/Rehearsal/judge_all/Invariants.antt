@@ -1,4 +1,4 @@
-use Rattle.std.proofs.Common.{◌≡◌, ◌+◌, ◌<◌, ◌^◌, List, length}
+use Rattle.std.proofs.Common.{◌+◌, ◌<◌, ◌^◌, List, length}
 use Rattle.wire_in.specs.declared.record.Record.{Record}
 use Rattle.replay_core.specs.InternalRehearsal.{IsSound, Rehearses}
 use Rattle.replay_core.proofs.rehearsal.Rehearsal.judge_all.Given as goal
@@ -6,7 +6,7 @@ use Rattle.replay_core.proofs.rehearsal.Rehearsal.judge_all.Given as goal
 abbrev pub invariant-loop-x : goal.invariant-loop-x
 invariant-loop-x l = record {
   sound : IsSound l.self;
-  few : l.self.records + length l.generator < 2 ^ 42;
+  few : l.self.engine.evaluated + length l.generator < 2 ^ 42;
   rehearses : (all : List Record) → Rehearses all l.initial.generator l.initial.self → Rehearses all l.generator l.self;
 }
 
