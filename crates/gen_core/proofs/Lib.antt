@@ -3,3 +3,5 @@ pub mod Listed
 pub mod Behind
 pub mod Ranges
 pub mod Given
+pub mod Sending
+pub mod Counting

@@ -5,11 +5,17 @@ mod draws;
 mod generator;
 mod law;
 mod plan;
+mod send;
 mod session;
 mod start;
+mod summary;
+mod tally;
 #[cfg(test)]
 mod tests;
 
 pub use generator::Generator;
 pub use law::a_day_by_places;
 pub use plan::DayPlan;
+pub use send::send_day;
+pub use summary::send_summary;
+pub use tally::Tally;

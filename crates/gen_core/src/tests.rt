@@ -2,11 +2,14 @@ ghost use Rattle.gen_core.specs.Generated.{IsPlan};
 
 use crate::generator::Generator;
 use crate::plan::DayPlan;
+use crate::send::send_day;
+use host_core::Status;
+use memory_host::{Call, MemoryHost};
 use price_core::Tier;
 use std::alloc::Global;
 use std::process::Abort;
 use std::test::Fail;
-use wire_in::Record;
+use wire_in::{Record, encode};
 
 /// 500 symbols and 400,000 records from the seed 1.
 fn usual() -> DayPlan
@@ -202,5 +205,62 @@ fn the_first_records_are_those_that_a_script_draws(rt: HostRuntime) -> Result<()
         };
         assert!(rt; is_drawn(index, &record));
     }
+    Ok(())
+}
+
+/// Three symbols and ten records.
+fn small() -> DayPlan
+    ensures { IsPlan result }
+{
+    DayPlan {
+        seed: 1,
+        symbols: 3,
+        records: 10,
+    }
+}
+
+/// The frames of that day, as its generator gives the records.
+fn frames(alloc: Global) -> Result<Vec<u8>, Fail> {
+    let mut generator = Generator::new(alloc, &small())?;
+    let mut bytes = Vec::new(alloc);
+    for _ in 0..14u32 {
+        if let Some(record) = generator.next() {
+            let mut cell = [0; 64];
+            let len = encode(&record, &mut cell);
+            bytes.extend_from_slice(&cell[..len])?;
+        }
+    }
+    Ok(bytes)
+}
+
+/// The frame of its day.
+const DAY: [u8; 20] = [
+    19, 1, 0, 0, 0x0d, 0x18, 0xc2, 0xe2, 0x80, 0, 0x07, 0xe8, 6, 3, 1, 2, 0, 0x07, 0xa1, 0x20,
+];
+
+#[test]
+fn a_day_is_sent_frame_by_frame(rt: HostRuntime) -> Result<(), Fail> {
+    let alloc = rt.alloc();
+    let wanted = frames(alloc)?;
+    let mut host = MemoryHost::new(alloc, b"input", b"disk")?;
+    host.pieces(1, 7);
+    let status = send_day(alloc, &mut host, &small());
+    assert!(rt; status == Status::Done);
+    assert!(rt; host.sent() == wanted.as_slice());
+    assert!(rt; wanted.len() == 20 + 3 * 28 + 10 * 10 && wanted.starts_with(&DAY));
+    assert!(rt; host.disk() == b"disk".as_slice());
+    Ok(())
+}
+
+#[test]
+fn a_send_that_fails_ends_a_day(rt: HostRuntime) -> Result<(), Fail> {
+    let alloc = rt.alloc();
+    let wanted = frames(alloc)?;
+    let mut host = MemoryHost::new(alloc, b"", b"")?;
+    host.pieces(1, 7);
+    host.fail(Call::Send, 4)?;
+    let status = send_day(alloc, &mut host, &small());
+    assert!(rt; status == Status::SendFault);
+    assert!(rt; wanted.starts_with(host.sent()) && host.sent().len() < wanted.len());
     Ok(())
 }

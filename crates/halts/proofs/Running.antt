@@ -1,5 +1,5 @@
 -- What a run did, by its words.
-use Rattle.std.proofs.Common.{◌≡◌, arith}
+use Rattle.std.proofs.Common.{◌≡◌, true, false, arith}
 use Rattle.std.specs.Prelude.{◌≢◌, Result, Ok, Err}
 use Rattle.host_core.specs.declared.status.Status as status
 use Rattle.host_core.specs.declared.status.Status.TheVariants as statuses
@@ -10,30 +10,22 @@ use Rattle.words_core.specs.declared.asked.WordsError.{WordsError}
 use Rattle.words_core.specs.declared.asked.WordsError.TheVariants as errors
 use Rattle.words_core.specs.declared.command.Command.{Command}
 use Rattle.words_core.specs.declared.command.Command.TheVariants.{Format, Serve, Replay, Status, Print, Pack, Generate}
-use Rattle.halts.specs.Runs.{Ran, Did, IsBuilt}
+use Rattle.halts.specs.Runs.{Ran, Did}
 
--- a command that this program has never answers Usage
-pub understood : (unbegun : Type 0) (command : Command) (status : status.Status) (old new : Outside) → Ran unbegun command status old new → IsBuilt command → status ≢ statuses.Usage
-understood unbegun (Format limit) status old new ran built is = grind (arith, ran.kind, is)
-understood unbegun (Serve from bytes) status old new ran built is = ran.kind.understood is
-understood unbegun (Replay bytes) status old new ran built is = grind (arith, ran.kind, is)
-understood unbegun Status status old new ran built is = grind (arith, ran.kind, is)
-understood unbegun (Print kind) status old new ran built is = grind (arith, ran.kind, is)
-understood unbegun (Pack kind) status old new ran built is = grind (arith, ran.kind, is)
-understood unbegun (Generate seed symbols records summary) status old new ran built is = absurd built
-
-untouched_by : (unbegun : Type 0) (command : Command) (status : status.Status) (old new : Outside) → Ran unbegun command status old new → status ≡ statuses.Usage → unbegun
-untouched_by unbegun (Print kind) status old new ran is = absurd (understood unbegun (Print kind) status old new ran tt is)
-untouched_by unbegun (Pack kind) status old new ran is = absurd (understood unbegun (Pack kind) status old new ran tt is)
-untouched_by unbegun (Generate seed symbols records summary) status old new ran is = ran.1
-untouched_by unbegun (Format limit) status old new ran is = absurd (understood unbegun (Format limit) status old new ran tt is)
-untouched_by unbegun (Serve from bytes) status old new ran is = absurd (understood unbegun (Serve from bytes) status old new ran tt is)
-untouched_by unbegun (Replay bytes) status old new ran is = absurd (understood unbegun (Replay bytes) status old new ran tt is)
-untouched_by unbegun Status status old new ran is = absurd (understood unbegun Status status old new ran tt is)
+-- a command never answers Usage
+pub understood : (unbegun : Type 0) (command : Command) (status : status.Status) (old new : Outside) → Ran unbegun command status old new → status ≢ statuses.Usage
+understood unbegun (Format limit) status old new ran is = grind (arith, ran.kind, is)
+understood unbegun (Serve from bytes) status old new ran is = ran.kind.understood is
+understood unbegun (Replay bytes) status old new ran is = grind (arith, ran.kind, is)
+understood unbegun Status status old new ran is = grind (arith, ran.kind, is)
+understood unbegun (Print kind) status old new ran is = grind (arith, ran.kind, is)
+understood unbegun (Pack kind) status old new ran is = grind (arith, ran.kind, is)
+understood unbegun (Generate seed symbols records true) status old new ran is = grind (arith, ran.kind, is)
+understood unbegun (Generate seed symbols records false) status old new ran is = grind (arith, ran.kind, is)
 
 -- where the answer is Usage, no call was made
 pub untouched : (unbegun : Type 0) (answer : Result Asked WordsError) (status : status.Status) (old new : Outside) → Did unbegun answer status old new → status ≡ statuses.Usage → unbegun
-untouched unbegun (Ok (asked.Command command)) status old new did is = untouched_by unbegun command status old new did is
+untouched unbegun (Ok (asked.Command command)) status old new did is = absurd (understood unbegun command status old new did is)
 untouched unbegun (Ok (asked.Text text)) status old new did is = absurd (grind (arith, did.kind, is))
 untouched unbegun (Err errors.Usage) status old new did is = did.1
 untouched unbegun (Err errors.NoMemory) status old new did is = did.1

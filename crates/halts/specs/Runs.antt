@@ -1,5 +1,5 @@
 -- What words did.
-use Rattle.std.specs.Prelude.{◌≡◌, ◌⊎◌, ℕ, List, Result, Ok, Err}
+use Rattle.std.specs.Prelude.{◌≡◌, ◌⊎◌, ℕ, Bool, true, false, List, Result, Ok, Err}
 use Rattle.std.specs.Io.KnownBytes.{append_known}
 use Rattle.host_core.specs.declared.status.Status as status
 use Rattle.host_core.specs.declared.status.Status.TheVariants as statuses
@@ -7,6 +7,9 @@ use Rattle.host_core.specs.Outside.{Outside, Elapses, Sends, Rose}
 use Rattle.host_core.specs.Frames.{OnlySends}
 use Rattle.journal_core.specs.Formatted.{Formatted}
 use Rattle.report_core.specs.Reported.{Reported}
+use Rattle.gen_core.specs.declared.plan.DayPlan.{DayPlan}
+use Rattle.gen_core.specs.Sent.{SentDay}
+use Rattle.rehearse_core.specs.Rehearsed.{Rehearsed}
 use Rattle.live_core.specs.Served.{Served}
 use Rattle.replay_core.specs.Replayed.{Replayed}
 use Rattle.text_core.specs.Translated.{Printed, Packed}
@@ -18,6 +21,11 @@ use Rattle.words_core.specs.declared.asked.WordsError.TheVariants as errors
 use Rattle.words_core.specs.declared.command.Command.{Command}
 use Rattle.words_core.specs.declared.command.Command.TheVariants.{Format, Serve, Replay, Status, Print, Pack, Generate}
 
+-- a generated day was sent, or its summary
+abbrev pub Generates : DayPlan → Bool → status.Status → Outside → Outside → Type 0
+Generates plan true status old new = Rehearsed plan status old new
+Generates plan false status old new = SentDay plan status old new
+
 -- what a command promises; what says that no call of the host was made is given
 abbrev pub Ran : Type 0 → Command → status.Status → Outside → Outside → Type 0
 Ran unbegun (Format limit) status old new = Formatted limit status old new
@@ -26,18 +34,7 @@ Ran unbegun (Replay bytes) status old new = Replayed unbegun bytes status old ne
 Ran unbegun Status status old new = Reported status old new
 Ran unbegun (Print kind) status old new = Printed kind status old new
 Ran unbegun (Pack kind) status old new = Packed kind status old new
--- the command that this program does not have yet
-Ran unbegun (Generate seed symbols records summary) status old new = (status ≡ statuses.Usage) × unbegun
-
--- this program has the command
-abbrev pub IsBuilt : Command → Type 0
-IsBuilt (Format limit) = Unit {0}
-IsBuilt (Serve from bytes) = Unit {0}
-IsBuilt (Replay bytes) = Unit {0}
-IsBuilt Status = Unit {0}
-IsBuilt (Print kind) = Unit {0}
-IsBuilt (Pack kind) = Unit {0}
-IsBuilt (Generate seed symbols records summary) = ⊥
+Ran unbegun (Generate seed symbols records summary) status old new = Generates (record { seed = seed; symbols = symbols; records = records }) summary status old new
 
 -- a text was sent, or the first of its bytes, and nothing else was done
 pub record Shown (text : List ℕ) (status : status.Status) (old new : Outside) : Type 0 where

@@ -11,7 +11,7 @@ with_number before (Some number) after = before ++ (decimal number ++ after)
 -- one line for each end but the good one, without its newline
 abbrev pub line_of : Status → Option (List ℕ)
 line_of Done = None
-line_of Usage = Some (codes "halts: usage: halts <journal> format|serve|replay|status|print|pack")
+line_of Usage = Some (codes "halts: usage: halts <journal> format|serve|replay|status|print|pack|generate")
 line_of Truncated = Some (codes "halts: the input ends inside a frame")
 line_of ReadFault = Some (codes "halts: the input could not be read")
 line_of SendFault = Some (codes "halts: the output could not be written")

@@ -4,7 +4,7 @@ ghost use Rattle.std.specs.Prelude.{◌≡◌, ◌≢◌, None, Some, map, get_o
 ghost use Rattle.host_core.specs.Outside.{Continues};
 ghost use Rattle.words_core.specs.declared.command.Command.{Command};
 ghost use Rattle.words_core.specs.Plain.{command_of};
-ghost use Rattle.halts.specs.Runs.{Ran, Obeyed, IsBuilt};
+ghost use Rattle.halts.specs.Runs.{Ran, Obeyed};
 ghost use Rattle.halts.specs.Words.{command_words};
 
 use crate::run::run;
@@ -47,8 +47,8 @@ pub fn perform<Rt: Threads + Sync, H: Host>(
     // Other words are answered as the command line says.
     ensures others { command_of (command_words (map (λ w. w.now) args.now)) ≡ None
         → Obeyed (host.new ≡ host.old) (command_words (map (λ w. w.now) args.now)) result (H.outside host.old) (H.outside host.new) }
-    // The words of a command are always understood. Where words are not, the host is not called.
-    ensures understood { (command : Command) → command_of (command_words (map (λ w. w.now) args.now)) ≡ Some command → IsBuilt command → result ≢ Status.Usage }
+    // A plain line is always understood. Where words are not, the host is not called.
+    ensures understood { (command : Command) → command_of (command_words (map (λ w. w.now) args.now)) ≡ Some command → result ≢ Status.Usage }
     ensures untouched { result ≡ Status.Usage → host.new ≡ host.old }
     ensures continues { Continues (H.outside host.old) (H.outside host.new) }
 {
@@ -63,7 +63,7 @@ pub fn start<Rt: Files + Threads + Sync, R: Read + Drop, W: Write + Drop>(
     input: R,
     output: W,
 ) -> Status
-    ensures understood { (command : Command) → command_of (command_words (map (λ w. w.now) args.now)) ≡ Some command → IsBuilt command → result ≢ Status.Usage }
+    ensures understood { (command : Command) → command_of (command_words (map (λ w. w.now) args.now)) ≡ Some command → result ≢ Status.Usage }
 {
     let journal = JournalFile::new(rt, journal_path(args));
     let mut host = RealHost::new(input, output, journal);

@@ -8,11 +8,14 @@ ghost use Rattle.words_core.specs.declared.command.Command.{Command};
 ghost use Rattle.words_core.specs.Commands.{IsInRange};
 ghost use Rattle.words_core.specs.Asked.{IsAskedInRange};
 ghost use Rattle.words_core.specs.Plain.{command_of};
-ghost use Rattle.halts.specs.Runs.{Ran, Shown, Did, Obeyed, IsBuilt};
+ghost use Rattle.gen_core.specs.Generated.{IsPlan};
+ghost use Rattle.halts.specs.Runs.{Ran, Generates, Shown, Did, Obeyed};
 
+use gen_core::{DayPlan, send_day};
 use host_core::{Host, Status, send_all};
 use journal_core::format;
 use live_core::{ServeOptions, serve};
+use rehearse_core::rehearse;
 use replay_core::{ReplayOptions, replay};
 use report_core::report;
 use std::alloc::Global;
@@ -29,6 +32,25 @@ fn format_journal<H: Host>(host: &mut H, limit: u64) -> Status
     match format(host, limit) {
         Ok(()) => Status::Done,
         Err(_) => Status::DiskFault,
+    }
+}
+
+/// Sends a generated day, or its summary.
+fn generate<Rt: Threads + Sync, H: Host>(
+    rt: &Rt,
+    alloc: Global,
+    host: &mut H,
+    plan: &DayPlan,
+    summary: bool,
+) -> Status
+    requires { IsPlan plan.now }
+    ensures generated { Generates plan.now summary result (H.outside host.old) (H.outside host.new) }
+    ensures continues { Continues (H.outside host.old) (H.outside host.new) }
+{
+    if summary {
+        rehearse(rt, alloc, host, plan)
+    } else {
+        send_day(alloc, host, plan)
     }
 }
 
@@ -50,7 +72,19 @@ fn obey<Rt: Threads + Sync, H: Host>(
         Command::Status => report(alloc, host),
         Command::Print { kind } => print_stream(alloc, host, kind),
         Command::Pack { kind } => pack_stream(alloc, host, kind),
-        Command::Generate { .. } => Status::Usage,
+        Command::Generate {
+            seed,
+            symbols,
+            records,
+            summary,
+        } => {
+            let plan = DayPlan {
+                seed,
+                symbols,
+                records,
+            };
+            generate(rt, alloc, host, &plan, summary)
+        }
     }
 }
 
@@ -97,8 +131,8 @@ pub fn run<Rt: Threads + Sync, H: Host>(
     // Other words are answered as the command line says.
     ensures others { command_of (map (λ w. w.now) words.now) ≡ None
         → Obeyed (host.new ≡ host.old) (map (λ w. w.now) words.now) result (H.outside host.old) (H.outside host.new) }
-    // The words of a command are always understood. Where words are not, the host is not called.
-    ensures understood { (command : Command) → command_of (map (λ w. w.now) words.now) ≡ Some command → IsBuilt command → result ≢ Status.Usage }
+    // A plain line is always understood. Where words are not, the host is not called.
+    ensures understood { (command : Command) → command_of (map (λ w. w.now) words.now) ≡ Some command → result ≢ Status.Usage }
     ensures untouched { result ≡ Status.Usage → host.new ≡ host.old }
     ensures continues { Continues (H.outside host.old) (H.outside host.new) }
 {

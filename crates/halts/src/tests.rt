@@ -2,6 +2,7 @@
 mod batches;
 mod bytes;
 mod ends;
+mod generated;
 mod holdings;
 mod morning;
 mod process;

@@ -35,7 +35,7 @@ pub fn status_line(status: Status) -> Option<StatusLine>
     match status {
         Status::Done => None,
         Status::Usage => plain(
-            "halts: usage: halts <journal> format|serve|replay|status|print|pack",
+            "halts: usage: halts <journal> format|serve|replay|status|print|pack|generate",
         ),
         Status::Truncated => plain("halts: the input ends inside a frame"),
         Status::ReadFault => plain("halts: the input could not be read"),

@@ -33,7 +33,7 @@ fn a_status_is_told_in_one_line_and_done_by_none(rt: HostRuntime) -> Result<(), 
         (Status::Done, ""),
         (
             Status::Usage,
-            "halts: usage: halts <journal> format|serve|replay|status|print|pack\n",
+            "halts: usage: halts <journal> format|serve|replay|status|print|pack|generate\n",
         ),
         (Status::ReadFault, "halts: the input could not be read\n"),
         (
