@@ -171,10 +171,12 @@ fn an_input_that_ends_inside_a_frame_is_truncated(rt: HostRuntime) -> Result<(),
 #[test]
 fn a_line_that_goes_on_with_blanks_is_bad(rt: HostRuntime) -> Result<(), Fail> {
     let alloc = rt.alloc();
-    let mut line = Vec::from_elem(alloc, b' ', 300)?;
-    line[..24].copy_from_slice(b"clock 04:00:00.000000000");
-    for len in [255, 256, 300] {
-        let text = behind_the_day(alloc, &line[..len])?;
+    // With the 24 of the clock these are 255, 256 and 300 bytes.
+    for blanks in [231, 232, 276] {
+        let mut line = Vec::new(alloc);
+        line.extend_from_slice(b"clock 04:00:00.000000000")?;
+        line.extend_from_slice(&Vec::from_elem(alloc, b' ', blanks)?)?;
+        let text = behind_the_day(alloc, &line)?;
         let host = MemoryHost::new(alloc, &text, b"disk")?;
         assert!(rt;
             gives(
@@ -185,7 +187,7 @@ fn a_line_that_goes_on_with_blanks_is_bad(rt: HostRuntime) -> Result<(), Fail> {
                 &DAY,
                 Status::BadText { line: 2 }
             ),
-            "{len} bytes"
+            "{blanks} blanks"
         );
     }
     Ok(())
