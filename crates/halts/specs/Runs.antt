@@ -56,3 +56,10 @@ pub record Obeyed (unbegun : Type 0) (words : List (List ℕ)) (status : status.
   pub answer : Result Asked WordsError
   pub reads : Reads words answer
   pub did : Did unbegun answer status old new
+
+-- words that are no plain line were answered as the command line says, and the status tells where they were refused
+pub record Answered (words : List (List ℕ)) (status : status.Status) : Type 0 where
+  pub answer : Result Asked WordsError
+  pub reads : Reads words answer
+  pub refused : answer ≡ Err errors.Usage → status ≡ statuses.Usage
+  pub starved : answer ≡ Err errors.NoMemory → status ≡ statuses.NoMemory

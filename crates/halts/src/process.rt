@@ -4,7 +4,7 @@ ghost use Rattle.std.specs.Prelude.{◌≡◌, ◌≢◌, None, Some, map, get_o
 ghost use Rattle.host_core.specs.Outside.{Continues};
 ghost use Rattle.words_core.specs.declared.command.Command.{Command};
 ghost use Rattle.words_core.specs.Plain.{command_of};
-ghost use Rattle.halts.specs.Runs.{Ran, Obeyed};
+ghost use Rattle.halts.specs.Runs.{Ran, Obeyed, Answered};
 ghost use Rattle.halts.specs.Words.{command_words};
 
 use crate::run::run;
@@ -64,6 +64,7 @@ pub fn start<Rt: Files + Threads + Sync, R: Read + Drop, W: Write + Drop>(
     output: W,
 ) -> Status
     ensures understood { (command : Command) → command_of (command_words (map (λ w. w.now) args.now)) ≡ Some command → result ≢ Status.Usage }
+    ensures others { command_of (command_words (map (λ w. w.now) args.now)) ≡ None → Answered (command_words (map (λ w. w.now) args.now)) result }
 {
     let journal = JournalFile::new(rt, journal_path(args));
     let mut host = RealHost::new(input, output, journal);
