@@ -41,12 +41,12 @@ day_found body x fits kind e =
     byte_cell 11 body _ d.0.month is_date.1 (omega arith) (
     byte_cell 12 body _ d.0.day is_date.2 (omega arith) (
     byte_cell 13 body _ _ c.1 (omega arith) (
-    byte_cell 14 body _ _ p.1.0 (omega arith) (
+    byte_cell 14 body _ _ p.1 (omega arith) (
     cell wide32 15 body _ v.0 fits v.1.0 (omega arith) (
     ended 19 body s.0)))))))) in
     subst (Spells body) (ok_is _ x v.2) (record {
       types = (m.1.1, is_date.3, v.1.1);
-      ranges = p.1.1;
+      ranges = tt;
       bytes = bytes;
     })
 

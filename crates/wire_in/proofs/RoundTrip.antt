@@ -31,7 +31,7 @@ day_again m d v h r =
     let at_1 = moment_again 1 body m (wide64.read m (omega arith)) h.0 in
     let at_9 = date_again 9 body d.date (wide16.read d.date.year (omega (arith, h.1.year.last))) refl refl h.1 in
     let at_15 = index_again 15 body v (wide32.read v (omega arith)) h.2 in
-    rw (at_1, at_9, close_again d.close, profile_again d.profile r, at_15) refl
+    rw (at_1, at_9, close_again d.close, profile_again d.profile, at_15) refl
 
 trade_again : (m s n p z f : ℕ) → ReadsBack trade_of (Trade m s n p z f)
 unfolding trade_of

@@ -48,11 +48,12 @@ pub close_again : (c : Close) → close_of_byte (close_byte c) ≡ Some c
 close_again closes.Regular = refl
 close_again closes.Early = refl
 
-pub profile_ok : (n : ℕ) (p : Profile) → profile_of_byte n ≡ Some p → (n ≡ profile_byte p) × (p ≡ profiles.Since18)
+pub profile_ok : (n : ℕ) (p : Profile) → profile_of_byte n ≡ Some p → n ≡ profile_byte p
 profile_ok n p e = grind (arith, nat_tests)
 
-pub profile_again : (p : Profile) → p ≡ profiles.Since18 → profile_of_byte (profile_byte p) ≡ Some p
-profile_again p e = rw e refl
+pub profile_again : (p : Profile) → profile_of_byte (profile_byte p) ≡ Some p
+profile_again profiles.Before18 = refl
+profile_again profiles.Since18 = refl
 
 pub tier_ok : (n : ℕ) (t : Tier) → tier_of_byte n ≡ Some t → n ≡ tier_byte t
 tier_ok n t e = grind (arith, nat_tests)

@@ -23,12 +23,14 @@ close_of_byte byte =
     else None
 
 abbrev pub profile_byte : Profile → ℕ
-profile_byte profiles.Since18 = 2
 profile_byte profiles.Before18 = 1
+profile_byte profiles.Since18 = 2
 
--- only the profile since Amendment 18 is read
 abbrev pub profile_of_byte : ℕ → Option Profile
-profile_of_byte byte = if byte == 2 then Some profiles.Since18 else None
+profile_of_byte byte =
+    if byte == 1 then Some profiles.Before18
+    else if byte == 2 then Some profiles.Since18
+    else None
 
 abbrev pub tier_byte : Tier → ℕ
 tier_byte tiers.One = 1

@@ -4,7 +4,6 @@ use Rattle.std.specs.Int.{w16, w32, w64, to_be_bytes}
 use Rattle.price_core.specs.Ranges.{IsPrice, IsIndex, IsLeverage}
 use Rattle.session_core.specs.Dates.{Civil, IsCivil}
 use Rattle.session_core.specs.Moments.{IsMoment}
-use Rattle.session_core.specs.declared.day.Profile.TheVariants.{Since18}
 use Rattle.wire_core.specs.Fields.{units_or_zero}
 use Rattle.wire_core.specs.Names.{is_name}
 use Rattle.wire_in.specs.Codes.{close_byte, profile_byte, tier_byte, kind_byte, unmatched_byte}
@@ -33,9 +32,8 @@ body_of (Notice m s k) = 8 ∷ to_be_bytes w64 m ++ to_be_bytes w16 s ++ kind_by
 body_of (Indication m s p u) =
     9 ∷ to_be_bytes w64 m ++ to_be_bytes w16 s ++ to_be_bytes w64 p ++ unmatched_byte u ∷ []
 
--- what of a record's fields isn't kept by their types: the profile, a name, and the ten assigned flags
+-- what of a record's fields isn't kept by their types: a name, and the ten assigned flags
 abbrev pub InRange : Record → Type 0
-InRange (Day m d v) = d.profile ≡ Since18
 InRange (Listing m n t l c) = (length n ≡ 8) × IsTrue (is_name n)
 InRange (Trade m s n p z f) = f ≤ 1023
 InRange _ = Unit {0}

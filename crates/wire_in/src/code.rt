@@ -28,21 +28,22 @@ pub fn close_of_byte(byte: u8) -> Option<Close>
     }
 }
 
-/// The byte of a profile.
+/// The byte of a profile of the percentages.
 pub fn profile_byte(profile: Profile) -> u8
     ensures { result ≡ profile_byte profile }
 {
     match profile {
-        Profile::Since18 => 2,
         Profile::Before18 => 1,
+        Profile::Since18 => 2,
     }
 }
 
-/// Only the profile since Amendment 18 is read.
+/// The profile of the percentages of a byte.
 pub fn profile_of_byte(byte: u8) -> Option<Profile>
     ensures { result ≡ profile_of_byte byte }
 {
     match byte {
+        1 => Some(Profile::Before18),
         2 => Some(Profile::Since18),
         _ => None,
     }

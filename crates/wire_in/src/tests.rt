@@ -8,6 +8,11 @@ const DAY: &[u8] = &[
     1, 0, 0, 0x0d, 0x18, 0xc2, 0xe2, 0x80, 0, 7, 0xe8, 6, 3, 1, 2, 0, 7, 0xa1, 0x20,
 ];
 
+/// The same day with the percentages before Amendment 18.
+const DAY_BEFORE_18: &[u8] = &[
+    1, 0, 0, 0x0d, 0x18, 0xc2, 0xe2, 0x80, 0, 7, 0xe8, 6, 3, 1, 1, 0, 7, 0xa1, 0x20,
+];
+
 /// The listing of ABC in Tier 1 at 04:00:00, with a prior close of 50.0000.
 const LISTING: &[u8] = &[
     2, 0, 0, 0x0d, 0x18, 0xc2, 0xe2, 0x80, 0, 65, 66, 67, 0, 0, 0, 0, 0, 1, 10, 0, 0, 0, 0, 0, 7,
@@ -45,13 +50,13 @@ const DEAR: &[u8] = &[0, 0, 0, 0x17, 0x48, 0x76, 0xe8, 0];
 
 const HIGH: &[u8] = &[5, 0xf5, 0xe1, 0];
 
-fn day() -> Result<Record, Fail> {
+fn day(profile: Profile) -> Result<Record, Fail> {
     Ok(Record::Day {
         moment: Moment::new(14_400_000_000_000)?,
         day: Day {
             date: Date::of(2024, 6, 3)?,
             close: Close::Regular,
-            profile: Profile::Since18,
+            profile,
         },
         index_close: Index::new(500_000)?,
     })
@@ -80,7 +85,11 @@ fn changed(body: &[u8], at: usize, bytes: &[u8]) -> Result<Record, Refusal> {
 
 #[test]
 fn the_frames_of_a_day_and_of_an_index_value(rt: HostRuntime) -> Result<(), Fail> {
-    for (record, body) in [(day()?, DAY), (index_tick()?, INDEX_TICK)] {
+    for (record, body) in [
+        (day(Profile::Since18)?, DAY),
+        (day(Profile::Before18)?, DAY_BEFORE_18),
+        (index_tick()?, INDEX_TICK),
+    ] {
         assert!(rt; decode(body) == Ok(record));
         let mut buffer = [0xee; 64];
         let len = encode(&record, &mut buffer);
@@ -129,7 +138,7 @@ fn a_day_is_refused_by_its_first_bad_field(rt: HostRuntime) {
         (11, &[2, 30], 4),
         (13, &[0], 5),
         (13, &[3], 5),
-        (14, &[1], 6),
+        (14, &[0], 6),
         (14, &[3], 6),
         (15, &[0, 0, 0, 0], 7),
         (15, HIGH, 7),
