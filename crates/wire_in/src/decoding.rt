@@ -26,7 +26,10 @@ fn date_at(body: &[u8], at: usize) -> Result<Date, Refusal>
     }
 }
 
+// Each of the readers below stays a call of its own, which writes its record where it is wanted. Joined into `record`, they
+// would bring every record's fields together by parts first.
 #[tactic(auto, unfolding(crate::specs::Reading::day_of))]
+#[inline(never)]
 fn day(body: &[u8]) -> Result<Record, Refusal>
     ensures { result ≡ day_of body.now }
 {
@@ -51,6 +54,7 @@ fn day(body: &[u8]) -> Result<Record, Refusal>
 }
 
 #[tactic(auto, unfolding(crate::specs::Reading::listing_of))]
+#[inline(never)]
 fn listing(body: &[u8]) -> Result<Record, Refusal>
     ensures { result ≡ listing_of body.now }
 {
@@ -72,6 +76,7 @@ fn listing(body: &[u8]) -> Result<Record, Refusal>
 }
 
 #[tactic(auto, unfolding(crate::specs::Reading::trade_of))]
+#[inline(never)]
 fn trade(body: &[u8]) -> Result<Record, Refusal>
     ensures { result ≡ trade_of body.now }
 {
@@ -92,6 +97,7 @@ fn trade(body: &[u8]) -> Result<Record, Refusal>
 }
 
 #[tactic(auto, unfolding(crate::specs::Reading::cancel_of))]
+#[inline(never)]
 fn cancel(body: &[u8]) -> Result<Record, Refusal>
     ensures { result ≡ cancel_of body.now }
 {
@@ -107,6 +113,7 @@ fn cancel(body: &[u8]) -> Result<Record, Refusal>
 }
 
 #[tactic(auto, unfolding(crate::specs::Reading::quote_of))]
+#[inline(never)]
 fn quote(body: &[u8]) -> Result<Record, Refusal>
     ensures { result ≡ quote_of body.now }
 {
@@ -127,6 +134,7 @@ fn quote(body: &[u8]) -> Result<Record, Refusal>
 }
 
 #[tactic(auto, unfolding(crate::specs::Reading::index_tick_of))]
+#[inline(never)]
 fn index_tick(body: &[u8]) -> Result<Record, Refusal>
     ensures { result ≡ index_tick_of body.now }
 {
@@ -139,6 +147,7 @@ fn index_tick(body: &[u8]) -> Result<Record, Refusal>
 }
 
 #[tactic(auto, unfolding(crate::specs::Reading::clock_of))]
+#[inline(never)]
 fn clock(body: &[u8]) -> Result<Record, Refusal>
     ensures { result ≡ clock_of body.now }
 {
@@ -150,6 +159,7 @@ fn clock(body: &[u8]) -> Result<Record, Refusal>
 }
 
 #[tactic(auto, unfolding(crate::specs::Reading::notice_of))]
+#[inline(never)]
 fn notice(body: &[u8]) -> Result<Record, Refusal>
     ensures { result ≡ notice_of body.now }
 {
@@ -166,6 +176,7 @@ fn notice(body: &[u8]) -> Result<Record, Refusal>
 }
 
 #[tactic(auto, unfolding(crate::specs::Reading::indication_of))]
+#[inline(never)]
 fn indication(body: &[u8]) -> Result<Record, Refusal>
     ensures { result ≡ indication_of body.now }
 {
