@@ -7,10 +7,11 @@ mod run;
 mod tests;
 mod told;
 
-use host_core::Status;
+use host_core::{Held, Status};
 use process::start;
 use std::env::{self, Env};
 use std::io;
+use std::os::unix::fs::FileExt;
 use std::process::ExitCode;
 use std::rt::Files;
 use std::thread::Threads;
@@ -19,7 +20,10 @@ use told::end;
 /// Does what the words of this process say, over the standard streams.
 fn start_here<Rt: Env + Input + Print + Files + AllocGlobal + Threads + Sync>(
     rt: &Rt,
-) -> io::Result<Status> {
+) -> io::Result<Status>
+where
+    Rt::File: FileExt + Held,
+{
     let alloc = rt.alloc();
     let mut words = Vec::new(alloc);
     for word in env::args(rt)? {

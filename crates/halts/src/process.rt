@@ -8,9 +8,10 @@ ghost use Rattle.halts.specs.Runs.{Ran, Obeyed, Answered};
 ghost use Rattle.halts.specs.Words.{command_words};
 
 use crate::run::run;
-use host_core::{Host, JournalFile, RealHost, Status};
+use host_core::{Held, Host, JournalFile, RealHost, Status};
 use std::alloc::Global;
 use std::io::{Read, Write};
+use std::os::unix::fs::FileExt;
 use std::rt::Files;
 use std::thread::Threads;
 
@@ -63,6 +64,8 @@ pub fn start<Rt: Files + Threads + Sync, R: Read + Drop, W: Write + Drop>(
     input: R,
     output: W,
 ) -> Status
+where
+    Rt::File: FileExt + Held,
     ensures understood { (command : Command) → command_of (command_words (map (λ w. w.now) args.now)) ≡ Some command → result ≢ Status.Usage }
     ensures others { command_of (command_words (map (λ w. w.now) args.now)) ≡ None → Answered (command_words (map (λ w. w.now) args.now)) result }
 {

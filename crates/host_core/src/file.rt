@@ -2,8 +2,9 @@
 ghost use Rattle.std.specs.Prelude.{◌≡◌, ◌<◌, ◌≤◌, ◌^◌, ℕ, List, Option, None, Some, length, take, drop, IfOk, OnOk, OnErr};
 ghost use Rattle.host_core.specs.Outside.{written};
 
-use std::fs::{OpenFile, OpenOptions};
-use std::io::{self, Read, Seek, SeekFrom, Write};
+use std::fs::{File, OpenFile, OpenOptions};
+use std::io::{self, Seek, SeekFrom};
+use std::os::unix::fs::FileExt;
 use std::rt::Files;
 
 /// The disk of a host over the streams: bytes that stay when the program ends.
@@ -40,7 +41,20 @@ pub trait Disk {
         ensures unsynced { OnErr result (synced self.new ≡ synced self.old) };
 }
 
-/// A file that is opened for reading and writing at its first use, and made empty where there is none.
+/// A file that whoever opened it can hold for itself.
+pub trait Held {
+    /// Holds the file until it is closed. It is an error where someone else holds it.
+    fn hold(&self) -> io::Result<()>;
+}
+
+impl Held for File {
+    fn hold(&self) -> io::Result<()> {
+        Ok(self.try_lock()?)
+    }
+}
+
+/// A file that is opened for reading and writing at its first use, and made empty where there is none. It is held from then
+/// on, so that no other program reads or writes the same journal.
 #[derive(Drop)]
 pub struct JournalFile<'a, F: Files> {
     files: &'a F,
@@ -48,7 +62,10 @@ pub struct JournalFile<'a, F: Files> {
     opened: Option<F::File>,
 }
 
-impl<'a, F: Files> JournalFile<'a, F> {
+impl<'a, F: Files> JournalFile<'a, F>
+where
+    F::File: Held,
+{
     /// The file of a path. The path `-` names none: then every use fails.
     pub fn new(files: &'a F, path: &'a str) -> Self {
         JournalFile {
@@ -70,7 +87,10 @@ impl<'a, F: Files> JournalFile<'a, F> {
     }
 }
 
-impl<'a, F: Files> Disk for JournalFile<'a, F> {
+impl<'a, F: Files> Disk for JournalFile<'a, F>
+where
+    F::File: FileExt + Held,
+{
     fn len(&mut self) -> io::Result<u64> {
         let len = self.file()?.seek(SeekFrom::End(0))?;
         if len >= 1 << 63 {
@@ -80,30 +100,31 @@ impl<'a, F: Files> Disk for JournalFile<'a, F> {
     }
 
     fn read(&mut self, at: u64, into: &mut [u8]) -> io::Result<()> {
-        let file = self.file()?;
-        file.seek(SeekFrom::Start(at))?;
-        file.read_exact(into)
+        self.file()?.read_exact_at(into, at)
     }
 
     fn write(&mut self, at: u64, piece: &[u8]) -> io::Result<()> {
-        let file = self.file()?;
-        file.seek(SeekFrom::Start(at))?;
-        file.write_all(piece)
+        self.file()?.write_all_at(piece, at)
     }
 
     fn sync(&mut self) -> io::Result<()> {
-        self.file()?.sync_all()
+        self.file()?.sync_data()
     }
 }
 
-// Opens a file, or makes it.
-fn open<F: Files>(files: &F, path: &str) -> io::Result<F::File> {
+// Opens a file, or makes it, and holds it.
+fn open<F: Files>(files: &F, path: &str) -> io::Result<F::File>
+where
+    F::File: Held,
+{
     if path == "-" {
         return Err(io::ErrorKind::NotFound.into());
     }
-    OpenOptions::new()
+    let file = OpenOptions::new()
         .read(true)
         .write(true)
         .create(true)
-        .open(files, path)
+        .open(files, path)?;
+    file.hold()?;
+    Ok(file)
 }

@@ -15,7 +15,7 @@ mod tests;
 pub use counts::{FaultCounts, Side, raise};
 pub use failed::Failed;
 pub use fault::Fault;
-pub use file::{Disk, JournalFile};
+pub use file::{Disk, Held, JournalFile};
 pub use host::Host;
 pub use real::RealHost;
 pub use send::send_all;

@@ -145,6 +145,23 @@ fn a_file_keeps_each_byte_where_it_was_written(rt: HostRuntime) -> Result<(), Fa
 }
 
 #[test]
+fn a_file_that_is_in_use_is_held(rt: HostRuntime) -> Result<(), Fail> {
+    let mut first = JournalFile::new(&rt, "held.bin");
+    first.write(0, b"one")?;
+    let mut second = JournalFile::new(&rt, "held.bin");
+    let mut bytes = [0; 3];
+    assert!(rt; second.len().is_err());
+    assert!(rt; second.read(0, &mut bytes).is_err());
+    assert!(rt; second.write(0, b"two").is_err());
+    assert!(rt; second.sync().is_err());
+    first.read(0, &mut bytes)?;
+    assert!(rt; bytes == *b"one");
+    drop(first);
+    assert_eq!(rt; second.len()?, 3);
+    Ok(())
+}
+
+#[test]
 fn a_file_stays_open_from_its_first_use_on(rt: HostRuntime) -> Result<(), Fail> {
     let mut file = JournalFile::new(&rt, "open.bin");
     file.write(0, b"before")?;

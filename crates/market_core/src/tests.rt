@@ -1,10 +1,10 @@
 use super::*;
-use price_core::{Cause, Index, Leverage, Price, Tier};
+use price_core::{Cause, Index, Leverage, Price, Tier, Unmatched};
 use session_core::{Close, Date, Day, Level, Moment, Phase, Profile};
 use std::alloc::Global;
 use std::process::Abort;
 use std::test::Fail;
-use wire_in::{Record, Refusal};
+use wire_in::{NoticeKind, Record, Refusal};
 use wire_out::{Message, Stamped};
 
 /// A time of the day, and nanoseconds after it.
@@ -580,7 +580,7 @@ fn expect_opening<R: Abort + AllocGlobal>(rt: &R, count: u16) -> Result<(), Fail
 
 #[test]
 fn each_of_many_stocks_begins_to_trade_at_the_open(rt: HostRuntime) -> Result<(), Fail> {
-    for count in [1, 63, 64, 65, 130] {
+    for count in [1, 63, 64, 65, 16_384] {
         expect_opening(&rt, count)?;
     }
     Ok(())
@@ -611,4 +611,132 @@ fn a_led_market_gives_its_own_messages_alone(rt: HostRuntime) -> Result<(), Fail
     assert_eq!(rt; lead.id(&name(0)), Some(1));
     assert_eq!(rt; lead.id(&name(2)), None);
     Ok(())
+}
+
+/// 201 stocks trade from 10:00:00 on, the one in the middle within bands around 20.00 dollars.
+fn begin_trading(alloc: Global, market: &mut Market) -> Result<(), Fail> {
+    let start = at(10, 0, 0, 0)?;
+    let mut out = Vec::new(alloc);
+    market.apply(&day(3)?, &mut out)?;
+    for number in 0..201 {
+        market.apply(&listing(at(9, 0, 0, 0)?, name(number))?, &mut out)?;
+    }
+    market.apply(&clock(start), &mut out)?;
+    market.apply(&opening(start, 100)?, &mut out)?;
+    Ok(())
+}
+
+/// After these records such a market gives nothing at a clock a nanosecond before a moment, and at one exactly these
+/// messages.
+fn expect_at_clock<R: Abort + AllocGlobal>(
+    rt: &R,
+    xs: &[Record],
+    t: Moment,
+    want: &[Message],
+) -> Result<(), Fail> {
+    let mut market = Market::new(rt.alloc())?;
+    begin_trading(rt.alloc(), &mut market)?;
+    let mut out = Vec::new(rt.alloc());
+    for x in xs {
+        market.apply(x, &mut out)?;
+    }
+    out.clear();
+    let before = Moment::new(t.nanos().saturating_sub(1))?;
+    market.apply(&clock(before), &mut out)?;
+    assert_eq!(rt; out.len(), 0);
+    market.apply(&clock(t), &mut out)?;
+    let mut expected = Vec::new(rt.alloc());
+    for message in want {
+        expected.push(said(t, *message))?;
+    }
+    assert!(rt; out.as_slice() == expected.as_slice());
+    Ok(())
+}
+
+/// The middle stock's phase.
+fn middle(phase: Phase) -> Message {
+    Message::State { symbol: 100, phase }
+}
+
+#[test]
+fn a_limit_state_among_quiet_stocks_ends_at_its_nanosecond(rt: HostRuntime) -> Result<(), Fail> {
+    let end = at(10, 0, 16, 7)?;
+    let collar = collar(end, 100)?;
+    expect_at_clock(
+        &rt,
+        &[offered(at(10, 0, 1, 7)?, 100, 190_000)?],
+        end,
+        &[middle(Phase::Paused), collar.message],
+    )
+}
+
+#[test]
+fn a_pause_among_quiet_stocks_ends_at_its_nanosecond(rt: HostRuntime) -> Result<(), Fail> {
+    let price = Price::new(190_000)?;
+    expect_at_clock(
+        &rt,
+        &[
+            offered(at(10, 0, 1, 7)?, 100, 190_000)?,
+            clock(at(10, 0, 16, 7)?),
+            Record::Indication {
+                moment: at(10, 0, 17, 0)?,
+                symbol: 100,
+                price,
+                unmatched: Unmatched::Nothing,
+            },
+        ],
+        at(10, 5, 16, 7)?,
+        &[
+            Message::Release { symbol: 100, price },
+            middle(Phase::Trading),
+            Message::Band {
+                symbol: 100,
+                cause: Cause::First,
+                reference: price,
+                lower: Price::new(180_500)?,
+                upper: Price::new(199_500)?,
+            },
+        ],
+    )
+}
+
+#[test]
+fn a_pause_of_the_last_ten_minutes_begins_at_its_nanosecond(rt: HostRuntime) -> Result<(), Fail> {
+    expect_at_clock(
+        &rt,
+        &[offered(at(15, 49, 45, 3)?, 100, 180_000)?],
+        at(15, 50, 0, 3)?,
+        &[middle(Phase::Closing)],
+    )
+}
+
+/// Each stock's phase.
+fn all_in(alloc: Global, phase: Phase) -> Result<Vec<Message>, Fail> {
+    let mut messages = Vec::new(alloc);
+    for symbol in 0..201 {
+        messages.push(Message::State { symbol, phase })?;
+    }
+    Ok(messages)
+}
+
+#[test]
+fn a_halted_stock_closes_with_the_others_at_the_nanosecond(rt: HostRuntime) -> Result<(), Fail> {
+    let halt = Record::Notice {
+        moment: at(10, 30, 0, 0)?,
+        symbol: 100,
+        kind: NoticeKind::Halt,
+    };
+    let want = all_in(rt.alloc(), Phase::Closed)?;
+    expect_at_clock(&rt, &[halt], at(16, 0, 0, 0)?, want.as_slice())
+}
+
+#[test]
+fn a_market_wide_halt_ends_at_its_nanosecond(rt: HostRuntime) -> Result<(), Fail> {
+    let fall = tick(at(11, 0, 0, 5)?, 465_000)?;
+    let mut want = Vec::new(rt.alloc());
+    want.push(Message::MarketResume)?;
+    for message in all_in(rt.alloc(), Phase::Trading)?.as_slice() {
+        want.push(*message)?;
+    }
+    expect_at_clock(&rt, &[fall], at(11, 15, 0, 5)?, want.as_slice())
 }

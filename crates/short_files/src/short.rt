@@ -1,6 +1,8 @@
+use host_core::Held;
 use std::alloc::Allocator;
 use std::fs::{Metadata, OpenFile, OpenOptions};
 use std::io::{self, Read, Seek, SeekFrom, Write};
+use std::os::unix::fs::FileExt;
 use std::rt::Files;
 
 /// The most bytes of one read or write.
@@ -46,6 +48,24 @@ impl<W: Write> Write for ShortFile<W> {
 impl<W: Seek> Seek for ShortFile<W> {
     fn seek(&mut self, to: SeekFrom) -> io::Result<u64> {
         self.whole.seek(to)
+    }
+}
+
+impl<W: FileExt> FileExt for ShortFile<W> {
+    fn read_at(&self, buf: &mut [u8], offset: u64) -> io::Result<usize> {
+        let count = buf.len().min(MOST);
+        self.whole.read_at(&mut buf[..count], offset)
+    }
+
+    fn write_at(&self, buf: &[u8], offset: u64) -> io::Result<usize> {
+        let count = buf.len().min(MOST);
+        self.whole.write_at(&buf[..count], offset)
+    }
+}
+
+impl<W: Held> Held for ShortFile<W> {
+    fn hold(&self) -> io::Result<()> {
+        self.whole.hold()
     }
 }
 

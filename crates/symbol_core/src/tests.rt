@@ -437,3 +437,34 @@ fn a_tick_that_is_passed_over_leaves_the_due_as_it_was(rt: HostRuntime) -> Resul
     assert_eq!(rt; due_after(&rt, false, &passed)?, Some(57_600));
     Ok(())
 }
+
+#[test]
+fn a_first_mean_comes_by_a_clock_alone_after_five_minutes(rt: HostRuntime) -> Result<(), Fail> {
+    let early = Record::Clock {
+        moment: after_open(299_999_999_999)?,
+    };
+    let until_then = [
+        new_day(3)?,
+        listing(500_000)?,
+        clock(34_200)?,
+        trade(34_260, 1, 520_000, 0)?,
+        early,
+    ];
+    expect_messages(&rt, &until_then, &[listed(), state(Phase::Trading)])?;
+    expect_messages(
+        &rt,
+        &[
+            new_day(3)?,
+            listing(500_000)?,
+            clock(34_200)?,
+            trade(34_260, 1, 520_000, 0)?,
+            early,
+            clock(34_500)?,
+        ],
+        &[
+            listed(),
+            state(Phase::Trading),
+            band(Cause::First, 520_000, 494_000, 546_000)?,
+        ],
+    )
+}

@@ -1,9 +1,10 @@
 // The program started over readers, writers and a real file.
 use super::fall;
 use crate::process::start;
-use host_core::Status;
+use host_core::{Held, Status};
 use std::alloc::Global;
 use std::io::{self, Read, Write};
+use std::os::unix::fs::FileExt;
 use std::process::Abort;
 use std::rt::Files;
 use std::test::Fail;
@@ -42,7 +43,10 @@ fn sends<Rt: Abort + AllocGlobal + Files + Threads + Sync>(
     args: &[&str],
     input: &[u8],
     want: Status,
-) -> Result<Vec<u8>, Fail> {
+) -> Result<Vec<u8>, Fail>
+where
+    Rt::File: FileExt + Held,
+{
     let mut sent = Vec::new(rt.alloc());
     let status = start(rt, rt.alloc(), args, input, &mut sent);
     assert_eq!(rt; status, want, "of {args:?}");
