@@ -82,6 +82,7 @@ impl Cutter {
 
     /// Takes bytes up to the end of the frame or of the piece: at least one of a piece that isn't empty. The frames that
     /// a sequence of calls finds are those of all the bytes taken, one after the other, whatever the pieces are.
+    #[inline(never)]
     pub fn take(&mut self, piece: &[u8]) -> Cut
         ensures bytes { self.new ≡ pending self.old ++ take result.used piece.now }
         ensures used { result.used ≤ length piece.now }

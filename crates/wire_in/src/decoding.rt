@@ -26,7 +26,7 @@ fn date_at(body: &[u8], at: usize) -> Result<Date, Refusal>
     }
 }
 
-// Each of the readers below stays a call of its own, which writes its record where it is wanted. Joined into `record`, they
+// Each of the readers below stays a call of its own, which writes its record where it is wanted. Joined into `decode`, they
 // would bring every record's fields together by parts first.
 #[tactic(auto, unfolding(crate::specs::Reading::day_of))]
 #[inline(never)]
@@ -216,6 +216,7 @@ fn record(body: &[u8]) -> Result<Record, Refusal>
 
 /// The record that a body says, or the first refusal: of its type, of its length, or of its first field that is outside
 /// its range. An empty body has a bad length. Each record has one body, and each body that decodes is that of its record.
+#[inline(always)]
 pub fn decode(body: &[u8]) -> Result<Record, Refusal>
     requires { length body.now ≤ 255 }
     ensures exact { result ≡ record_of body.now }
