@@ -196,6 +196,7 @@ fn indication(body: &[u8]) -> Result<Record, Refusal>
 
 // A function of its own: the other clauses of `decode` follow from its one.
 #[tactic(auto, unfolding(crate::specs::Reading::record_of))]
+#[inline(always)]
 fn record(body: &[u8]) -> Result<Record, Refusal>
     ensures { result ≡ record_of body.now }
 {
