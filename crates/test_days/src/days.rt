@@ -1,7 +1,7 @@
 // Worked days, each with what it shows.
 use crate::frames::BadLine;
 use crate::lines::{Line, at, band, clock, collar, day, listed, listing, quote, state, trade};
-use crate::{market, pauses, prices};
+use crate::{market, pauses, prices, profiles};
 use price_core::{Cause, Tier};
 use session_core::Phase;
 use std::alloc::Global;
@@ -101,5 +101,6 @@ pub fn worked_days(alloc: Global) -> Result<Vec<WorkedDay>, BadLine> {
     market::add(&mut days)?;
     prices::add(&mut days)?;
     pauses::add(&mut days)?;
+    profiles::add(&mut days)?;
     Ok(days.days)
 }

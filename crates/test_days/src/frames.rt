@@ -4,7 +4,7 @@ ghost use Rattle.wire_core.specs.Names.{is_name};
 ghost use Rattle.wire_in.specs.Spelling.{InRange};
 
 use crate::lines::Line;
-use session_core::{Moment, Profile};
+use session_core::Moment;
 use std::alloc::{AllocError, AllocFailed, Global};
 use thiserror::Error;
 use wire_core::name_at;
@@ -49,7 +49,6 @@ fn is_sayable(x: &Record) -> bool
     ensures { IsTrue result → InRange x.now }
 {
     match *x {
-        Record::Day { day, .. } => day.profile == Profile::Since18,
         Record::Listing { name, .. } => is_name(name),
         Record::Trade { flags, .. } => flags <= 1023,
         _ => true,

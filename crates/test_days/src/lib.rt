@@ -7,6 +7,7 @@ pub mod lines;
 mod market;
 mod pauses;
 mod prices;
+mod profiles;
 
 pub use days::{WorkedDay, listed_day, opened_day, paused_day, worked_days};
 pub use frames::{BadLine, Session, messages_of, records_of};

@@ -354,13 +354,8 @@ frame_of line =
     else if bytes_eq (word_at 0 line) (codes "refused") then refused_of line
     else numbered_of line
 
-abbrev pub is_since18 : Profile → Bool
-is_since18 profiles.Since18 = true
-is_since18 profiles.Before18 = false
-
--- what of a record's fields isn't kept by their types: the profile, a name, and the ten assigned flags
+-- what of a record's fields isn't kept by their types: a name, and the ten assigned flags
 abbrev pub is_in_range : Record → Bool
-is_in_range (Day m d v) = is_since18 d.profile
 is_in_range (Listing m n t l c) = is_name n
 is_in_range (Trade m s n p z f) = nat_le f 1023
 is_in_range _ = true

@@ -14,7 +14,7 @@ use crate::field_reading::{
 };
 use crate::record_printing::record_line;
 use crate::word_reading::{close, is, notice_kind, profile, tier, unmatched};
-use session_core::{Day, Profile};
+use session_core::Day;
 use wire_in::Record;
 
 #[tactic(auto, unfolding(crate::specs::Reading::day_of))]
@@ -192,7 +192,6 @@ fn is_in_range(x: &Record) -> bool
     ensures tells { IsTrue result ↔ InRange x.now }
 {
     match *x {
-        Record::Day { day, .. } => day.profile == Profile::Since18,
         Record::Listing { name, .. } => is_name(name),
         Record::Trade { flags, .. } => flags <= 0x03ff,
         _ => true,

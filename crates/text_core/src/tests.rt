@@ -35,20 +35,27 @@ fn the_line_of_a_day(rt: HostRuntime) -> Result<(), Fail> {
     let moment = Moment::new(14_400_000_000_000)?;
     let date = Date::of(2024, 6, 3)?;
     let index_close = Index::new(500_000)?;
-    for (line, close) in [
+    for (line, close, profile) in [
         (
             "day 04:00:00.000000000 2024-06-03 regular since18 5000.00",
             Close::Regular,
+            Profile::Since18,
         ),
         (
             "day 04:00:00.000000000 2024-06-03 early since18 5000.00",
             Close::Early,
+            Profile::Since18,
+        ),
+        (
+            "day 04:00:00.000000000 2024-06-03 regular before18 5000.00",
+            Close::Regular,
+            Profile::Before18,
         ),
     ] {
         let day = Day {
             date,
             close,
-            profile: Profile::Since18,
+            profile,
         };
         let record = Record::Day {
             moment,
@@ -183,7 +190,8 @@ fn a_line_that_prints_no_record_is_refused(rt: HostRuntime) {
         "cancel 09:30:00.000000000 0 4294967296",
         "cancel 09:30:00.000000000 0 18446744073709551617",
         "day 04:00:00.000000000 2024-02-30 regular since18 5000.00",
-        "day 04:00:00.000000000 2024-06-03 regular before18 5000.00",
+        "day 04:00:00.000000000 2024-06-03 regular before19 5000.00",
+        "day 04:00:00.000000000 2024-06-03 regular - 5000.00",
         "day 04:00:00.000000000 2024-6-3 regular since18 5000.00",
         "listing 04:00:00.000000000 ABCDEFGHI tier1 10 -",
         "listing 04:00:00.000000000 ABC tier1 9 -",
