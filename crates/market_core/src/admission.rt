@@ -166,6 +166,7 @@ impl Admission {
 
     /// The first refusal that applies to a record, by what is kept. It is a function of its own so that `verdict` has one
     /// value to say its second clause of.
+    #[inline(always)]
     fn refusal(&self, x: &Record) -> Option<Refusal>
         ensures { result ≡ refusal_of self.now x.now }
     {
@@ -186,6 +187,7 @@ impl Admission {
 
     /// Why a record may not follow the admitted ones: the first of no day, out of order, unknown symbol, already
     /// listed, directory full and journal full that applies, or none.
+    #[inline(always)]
     pub fn verdict(&self, x: &Record) -> Option<Refusal>
         ensures kept { result ≡ refusal_of self.now x.now }
         ensures exact { (admitted : List Record) → Represents self.now admitted → result ≡ verdict self.now.capacity admitted x.now }
@@ -194,6 +196,7 @@ impl Admission {
     }
 
     /// Lists a name on a day.
+    #[inline(never)]
     fn list(&mut self, name: [u8; 8], day: &Day)
         requires { is_full_for self.old.directory name ≡ false }
         ensures { self.new ≡ record self.old {
@@ -227,6 +230,7 @@ impl Admission {
     }
 
     /// Admits a record that no refusal applies to. It takes no memory, and so it always succeeds.
+    #[inline(always)]
     pub fn admit(&mut self, x: &Record) -> Result<(), NoMemory>
         requires { refusal_of self.old x.now ≡ None }
         ensures stands { (admitted : List Record) → Represents self.old admitted → OnOk result (Represents self.new (x.now ∷ admitted)) }

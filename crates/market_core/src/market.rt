@@ -85,6 +85,7 @@ impl Market {
     }
 
     /// Begins a day.
+    #[inline(never)]
     fn begin_day(
         &mut self,
         today: Today,
@@ -108,6 +109,7 @@ impl Market {
     }
 
     /// The market-wide rules at a clock or an index tick, and then those of each symbol.
+    #[inline(never)]
     fn tick(&mut self, x: &Record, out: &mut Vec<Stamped>) -> Result<(), NoMemory>
         requires { is_tick x.now ≡ true }
         ensures ok { OnOk result (Ticks x.now self.old self.new out.old.items out.new.items) }
@@ -126,6 +128,7 @@ impl Market {
     }
 
     /// Evaluates a record for the symbol of an id, on a day that has begun.
+    #[inline(always)]
     fn evaluate(&mut self, id: u16, x: &Record, out: &mut Vec<Stamped>) -> Result<(), NoMemory>
         ensures ok { OnOk result (Evaluated id x.now self.old self.new out.old.items out.new.items) }
         ensures err { OnErr result ((self.new ≡ self.old) × (out.new.items ≡ out.old.items)) }
@@ -183,6 +186,7 @@ impl Market {
 
     /// Lists a name, and evaluates its symbol. Where the directory is full it leaves a new name out, since admission
     /// refuses it.
+    #[inline(never)]
     fn list(&mut self, name: [u8; 8], x: &Record, out: &mut Vec<Stamped>) -> Result<(), NoMemory>
         requires { is_trade x.now ≡ false }
         ensures ok { is_full_for self.old.directory name ≡ false → OnOk result (OnToday self.old (λ today. Lists name today x.now self.old self.new out.old.items out.new.items)) }

@@ -106,6 +106,7 @@ impl Section {
     }
 
     /// Evaluates a record for the stock of an index. Only a trade may find no memory, and then all stays as it was.
+    #[inline(always)]
     pub fn evaluate(
         &mut self,
         index: usize,
