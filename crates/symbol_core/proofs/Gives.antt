@@ -1,6 +1,7 @@
 -- What a rule gives at a history for which the symbol stands, by the kept state.
 use Rattle.std.proofs.Common.{◌≡◌, ℕ, Bool, List, [], ◌∷◌, refl, sym, ap, ◌∙◌}
 use Rattle.std.specs.Prelude.{Option, if◌then◌else◌}
+use Rattle.std.specs.Option.{option_map_or}
 use Rattle.std.proofs.Math.Nat.{le_refl}
 use Rattle.session_core.specs.declared.state.Phase.{Phase}
 use Rattle.wire_in.specs.declared.record.Record.{Record}
@@ -20,7 +21,7 @@ use Rattle.rulebook.specs.Rules as rules
 use Rattle.rulebook.specs.Symbol as of
 use Rattle.symbol_core.specs.declared.kept.Kept.{Kept}
 use Rattle.symbol_core.specs.declared.kept.Step.{Step}
-use Rattle.symbol_core.specs.Kept.{announcing, pausing, reopening, restricting, straddling, turning}
+use Rattle.symbol_core.specs.Kept.{announcing, becoming, brakes, pausing, reopening, restricting, straddling}
 use Rattle.symbol_core.specs.Pricing.{banding}
 use Rattle.symbol_core.specs.Stands.{named, Stands}
 use Rattle.symbol_core.specs.Window.{window}
@@ -63,8 +64,8 @@ by_kept rule mine k step deals h s =
     ∙ ap (λ (l : Kept). rule l step) (sym (stands-told mine k step deals h s))
 
 pub turned-gives : (rule : Phase → Brakes → Option Phase) (k : Kept) (step : Step) (mine : List ℕ → Bool) (deals : List Deal) (h : List Event) → Stands mine k deals step h
-    → rules.turned rule (context step.day (named mine k.id) step.input h) ≡ turning rule k step
-turned-gives rule k step mine deals h s = by_kept (turning rule) mine k step deals h s
+    → rules.turned rule (context step.day (named mine k.id) step.input h) ≡ option_map_or (becoming k) (rule k.phase (brakes k step)) []
+turned-gives rule k step mine deals h s = by_kept (λ l step. option_map_or (becoming l) (rule l.phase (brakes l step)) []) mine k step deals h s
 
 pub reopen-gives : (k : Kept) (step : Step) (mine : List ℕ → Bool) (deals : List Deal) (h : List Event) → Stands mine k deals step h
     → rules.reopen (context step.day (named mine k.id) step.input h) ≡ reopening k step

@@ -1,5 +1,5 @@
 -- What the code does to the kept state, in one equation each. Private words: no public clause cites them.
-use Rattle.std.specs.Prelude.{ℕ, Bool, true, false, Option, Some, None, List, [], ◌∷◌, ◌++◌, ◌==◌, if◌then◌else◌, ◌&&◌, ◌||◌, not, is_some, unwrap_or, ◌+◌, ◌≤◌}
+use Rattle.std.specs.Prelude.{ℕ, Bool, true, false, Option, Some, None, List, [], ◌∷◌, ◌++◌, ◌==◌, if◌then◌else◌, ◌&&◌, ◌||◌, not, is_some, map, unwrap_or, ◌+◌, ◌≤◌}
 use Rattle.std.specs.Option.{option_map_or}
 use Rattle.price_core.specs.declared.quote.Quotation.{Quotation}
 use Rattle.session_core.specs.declared.state.Phase.{Phase}
@@ -87,8 +87,9 @@ brakes k step = record {
   halted = k.halted;
 }
 
-abbrev pub turning : (Phase → Brakes → Option Phase) → Kept → Step → List Message
-turning rule k step = option_map_or (becoming k) (rule k.phase (brakes k step)) []
+-- the messages of phases, one after the other
+abbrev pub states : ℕ → List Phase → List Message
+states s phases = map (λ p. out.State s p) phases
 
 abbrev pub first_round : ℕ → Phase → Banded → List Message
 first_round s origin b = collar s 0 (first_collars (origin_of origin) b.bands b.reference)

@@ -75,6 +75,10 @@ pub record ObeysAll (deals : List Deal) (rules : List (Context → List Message)
       → Stands own new deals step (publish (all_obeyed step.day (named own old.id) step.input rules h) h)
   pub id : new.id ≡ old.id
 
+-- the rules that turn a phase: the session close, a market-wide halt, the start of trading and a regulatory halt
+abbrev pub turning_rules : List (Context → List Message)
+turning_rules = rules.session_close ∷ rules.market_halt ∷ rules.start ∷ rules.regulatory_halt ∷ []
+
 -- what the record announces is said, and then what the rules give
 pub record Speaks (deals : List Deal) (step : Step) (old new : Kept) (before after : List Message) : Type 0 where
   pub said : Kept

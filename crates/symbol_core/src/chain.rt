@@ -14,10 +14,7 @@ impl Kept {
         ensures room { vec_capacity out.old ≤ vec_capacity out.new }
         ensures len { vec_len out.new ≤ vec_len out.old + 13 }
     {
-        self.close(step, out);
-        self.stop(step, out);
-        self.start(step, out);
-        self.halt(step, out);
+        self.turn(step, out);
         self.pause(step, out);
         self.reopen(step, out);
         self.leave_limit(step, out);
