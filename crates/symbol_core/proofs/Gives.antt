@@ -1,15 +1,17 @@
 -- What a rule gives at a history for which the symbol stands, by the kept state.
 use Rattle.std.proofs.Common.{◌≡◌, ℕ, Bool, List, [], ◌∷◌, refl, sym, ap, ◌∙◌}
-use Rattle.std.specs.Prelude.{Option, if◌then◌else◌}
+use Rattle.std.specs.Prelude.{Option, if◌then◌else◌, ◌&&◌, not}
 use Rattle.std.specs.Option.{option_map_or}
 use Rattle.std.proofs.Math.Nat.{le_refl}
 use Rattle.session_core.specs.declared.state.Phase.{Phase}
+use Rattle.session_core.specs.declared.state.Phase.TheVariants.{Trading, LimitLow, LimitHigh}
 use Rattle.wire_in.specs.declared.record.Record.{Record}
 use Rattle.wire_in.specs.declared.record.Record.TheVariants as in_
 use Rattle.wire_out.specs.declared.message.Message.{Message}
 use Rattle.wire_out.specs.declared.message.Message.TheVariants as out
 use Rattle.wire_out.specs.declared.message.ShortKind.TheVariants.{Carried}
 use Rattle.pause_core.specs.declared.turning.Brakes.{Brakes}
+use Rattle.pause_core.specs.Phases.{is_limit, is_trading}
 use Rattle.window_core.specs.declared.window.Deal.{Deal}
 use Rattle.window_core.specs.Deals.{live, mean_of}
 use Rattle.rulebook.specs.declared.event.Event.{Event}
@@ -18,6 +20,7 @@ use Rattle.rulebook.specs.Book.{announced, context}
 use Rattle.rulebook.specs.History.{now, today}
 use Rattle.rulebook.specs.Market.{is_market_halted}
 use Rattle.rulebook.specs.Rules as rules
+use Rattle.rulebook.specs.Rules.{at_band}
 use Rattle.rulebook.specs.Symbol as of
 use Rattle.symbol_core.specs.declared.kept.Kept.{Kept}
 use Rattle.symbol_core.specs.declared.kept.Step.{Step}
@@ -70,6 +73,26 @@ turned-gives rule k step mine deals h s = by_kept (λ l step. option_map_or (bec
 pub reopen-gives : (k : Kept) (step : Step) (mine : List ℕ → Bool) (deals : List Deal) (h : List Event) → Stands mine k deals step h
     → rules.reopen (context step.day (named mine k.id) step.input h) ≡ reopening k step
 reopen-gives k step mine deals h s = by_kept reopening mine k step deals h s
+
+-- the end of a limit state, and its begin
+
+abbrev pub leaving : Kept → Step → List Message
+leaving k step = if is_limit k.phase && not (at_band k.phase k.quote k.band) then becoming k Trading else []
+
+abbrev pub entering : Kept → Step → List Message
+entering k step =
+    if not (is_trading k.phase) then []
+    else if at_band LimitLow k.quote k.band then becoming k LimitLow
+    else if at_band LimitHigh k.quote k.band then becoming k LimitHigh
+    else []
+
+pub leave-gives : (k : Kept) (step : Step) (mine : List ℕ → Bool) (deals : List Deal) (h : List Event) → Stands mine k deals step h
+    → rules.leave_limit (context step.day (named mine k.id) step.input h) ≡ leaving k step
+leave-gives k step mine deals h s = by_kept leaving mine k step deals h s
+
+pub enter-gives : (k : Kept) (step : Step) (mine : List ℕ → Bool) (deals : List Deal) (h : List Event) → Stands mine k deals step h
+    → rules.enter_limit (context step.day (named mine k.id) step.input h) ≡ entering k step
+enter-gives k step mine deals h s = by_kept entering mine k step deals h s
 
 pub banding-gives : (mean : Option ℕ) (k : Kept) (step : Step) (mine : List ℕ → Bool) (deals : List Deal) (h : List Event) → Stands mine k deals step h
     → of.mean step.day h k.id ≡ mean → rules.publish_band (context step.day (named mine k.id) step.input h) ≡ banding mean k step

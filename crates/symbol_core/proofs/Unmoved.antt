@@ -51,11 +51,10 @@ use Rattle.symbol_core.specs.Taken.{cancelled_by, finished, leaves, taken}
 use Rattle.symbol_core.specs.Window.{SameLive, window}
 use Rattle.symbol_core.proofs.Cancels.{leaves-all}
 use Rattle.symbol_core.proofs.Evaluated.{evaluated-away, starts, step_for}
-use Rattle.symbol_core.proofs.Gives.{banding-gives, by_kept, mean-gives, pause-gives, reopen-gives, restrict-gives, straddle-gives, turned-gives}
+use Rattle.symbol_core.proofs.Gives.{banding-gives, enter-gives, leave-gives, mean-gives, pause-gives, reopen-gives, restrict-gives, straddle-gives, turned-gives}
 use Rattle.symbol_core.proofs.Live.{same-live}
 use Rattle.symbol_core.proofs.Resting.{rests-apart, rests-same}
 use Rattle.symbol_core.proofs.Steps.{stands-opened}
-use Rattle.symbol_core.proofs.Twins.{entering, leaving}
 
 -- What a tick is not.
 
@@ -212,13 +211,13 @@ quiet_rules k deals step quiet mine h s = (
           (
             said rules.reopen (reopen-gives k step mine deals h s ∙ reopens_none k step quiet.reopens),
             (
-              said rules.leave_limit (by_kept leaving mine k step deals h s ∙ ap (λ (b : Bool). if b then becoming k Phase.Trading else []) settled.stays),
+              said rules.leave_limit (leave-gives k step mine deals h s ∙ ap (λ (b : Bool). if b then becoming k Phase.Trading else []) settled.stays),
               (
                 said rules.publish_band (banding-gives mean k step mine deals h s (mean-gives k step mine deals h s)
                     ∙ ap (λ (o : Option Priced). elim o [ Some r ↦ band k step r.cause r.price | None ↦ option_map_or (band_by_time k step) k.band [] ]) quiet.prices
                     ∙ bands_none k step quiet.bands),
                 (
-                  said rules.enter_limit (by_kept entering mine k step deals h s
+                  said rules.enter_limit (enter-gives k step mine deals h s
                       ∙ enters_none (is_trading k.phase) (at_band Phase.LimitLow k.quote k.band) (at_band Phase.LimitHigh k.quote k.band) (becoming k Phase.LimitLow) (becoming k Phase.LimitHigh) settled.low settled.high),
                   (
                     said rules.straddle (straddle-gives k step mine deals h s

@@ -1,5 +1,6 @@
 // The short sale restriction (17 CFR 242.201).
-ghost use Rattle.std.specs.Prelude.{◌≡◌, ◌+◌, ◌≤◌, List, vec_len, vec_capacity};
+ghost use Rattle.std.specs.Prelude.{◌≡◌, ◌+◌, ◌≤◌, List, false, vec_len, vec_capacity};
+ghost use Rattle.pause_core.specs.Phases.{is_done};
 ghost use Rattle.rulebook.specs.Rules as rules;
 ghost use Rattle.rulebook.specs.Symbol.{prior_close_of};
 ghost use Rattle.symbol_core.specs.Kept.{restricting, triggering};
@@ -7,7 +8,6 @@ ghost use Rattle.symbol_core.specs.Stands.{Obeys, Says};
 
 use crate::kept::{Kept, Step};
 use crate::records::traded_price;
-use pause_core::is_done;
 use short_core::triggers;
 use wire_out::Message;
 
@@ -35,14 +35,12 @@ impl Kept {
 
     /// The restriction begins with the first trade of the day that triggers it.
     pub fn restrict(&mut self, step: &Step, out: &mut Vec<Message>)
-        requires { vec_len out.old + 1 ≤ vec_capacity out.old }
+        requires goes_on { is_done self.old.phase ≡ false }
+        requires room { vec_len out.old + 1 ≤ vec_capacity out.old }
         ensures obeys { Obeys rules.restrict step.now self.old self.new out.old.items out.new.items }
         ensures room { vec_capacity out.old ≤ vec_capacity out.new }
         ensures len { vec_len out.new ≤ vec_len out.old + 1 }
     {
-        if is_done(self.phase) {
-            return;
-        }
         self.restricting(step, out);
     }
 }

@@ -1,7 +1,8 @@
 // The rules that turn a phase: the close, a market-wide halt, the start, a regulatory halt, and limit and straddle states.
-ghost use Rattle.std.specs.Prelude.{◌≡◌, ◌+◌, ◌≤◌, ◌&&◌, List, option_to_list, vec_len, vec_capacity};
+ghost use Rattle.std.specs.Prelude.{◌≡◌, ◌+◌, ◌≤◌, ◌&&◌, false, List, option_to_list, vec_len, vec_capacity};
 ghost use Rattle.session_core.specs.Times.{is_closed};
 ghost use Rattle.limit_core.specs.Limits.{straddles};
+ghost use Rattle.pause_core.specs.Phases.{is_done};
 ghost use Rattle.window_core.specs.declared.window.Deal.{Deal};
 ghost use Rattle.rulebook.specs.Rules as rules;
 ghost use Rattle.rulebook.specs.Rules.{at_band, meets};
@@ -10,7 +11,7 @@ ghost use Rattle.symbol_core.specs.Stands.{Obeys, ObeysAll, Says, turning_rules}
 
 use crate::kept::{Kept, Step};
 use limit_core::{is_at_lower, is_at_upper, straddles};
-use pause_core::{Brakes, is_done, is_limit, is_trading, turn};
+use pause_core::{Brakes, is_limit, is_trading, turn};
 use price_core::Quotation;
 use rulebook::Banded;
 use session_core::{Day, Moment, Phase, close_moment, in_session};
@@ -86,14 +87,12 @@ fn straddles_bands(quote: &Option<Quotation>, band: &Option<Banded>) -> bool
 impl Kept {
     /// A limit state is left when the quotation leaves the band (LULD Plan, Section VI).
     pub fn leave_limit(&mut self, step: &Step, out: &mut Vec<Message>)
-        requires { vec_len out.old + 1 ≤ vec_capacity out.old }
+        requires goes_on { is_done self.old.phase ≡ false }
+        requires room { vec_len out.old + 1 ≤ vec_capacity out.old }
         ensures obeys { Obeys rules.leave_limit step.now self.old self.new out.old.items out.new.items }
         ensures room { vec_capacity out.old ≤ vec_capacity out.new }
         ensures len { vec_len out.new ≤ vec_len out.old + 1 }
     {
-        if is_done(self.phase) {
-            return;
-        }
         if is_limit(self.phase) && !at_band(self.phase, &self.quote, &self.band) {
             self.becomes(step, Phase::Trading, out);
         }
@@ -101,14 +100,12 @@ impl Kept {
 
     /// A limit state begins where the quotation is at a band (LULD Plan, Section VI).
     pub fn enter_limit(&mut self, step: &Step, out: &mut Vec<Message>)
-        requires { vec_len out.old + 1 ≤ vec_capacity out.old }
+        requires goes_on { is_done self.old.phase ≡ false }
+        requires room { vec_len out.old + 1 ≤ vec_capacity out.old }
         ensures obeys { Obeys rules.enter_limit step.now self.old self.new out.old.items out.new.items }
         ensures room { vec_capacity out.old ≤ vec_capacity out.new }
         ensures len { vec_len out.new ≤ vec_len out.old + 1 }
     {
-        if is_done(self.phase) {
-            return;
-        }
         if !is_trading(self.phase) {
             return;
         }
@@ -148,14 +145,12 @@ impl Kept {
 
     /// A straddle state begins or ends (LULD Plan, Section VII).
     pub fn straddle(&mut self, step: &Step, out: &mut Vec<Message>)
-        requires { vec_len out.old + 1 ≤ vec_capacity out.old }
+        requires goes_on { is_done self.old.phase ≡ false }
+        requires room { vec_len out.old + 1 ≤ vec_capacity out.old }
         ensures obeys { Obeys rules.straddle step.now self.old self.new out.old.items out.new.items }
         ensures room { vec_capacity out.old ≤ vec_capacity out.new }
         ensures len { vec_len out.new ≤ vec_len out.old + 1 }
     {
-        if is_done(self.phase) {
-            return;
-        }
         self.straddling(step, out);
     }
 }
