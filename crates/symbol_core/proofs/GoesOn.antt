@@ -9,7 +9,6 @@ use Rattle.price_core.specs.declared.quote.Cause.{Cause}
 use Rattle.limit_core.specs.Timers.{has_lasted}
 use Rattle.wire_out.specs.declared.message.Message.{Message}
 use Rattle.wire_out.specs.declared.message.Message.TheVariants as out
-use Rattle.wire_out.specs.declared.message.ShortKind.TheVariants.{Triggered}
 use Rattle.pause_core.specs.Pauses.{is_asked, is_limited}
 use Rattle.pause_core.specs.Phases.{is_done, is_limit, is_trading}
 use Rattle.refprice_core.specs.declared.reference.Priced.{Priced}
@@ -23,7 +22,7 @@ use Rattle.rulebook.specs.Rules.{asks_to_pause, at_band}
 use Rattle.rulebook.specs.Symbol.{bands_of}
 use Rattle.symbol_core.specs.declared.kept.Kept.{Kept}
 use Rattle.symbol_core.specs.declared.kept.Step.{Step}
-use Rattle.symbol_core.specs.Kept.{first_rounds, is_straddling_now, pausing, pausing_as, reopened, reopening, reopening_after, reopening_with, restricting, straddling, trial_now, triggering}
+use Rattle.symbol_core.specs.Kept.{first_rounds, is_straddling_now, pausing, pausing_as, reopened, reopening, reopening_after, reopening_with, straddling, trial_now}
 use Rattle.symbol_core.specs.Pricing.{band, band_by_time, banding, reference, time_changes}
 use Rattle.symbol_core.specs.Stands.{phase_after}
 use Rattle.symbol_core.proofs.Gives.{entering, leaving}
@@ -35,14 +34,14 @@ GoesOn p ms = is_done p ≡ false → is_done (phase_after p ms) ≡ false
 pub pausing-goes_on : (k : Kept) (step : Step) → GoesOn k.phase (pausing k step)
 pausing-goes_on k step e =
     by (is_limited (has_lasted k.since step.moment) k.phase || is_asked (asks_to_pause k.id step.input) k.straddling k.phase) (in_last_10_minutes step.moment step.day) where
-  round : (o : Option Banded) → is_done (phase_after phase.Paused (first_rounds k.id k.phase o)) ≡ false
-  round None = refl
-  round (Some b) = refl
+      round : (o : Option Banded) → is_done (phase_after phase.Paused (first_rounds k.id k.phase o)) ≡ false
+      round None = refl
+      round (Some b) = refl
 
-  by : (pauses last : Bool) → is_done (phase_after k.phase (option_map_or (pausing_as k) (if pauses then (if last then Some phase.Closing else Some phase.Paused) else None) [])) ≡ false
-  by false last = e
-  by true true = refl
-  by true false = round k.band
+      by : (pauses last : Bool) → is_done (phase_after k.phase (option_map_or (pausing_as k) (if pauses then (if last then Some phase.Closing else Some phase.Paused) else None) [])) ≡ false
+      by false last = e
+      by true true = refl
+      by true false = round k.band
 
 pub reopening-goes_on : (k : Kept) (step : Step) → GoesOn k.phase (reopening k step)
 reopening-goes_on k step e = by (is_paused k.phase) k.round where
@@ -100,9 +99,3 @@ straddling-goes_on k step e = by (is_straddling_now k && not k.straddling) (k.st
   by true ends = e
   by false true = e
   by false false = e
-
-pub restricting-goes_on : (k : Kept) (step : Step) → GoesOn k.phase (restricting k step)
-restricting-goes_on k step e = by (triggering k step && not k.triggered) where
-  by : (triggers : Bool) → is_done (phase_after k.phase (if triggers then out.Short k.id Triggered ∷ [] else [])) ≡ false
-  by true = e
-  by false = e
