@@ -46,11 +46,13 @@ stands-apart mine k deals step m h q s =
       round = s.round ∙ sym (ap (λ (o : Option (Found (ℕ × Collars))). option_map auction.round_of o) (last-other (auction.collar_of k.id) m (today h) q.collar));
       origin = s.origin ∙ ap (λ (b : Bool). if b then auction.origin_of (phase_in k.id (today h)) else auction.origin_in k.id (today h)) (sym none_pauses);
       indication = s.indication ∙ ap (λ (b : Bool). if b then option_and_then (auction.indicated_by k.id) (newest (today h)) else auction.indication_in k.id (today h)) (sym none_pauses);
+      prior_close = s.prior_close;
       triggered = s.triggered;
       carried = s.carried;
       left_limit = s.left_limit ∙ ap (λ (o : Option Phase). (option_map_or is_trading o false && is_limit (of.phase h k.id)) || rules.has_left_limit h k.id) (sym q.state);
       released = s.released ∙ sym (ap (λ (o : Option (Found ℕ)). option_map (λ release. release.value) o) (last-other (rules.release_of k.id) m (open_step h) q.release));
       deal = s.deal;
+      restricts = s.restricts;
       window = rw run.deals s.window;
     }
   where

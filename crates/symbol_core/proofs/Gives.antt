@@ -1,28 +1,32 @@
 -- What a rule gives at a history for which the symbol stands, by the kept state.
 use Rattle.std.proofs.Common.{◌≡◌, ℕ, Bool, List, [], ◌∷◌, refl, sym, ap, ◌∙◌}
-use Rattle.std.specs.Prelude.{Option, if◌then◌else◌}
+use Rattle.std.specs.Prelude.{Option, if◌then◌else◌, ◌&&◌, not}
+use Rattle.std.specs.Option.{option_map_or}
 use Rattle.std.proofs.Math.Nat.{le_refl}
 use Rattle.session_core.specs.declared.state.Phase.{Phase}
+use Rattle.session_core.specs.declared.state.Phase.TheVariants.{Trading, LimitLow, LimitHigh}
 use Rattle.wire_in.specs.declared.record.Record.{Record}
 use Rattle.wire_in.specs.declared.record.Record.TheVariants as in_
 use Rattle.wire_out.specs.declared.message.Message.{Message}
 use Rattle.wire_out.specs.declared.message.Message.TheVariants as out
-use Rattle.wire_out.specs.declared.message.ShortKind.TheVariants.{Carried}
+use Rattle.wire_out.specs.declared.message.ShortKind.TheVariants.{Carried, Triggered}
 use Rattle.pause_core.specs.declared.turning.Brakes.{Brakes}
+use Rattle.pause_core.specs.Phases.{is_limit, is_trading}
 use Rattle.window_core.specs.declared.window.Deal.{Deal}
 use Rattle.window_core.specs.Deals.{live, mean_of}
 use Rattle.rulebook.specs.declared.event.Event.{Event}
 use Rattle.rulebook.specs.Auction as auction
 use Rattle.rulebook.specs.Book.{announced, context}
-use Rattle.rulebook.specs.History.{now, today}
+use Rattle.rulebook.specs.History.{now, records, today}
 use Rattle.rulebook.specs.Market.{is_market_halted}
 use Rattle.rulebook.specs.Rules as rules
+use Rattle.rulebook.specs.Rules.{at_band}
 use Rattle.rulebook.specs.Symbol as of
 use Rattle.symbol_core.specs.declared.kept.Kept.{Kept}
 use Rattle.symbol_core.specs.declared.kept.Step.{Step}
-use Rattle.symbol_core.specs.Kept.{announcing, pausing, reopening, restricting, straddling, turning}
+use Rattle.symbol_core.specs.Kept.{announcing, becoming, brakes, pausing, reopening, straddling}
 use Rattle.symbol_core.specs.Pricing.{banding}
-use Rattle.symbol_core.specs.Stands.{named, Stands}
+use Rattle.symbol_core.specs.Stands.{named, Stands, triggers_first}
 use Rattle.symbol_core.specs.Window.{window}
 
 -- the kept state that a history tells
@@ -43,16 +47,37 @@ told mine k step h =
       round = auction.last_round h s;
       origin = auction.origin h s;
       indication = auction.indication h s;
-      triggered = rules.has_triggered (context step.day (named mine s) step.input h);
-      carried = rules.is_carried h mine s;
+      short = record {
+        prior_close = of.prior_close h mine;
+        triggered = rules.triggered_in mine step.day s (records h);
+        carried = rules.is_carried h mine s;
+      };
       left_limit = rules.has_left_limit h s;
       released = rules.released h s;
       deal = k.deal;
       is_fresh = k.is_fresh;
+      restricts = triggers_first (context step.day (named mine s) step.input h);
     }
 
 pub stands-told : (mine : List ℕ → Bool) (k : Kept) (step : Step) (deals : List Deal) (h : List Event) → Stands mine k deals step h → k ≡ told mine k step h
-stands-told mine k step deals h s = rw (← s.terms, ← s.phase, ← s.since, ← s.begun, ← s.quote, ← s.band, ← s.adopted, ← s.straddling, ← s.halted, ← s.round, ← s.origin, ← s.indication, ← s.triggered, ← s.carried, ← s.left_limit, ← s.released)
+stands-told mine k step deals h s = λ i. record k {
+  terms = s.terms i;
+  phase = s.phase i;
+  since = s.since i;
+  begun = s.begun i;
+  quote = s.quote i;
+  band = s.band i;
+  adopted = s.adopted i;
+  straddling = s.straddling i;
+  halted = s.halted i;
+  round = s.round i;
+  origin = s.origin i;
+  indication = s.indication i;
+  short = record { prior_close = s.prior_close i; triggered = s.triggered i; carried = s.carried i };
+  left_limit = s.left_limit i;
+  released = s.released i;
+  restricts = s.restricts i;
+}
 
 -- a rule that reads the kept state, the moment and the market's halt
 pub by_kept : (rule : Kept → Step → List Message) (mine : List ℕ → Bool) (k : Kept) (step : Step) (deals : List Deal) (h : List Event) → Stands mine k deals step h
@@ -63,12 +88,32 @@ by_kept rule mine k step deals h s =
     ∙ ap (λ (l : Kept). rule l step) (sym (stands-told mine k step deals h s))
 
 pub turned-gives : (rule : Phase → Brakes → Option Phase) (k : Kept) (step : Step) (mine : List ℕ → Bool) (deals : List Deal) (h : List Event) → Stands mine k deals step h
-    → rules.turned rule (context step.day (named mine k.id) step.input h) ≡ turning rule k step
-turned-gives rule k step mine deals h s = by_kept (turning rule) mine k step deals h s
+    → rules.turned rule (context step.day (named mine k.id) step.input h) ≡ option_map_or (becoming k) (rule k.phase (brakes k step)) []
+turned-gives rule k step mine deals h s = by_kept (λ l step. option_map_or (becoming l) (rule l.phase (brakes l step)) []) mine k step deals h s
 
 pub reopen-gives : (k : Kept) (step : Step) (mine : List ℕ → Bool) (deals : List Deal) (h : List Event) → Stands mine k deals step h
     → rules.reopen (context step.day (named mine k.id) step.input h) ≡ reopening k step
 reopen-gives k step mine deals h s = by_kept reopening mine k step deals h s
+
+-- the end of a limit state, and its begin
+
+abbrev pub leaving : Kept → Step → List Message
+leaving k step = if is_limit k.phase && not (at_band k.phase k.quote k.band) then becoming k Trading else []
+
+abbrev pub entering : Kept → Step → List Message
+entering k step =
+    if not (is_trading k.phase) then []
+    else if at_band LimitLow k.quote k.band then becoming k LimitLow
+    else if at_band LimitHigh k.quote k.band then becoming k LimitHigh
+    else []
+
+pub leave-gives : (k : Kept) (step : Step) (mine : List ℕ → Bool) (deals : List Deal) (h : List Event) → Stands mine k deals step h
+    → rules.leave_limit (context step.day (named mine k.id) step.input h) ≡ leaving k step
+leave-gives k step mine deals h s = by_kept leaving mine k step deals h s
+
+pub enter-gives : (k : Kept) (step : Step) (mine : List ℕ → Bool) (deals : List Deal) (h : List Event) → Stands mine k deals step h
+    → rules.enter_limit (context step.day (named mine k.id) step.input h) ≡ entering k step
+enter-gives k step mine deals h s = by_kept entering mine k step deals h s
 
 pub banding-gives : (mean : Option ℕ) (k : Kept) (step : Step) (mine : List ℕ → Bool) (deals : List Deal) (h : List Event) → Stands mine k deals step h
     → of.mean step.day h k.id ≡ mean → rules.publish_band (context step.day (named mine k.id) step.input h) ≡ banding mean k step
@@ -87,8 +132,8 @@ pub straddle-gives : (k : Kept) (step : Step) (mine : List ℕ → Bool) (deals 
 straddle-gives k step mine deals h s = by_kept straddling mine k step deals h s
 
 pub restrict-gives : (k : Kept) (step : Step) (mine : List ℕ → Bool) (deals : List Deal) (h : List Event) → Stands mine k deals step h
-    → rules.restrict (context step.day (named mine k.id) step.input h) ≡ restricting k step
-restrict-gives k step mine deals h s = by_kept restricting mine k step deals h s
+    → rules.restrict (context step.day (named mine k.id) step.input h) ≡ (if k.restricts then out.Short k.id Triggered ∷ [] else [])
+restrict-gives k step mine deals h s = by_kept (λ l step. if l.restricts then out.Short l.id Triggered ∷ [] else []) mine k step deals h s
 
 pub pause-gives : (k : Kept) (step : Step) (mine : List ℕ → Bool) (deals : List Deal) (h : List Event) → Stands mine k deals step h
     → rules.pause (context step.day (named mine k.id) step.input h) ≡ pausing k step

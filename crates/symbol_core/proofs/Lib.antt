@@ -4,6 +4,8 @@ pub mod Phases
 pub mod Messages
 pub mod Chains
 pub mod Gives
+pub mod Turning
+pub mod GoesOn
 pub mod Apart
 pub mod Live
 pub mod Cancels

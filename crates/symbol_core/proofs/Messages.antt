@@ -66,11 +66,13 @@ stands-straddled mine k deals step on h s =
       round = s.round;
       origin = s.origin;
       indication = s.indication;
+      prior_close = s.prior_close;
       triggered = s.triggered;
       carried = s.carried;
       left_limit = s.left_limit;
       released = s.released;
       deal = s.deal;
+      restricts = s.restricts;
       window = rw run.deals s.window;
     }
   where
@@ -105,11 +107,13 @@ stands-with_round mine k deals step r h at s =
       round = ap (λ (t : ℕ). Some (record r { moment = t })) (at ∙ s.moment ∙ sym (now-today h)) ∙ sym (ap (λ (o : Option (Found (ℕ × Collars))). option_map auction.round_of o) last_is);
       origin = s.origin;
       indication = s.indication;
+      prior_close = s.prior_close;
       triggered = s.triggered;
       carried = s.carried;
       left_limit = s.left_limit;
       released = s.released;
       deal = s.deal;
+      restricts = s.restricts;
       window = rw run.deals s.window;
     }
   where
@@ -143,11 +147,13 @@ stands-released mine k deals step price h s =
       round = s.round;
       origin = s.origin;
       indication = s.indication;
+      prior_close = s.prior_close;
       triggered = s.triggered;
       carried = s.carried;
       left_limit = s.left_limit;
       released = sym (ap (λ (o : Option (Found ℕ)). option_map (λ release. release.value) o) last_is);
       deal = s.deal;
+      restricts = s.restricts;
       window = rw run.deals s.window;
     }
   where
@@ -181,11 +187,13 @@ stands-short mine k deals step kind h s =
       round = s.round;
       origin = s.origin;
       indication = s.indication;
+      prior_close = s.prior_close;
       triggered = s.triggered;
       carried = s.carried;
       left_limit = s.left_limit;
       released = s.released;
       deal = s.deal;
+      restricts = s.restricts;
       window = rw run.deals s.window;
     }
   where
@@ -213,11 +221,13 @@ stands-banded mine k deals step b h s =
       round = s.round;
       origin = s.origin;
       indication = s.indication;
+      prior_close = s.prior_close;
       triggered = s.triggered;
       carried = s.carried;
       left_limit = s.left_limit;
       released = s.released;
       deal = s.deal;
+      restricts = s.restricts;
       window = rw (deals_is) (subst (λ (own : List Deal). SameLive (now h) ((if (is_some k.begun && restarts k step) || k.is_fresh then [] else deals) ++ own) (if is_some k.begun && restarts k step then deals_in step.day k.id [] (Accepted step.input ∷ []) else deals_of step.day h k.id)) (own_is k.begun (restarts k step)) (window_begins (now h) (is_some k.begun && restarts k step) k.is_fresh deals (option_to_list k.deal) (counted_deal k) (deals_in step.day k.id [] (Accepted step.input ∷ [])) (deals_of step.day h k.id) s.deal s.window));
     }
   where

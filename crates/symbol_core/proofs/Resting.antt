@@ -20,6 +20,7 @@ use Rattle.wire_in.proofs.RecordKinds.{by_listing}
 use Rattle.rulebook.specs.declared.event.Event.{Event}
 use Rattle.rulebook.specs.declared.event.Event.TheVariants.{Accepted, Published}
 use Rattle.rulebook.specs.declared.symbol.Banded.{Banded}
+use Rattle.rulebook.specs.declared.symbol.Terms.{Terms}
 use Rattle.rulebook.specs.Auction as auction
 use Rattle.rulebook.specs.History.{Found, last, newest, now, publish, records, step_record, today}
 use Rattle.rulebook.specs.Market.{day_record}
@@ -55,6 +56,7 @@ rests-message mine held m h q r =
       round = r.round ∙ sym (ap (λ (o : Option (Found (ℕ × Collars))). option_map auction.round_of o) (last-other (auction.collar_of s) m (today h) q.collar));
       origin = r.origin ∙ ap (λ (b : Bool). if b then auction.origin_of (phase_in s (today h)) else auction.origin_in s (today h)) (sym none_pauses);
       indication = r.indication ∙ ap (λ (b : Bool). if b then option_and_then (auction.indicated_by s) (newest (today h)) else auction.indication_in s (today h)) (sym none_pauses);
+      prior_close = r.prior_close;
       triggered = r.triggered;
       carried = r.carried;
       deals = subst (λ (ds : List Deal). SameLive (now h) held.deals ds) (sym (deals_stay (day_record (records h)))) r.deals;
@@ -103,6 +105,7 @@ rests-same mine k deals other h same r =
       round = r.round;
       origin = r.origin;
       indication = r.indication;
+      prior_close = r.prior_close;
       triggered = r.triggered;
       carried = r.carried;
       deals = same_then (now h) other deals (deals_today k.id h) same r.deals;
@@ -125,6 +128,7 @@ rests-record mine held x h not_day o same r =
       round = along (λ t. held.kept.round ≡ option_map auction.round_of (last (auction.collar_of s) t)) r.round;
       origin = along (λ t. held.kept.origin ≡ auction.origin_in s t) r.origin;
       indication = along (λ t. held.kept.indication ≡ auction.indication_in s t) (r.indication ∙ sym (ap (λ (i : Option Indication). elim i [ Some i ↦ Some i | None ↦ auction.indication_in s (today h) ]) (indicated-others s x o.symbol)));
+      prior_close = r.prior_close ∙ ap (λ (o : Option Terms). of.prior_close_of o) (sym (terms-others mine x (records h) not_day o.name));
       triggered =
           r.triggered
           ∙ sym (triggered_stays (day_record (records h)))
@@ -166,7 +170,7 @@ rests-apart mine held x others h not_day o q later r =
 
 -- A new day: nothing is kept but whether the day before triggered.
 pub rests-day : (mine : List ℕ → Bool) (held : Held) (t : ℕ) (day : Day) (index : ℕ) (h : List Event) → Rests mine held h
-    → Rests mine (record { kept = renewed held.kept.id held.kept.triggered; deals = [] }) (Accepted (in_.Day t day index) ∷ h)
+    → Rests mine (record { kept = renewed held.kept.id held.kept.short.triggered; deals = [] }) (Accepted (in_.Day t day index) ∷ h)
 rests-day mine held t day index h r =
     record {
       terms = refl;
@@ -181,6 +185,7 @@ rests-day mine held t day index h r =
       round = refl;
       origin = refl;
       indication = refl;
+      prior_close = refl;
       triggered = refl;
       carried = r.triggered;
       deals = record { at = λ u le. refl };
@@ -188,9 +193,9 @@ rests-day mine held t day index h r =
 
 -- the same of a record that is a day
 pub rests-renewed : (mine : List ℕ → Bool) (held : Held) (x : Record) (h : List Event) → is_day x ≡ true → Rests mine held h
-    → Rests mine (record { kept = renewed held.kept.id held.kept.triggered; deals = [] }) (Accepted x ∷ h)
+    → Rests mine (record { kept = renewed held.kept.id held.kept.short.triggered; deals = [] }) (Accepted x ∷ h)
 rests-renewed mine held x h e r =
-    by_listing (λ y. is_day y ≡ true → Rests mine (record { kept = renewed held.kept.id held.kept.triggered; deals = [] }) (Accepted y ∷ h))
+    by_listing (λ y. is_day y ≡ true → Rests mine (record { kept = renewed held.kept.id held.kept.short.triggered; deals = [] }) (Accepted y ∷ h))
     (λ t d c e. rests-day mine held t d c h r) (λ t n k l c e. cc) (λ y o e. let both : true ≡ false = sym e ∙ o.no_day in cc) x e
 
 -- Before its first listing a symbol has said nothing.
@@ -210,6 +215,7 @@ rests-empty mine s =
       round = refl;
       origin = refl;
       indication = refl;
+      prior_close = refl;
       triggered = refl;
       carried = refl;
       deals = record { at = λ u le. refl };

@@ -2,12 +2,11 @@
 -- both again. So what a symbol says depends on nothing that its kept state doesn't tell.
 use Rattle.std.proofs.Common.{◌≡◌, ℕ, Bool, true, false, cond, List, [], ◌∷◌, ◌++◌, refl, sym, ap, ◌∙◌, subst}
 use Rattle.std.specs.Prelude.{Option, Some, if◌then◌else◌, ◌&&◌, not, filter}
-use Rattle.session_core.specs.declared.state.Phase.TheVariants.{Trading, LimitLow, LimitHigh}
 use Rattle.wire_in.specs.declared.record.Record.{Record}
 use Rattle.wire_in.specs.Records.{is_day}
 use Rattle.wire_out.specs.declared.message.Message.{Message}
 use Rattle.wire_out.specs.declared.message.Message.TheVariants as out
-use Rattle.pause_core.specs.Phases.{is_done, is_limit, is_trading}
+use Rattle.pause_core.specs.Phases.{is_done}
 use Rattle.pause_core.specs.Turns as turns
 use Rattle.window_core.specs.declared.window.Deal.{Deal}
 use Rattle.window_core.specs.Deals.{live, mean_of}
@@ -17,14 +16,14 @@ use Rattle.rulebook.specs.declared.event.Event.{Event}
 use Rattle.rulebook.specs.declared.event.Event.TheVariants.{Accepted, Published}
 use Rattle.rulebook.specs.Book.{all_obeyed, announced, context, obeyed, symbol_rules}
 use Rattle.rulebook.specs.History.{publish}
-use Rattle.rulebook.specs.Rules.{Context, at_band}
+use Rattle.rulebook.specs.Rules.{Context}
 use Rattle.rulebook.proofs.Histories.{publish-append}
 use Rattle.rulebook.proofs.OfSymbol.{AllBy, AllSpeak, all_obeyed-by, own_part-by, rules_speak, speaker}
 use Rattle.symbol_core.specs.declared.kept.Kept.{Kept}
 use Rattle.symbol_core.specs.declared.kept.Step.{Step}
 use Rattle.symbol_core.specs.declared.symbol.MarketView.{MarketView}
 use Rattle.symbol_core.specs.Evaluates.{Opens, open_history, part_of, step_of}
-use Rattle.symbol_core.specs.Kept.{banded, becoming, released, straddled, turned, with_round}
+use Rattle.symbol_core.specs.Kept.{banded, released, straddled, turned, with_round}
 use Rattle.symbol_core.specs.Rests.{Held, Rests}
 use Rattle.symbol_core.specs.Stands.{named, Stands}
 use Rattle.symbol_core.specs.Steps.{Starts}
@@ -33,7 +32,7 @@ use Rattle.symbol_core.specs.Window.{window}
 use Rattle.symbol_core.proofs.Apart.{stands-listed}
 use Rattle.symbol_core.proofs.Evaluated.{away, away-open, evaluated-away, starts, step_for}
 use Rattle.symbol_core.proofs.Finished.{rests-finished}
-use Rattle.symbol_core.proofs.Gives.{announced-gives, banding-gives, by_kept, mean-gives, pause-gives, reopen-gives, restrict-gives, straddle-gives, turned-gives}
+use Rattle.symbol_core.proofs.Gives.{announced-gives, banding-gives, enter-gives, leave-gives, mean-gives, pause-gives, reopen-gives, restrict-gives, straddle-gives, turned-gives}
 use Rattle.symbol_core.proofs.Messages.{stands-banded, stands-released, stands-short, stands-straddled, stands-with_round}
 use Rattle.symbol_core.proofs.Phases.{stands-turned}
 use Rattle.symbol_core.proofs.Resting.{rests-renewed}
@@ -128,16 +127,6 @@ abbrev AllAgree : List (Context → List Message) → Type 0
 AllAgree [] = Unit {0}
 AllAgree (rule ∷ later) = Agrees rule × AllAgree later
 
-abbrev pub leaving : Kept → Step → List Message
-leaving k step = if is_limit k.phase && not (at_band k.phase k.quote k.band) then becoming k Trading else []
-
-abbrev pub entering : Kept → Step → List Message
-entering k step =
-    if not (is_trading k.phase) then []
-    else if at_band LimitLow k.quote k.band then becoming k LimitLow
-    else if at_band LimitHigh k.quote k.band then becoming k LimitHigh
-    else []
-
 all_agree : AllAgree symbol_rules
 all_agree = (
   λ mine other k step deals h g s t. turned-gives turns.session_close k step mine deals h s ∙ sym (turned-gives turns.session_close k step other deals g t),
@@ -152,13 +141,13 @@ all_agree = (
           (
             λ mine other k step deals h g s t. reopen-gives k step mine deals h s ∙ sym (reopen-gives k step other deals g t),
             (
-              λ mine other k step deals h g s t. by_kept leaving mine k step deals h s ∙ sym (by_kept leaving other k step deals g t),
+              λ mine other k step deals h g s t. leave-gives k step mine deals h s ∙ sym (leave-gives k step other deals g t),
               (
                 λ mine other k step deals h g s t.
                     banding-gives (mean_of (live step.moment (window k deals))) k step mine deals h s (mean-gives k step mine deals h s)
                     ∙ sym (banding-gives (mean_of (live step.moment (window k deals))) k step other deals g t (mean-gives k step other deals g t)),
                 (
-                  λ mine other k step deals h g s t. by_kept entering mine k step deals h s ∙ sym (by_kept entering other k step deals g t),
+                  λ mine other k step deals h g s t. enter-gives k step mine deals h s ∙ sym (enter-gives k step other deals g t),
                   (
                     λ mine other k step deals h g s t. straddle-gives k step mine deals h s ∙ sym (straddle-gives k step other deals g t),
                     (
@@ -248,10 +237,10 @@ step_twins mine other step k kept others more h g p q =
     record {
       same = both.same;
       twins = record {
-        held = record { kept = finished both.new step; deals = window both.new dropped };
+        held = record { kept = finished both.new; deals = window both.new dropped };
         id = both.id;
-        one = rests-finished mine both.new dropped (window both.new dropped) step p.index (publish ms (open_history step.input others h)) p.no_day (day_opened mine step k kept others h p ms) (record { at = λ u le. refl }) both.one;
-        two = rests-finished other both.new dropped (window both.new dropped) step q.index (publish ns (open_history step.input more g)) q.no_day (day_opened other step k kept more g q ns) (record { at = λ u le. refl }) both.two;
+        one = rests-finished mine both.new dropped (window both.new dropped) step p.index (publish ms (open_history step.input others h)) (day_opened mine step k kept others h p ms) (record { at = λ u le. refl }) both.one;
+        two = rests-finished other both.new dropped (window both.new dropped) step q.index (publish ns (open_history step.input more g)) (day_opened other step k kept more g q ns) (record { at = λ u le. refl }) both.two;
       };
     }
 
@@ -293,7 +282,7 @@ twins-step mine other market x s held others more h g is p q =
 pub twins-day : (mine other : List ℕ → Bool) (s : ℕ) (x : Record) (h g : List Event) → is_day x ≡ true → Twins mine other s h g → Twins mine other s (Accepted x ∷ h) (Accepted x ∷ g)
 twins-day mine other s x h g e t =
     record {
-      held = record { kept = renewed t.held.kept.id t.held.kept.triggered; deals = [] };
+      held = record { kept = renewed t.held.kept.id t.held.kept.short.triggered; deals = [] };
       id = t.id;
       one = rests-renewed mine t.held x h e t.one;
       two = rests-renewed other t.held x g e t.two;

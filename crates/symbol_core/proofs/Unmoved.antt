@@ -34,7 +34,7 @@ use Rattle.rulebook.proofs.Histories.{now-publish}
 use Rattle.rulebook.specs.Book.{Named, all_obeyed, announced, context, obeyed, symbol_rules}
 use Rattle.rulebook.specs.History.{publish}
 use Rattle.rulebook.specs.Rules as rules
-use Rattle.rulebook.specs.Rules.{Context, asks_to_pause, at_band, triggers}
+use Rattle.rulebook.specs.Rules.{Context, asks_to_pause, at_band}
 use Rattle.rulebook.specs.Symbol.{phase, terms}
 use Rattle.symbol_core.specs.declared.due.Due.{Due}
 use Rattle.symbol_core.specs.declared.kept.Kept.{Kept}
@@ -51,11 +51,10 @@ use Rattle.symbol_core.specs.Taken.{cancelled_by, finished, leaves, taken}
 use Rattle.symbol_core.specs.Window.{SameLive, window}
 use Rattle.symbol_core.proofs.Cancels.{leaves-all}
 use Rattle.symbol_core.proofs.Evaluated.{evaluated-away, starts, step_for}
-use Rattle.symbol_core.proofs.Gives.{banding-gives, by_kept, mean-gives, pause-gives, reopen-gives, restrict-gives, straddle-gives, turned-gives}
+use Rattle.symbol_core.proofs.Gives.{banding-gives, enter-gives, leave-gives, mean-gives, pause-gives, reopen-gives, restrict-gives, straddle-gives, turned-gives}
 use Rattle.symbol_core.proofs.Live.{same-live}
 use Rattle.symbol_core.proofs.Resting.{rests-apart, rests-same}
 use Rattle.symbol_core.proofs.Steps.{stands-opened}
-use Rattle.symbol_core.proofs.Twins.{entering, leaving}
 
 -- What a tick is not.
 
@@ -64,7 +63,6 @@ record OfNone (s : ℕ) (x : Record) : Type 0 where
   pub others : (mine : List ℕ → Bool) → IsOfOthers mine s x
   pub announces : (n : Named) (h : List Event) → announced n x h ≡ []
   pub asks : asks_to_pause s x ≡ false
-  pub triggers : (day : Day) (listed : Option Terms) → triggers day s x listed ≡ false
   pub cancels : cancelled_by s x ≡ None
   pub takes : (k : Kept) (step : Step) → k.id ≡ s → step.input ≡ x → IsRested k → taken k step ≡ k
 
@@ -79,19 +77,17 @@ tick_of_none s x e =
       others = λ mine. record { symbol = refl; name = refl };
       announces = λ n h. refl;
       asks = refl;
-      triggers = λ day listed. refl;
       cancels = refl;
       takes = λ k step is input r. (λ i. taken k (record step { input = input i }))
-          ∙ (λ i. record k { quote = quote_stays (is_some k.begun) k.quote i; left_limit = sym r.left_limit i; released = sym r.released i; deal = sym r.deal i; is_fresh = sym r.is_fresh i });
+          ∙ (λ i. record k { quote = quote_stays (is_some k.begun) k.quote i; left_limit = sym r.left_limit i; released = sym r.released i; deal = sym r.deal i; is_fresh = sym r.is_fresh i; restricts = sym r.restricts i });
     })
     (λ t v. record {
       others = λ mine. record { symbol = refl; name = refl };
       announces = λ n h. refl;
       asks = refl;
-      triggers = λ day listed. refl;
       cancels = refl;
       takes = λ k step is input r. (λ i. taken k (record step { input = input i }))
-          ∙ (λ i. record k { quote = quote_stays (is_some k.begun) k.quote i; left_limit = sym r.left_limit i; released = sym r.released i; deal = sym r.deal i; is_fresh = sym r.is_fresh i });
+          ∙ (λ i. record k { quote = quote_stays (is_some k.begun) k.quote i; left_limit = sym r.left_limit i; released = sym r.released i; deal = sym r.deal i; is_fresh = sym r.is_fresh i; restricts = sym r.restricts i });
     }) x e
 
 -- Where no rule says anything, the symbol stays as it is.
@@ -212,13 +208,13 @@ quiet_rules k deals step quiet mine h s = (
           (
             said rules.reopen (reopen-gives k step mine deals h s ∙ reopens_none k step quiet.reopens),
             (
-              said rules.leave_limit (by_kept leaving mine k step deals h s ∙ ap (λ (b : Bool). if b then becoming k Phase.Trading else []) settled.stays),
+              said rules.leave_limit (leave-gives k step mine deals h s ∙ ap (λ (b : Bool). if b then becoming k Phase.Trading else []) settled.stays),
               (
                 said rules.publish_band (banding-gives mean k step mine deals h s (mean-gives k step mine deals h s)
                     ∙ ap (λ (o : Option Priced). elim o [ Some r ↦ band k step r.cause r.price | None ↦ option_map_or (band_by_time k step) k.band [] ]) quiet.prices
                     ∙ bands_none k step quiet.bands),
                 (
-                  said rules.enter_limit (by_kept entering mine k step deals h s
+                  said rules.enter_limit (enter-gives k step mine deals h s
                       ∙ enters_none (is_trading k.phase) (at_band Phase.LimitLow k.quote k.band) (at_band Phase.LimitHigh k.quote k.band) (becoming k Phase.LimitLow) (becoming k Phase.LimitHigh) settled.low settled.high),
                   (
                     said rules.straddle (straddle-gives k step mine deals h s
@@ -266,7 +262,7 @@ idle_quiet k deals due step idle tick from until day stopped =
       reopens = waits.reopens step.moment early;
       prices = ap (λ (ds : List Deal). reference k step (mean_of (live step.moment ds))) (window_rested k deals idle.rested) ∙ idle.prices step tick from until;
       bands = waits.bands step day from early;
-      restricts = ap (λ (b : Bool). b && not k.triggered) (of_none.triggers step.day k.terms);
+      restricts = idle.rested.restricts;
     }
   where
     waits : Waits k due.market.day due.market.stopped due.from due.waits
@@ -358,6 +354,6 @@ due-unlisted k deals due e = λ inside. absurd (by (is_done k.phase) (is_some k.
   by false true e f = cc
   by false false e f = cc
 
-pub rested-finished : (old new : Kept) (step : Step) → new ≡ finished old step → IsRested new
-rested-finished old new step e =
-    record { left_limit = ap (λ (k : Kept). k.left_limit) e; released = ap (λ (k : Kept). k.released) e; deal = ap (λ (k : Kept). k.deal) e; is_fresh = ap (λ (k : Kept). k.is_fresh) e }
+pub rested-finished : (old new : Kept) → new ≡ finished old → IsRested new
+rested-finished old new e =
+    record { left_limit = ap (λ (k : Kept). k.left_limit) e; released = ap (λ (k : Kept). k.released) e; deal = ap (λ (k : Kept). k.deal) e; is_fresh = ap (λ (k : Kept). k.is_fresh) e; restricts = ap (λ (k : Kept). k.restricts) e }

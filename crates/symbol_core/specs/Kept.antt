@@ -1,5 +1,5 @@
 -- What the code does to the kept state, in one equation each. Private words: no public clause cites them.
-use Rattle.std.specs.Prelude.{ℕ, Bool, true, false, Option, Some, None, List, [], ◌∷◌, ◌++◌, ◌==◌, if◌then◌else◌, ◌&&◌, ◌||◌, not, is_some, unwrap_or, ◌+◌, ◌≤◌}
+use Rattle.std.specs.Prelude.{ℕ, Bool, true, false, Option, Some, None, List, [], ◌∷◌, ◌++◌, ◌==◌, if◌then◌else◌, ◌&&◌, ◌||◌, not, is_some, map, unwrap_or, ◌+◌, ◌≤◌}
 use Rattle.std.specs.Option.{option_map_or}
 use Rattle.price_core.specs.declared.quote.Quotation.{Quotation}
 use Rattle.session_core.specs.declared.state.Phase.{Phase}
@@ -10,7 +10,7 @@ use Rattle.wire_in.specs.declared.record.Record.{Record}
 use Rattle.wire_in.specs.declared.record.Record.TheVariants as in_
 use Rattle.wire_out.specs.declared.message.Message.{Message}
 use Rattle.wire_out.specs.declared.message.Message.TheVariants as out
-use Rattle.wire_out.specs.declared.message.ShortKind.TheVariants.{Carried, Triggered}
+use Rattle.wire_out.specs.declared.message.ShortKind.TheVariants.{Carried}
 use Rattle.limit_core.specs.Limits.{straddles}
 use Rattle.limit_core.specs.Timers.{has_lasted}
 use Rattle.pause_core.specs.declared.turning.Brakes.{Brakes}
@@ -23,7 +23,7 @@ use Rattle.reopen_core.specs.Collars.{auction_reference, first_collars}
 use Rattle.reopen_core.specs.Trials as trials
 use Rattle.rulebook.specs.declared.symbol.Banded.{Banded}
 use Rattle.rulebook.specs.Auction.{is_paused, indicated_by, origin_of}
-use Rattle.rulebook.specs.Rules.{asks_to_pause, collar, meets, triggers}
+use Rattle.rulebook.specs.Rules.{asks_to_pause, collar, meets}
 use Rattle.rulebook.specs.Symbol.{is_times, opens_before}
 use Rattle.symbol_core.specs.declared.kept.Kept.{Kept}
 use Rattle.symbol_core.specs.declared.kept.Step.{Step}
@@ -87,8 +87,9 @@ brakes k step = record {
   halted = k.halted;
 }
 
-abbrev pub turning : (Phase → Brakes → Option Phase) → Kept → Step → List Message
-turning rule k step = option_map_or (becoming k) (rule k.phase (brakes k step)) []
+-- the messages of phases, one after the other
+abbrev pub states : ℕ → List Phase → List Message
+states s phases = map (λ p. out.State s p) phases
 
 abbrev pub first_round : ℕ → Phase → Banded → List Message
 first_round s origin b = collar s 0 (first_collars (origin_of origin) b.bands b.reference)
@@ -139,14 +140,8 @@ straddling k step =
     else if k.straddling && not (is_straddling_now k) then out.Straddle k.id false ∷ []
     else []
 
-abbrev pub triggering : Kept → Step → Bool
-triggering k step = triggers step.day k.id step.input k.terms
-
-abbrev pub restricting : Kept → Step → List Message
-restricting k step = if triggering k step && not k.triggered then out.Short k.id Triggered ∷ [] else []
-
 abbrev pub announcing_name : Kept → List ℕ → List Message
-announcing_name k name = if k.carried then out.Listed k.id name ∷ out.Short k.id Carried ∷ [] else out.Listed k.id name ∷ []
+announcing_name k name = if k.short.carried then out.Listed k.id name ∷ out.Short k.id Carried ∷ [] else out.Listed k.id name ∷ []
 
 abbrev pub announcing : Kept → Record → List Message
 announcing k (in_.Listing t name tier l c) = announcing_name k name

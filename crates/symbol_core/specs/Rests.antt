@@ -40,6 +40,7 @@ pub record Rests (own : List ℕ → Bool) (held : Held) (h : List Event) : Type
   pub round : held.kept.round ≡ auction.last_round h held.kept.id
   pub origin : held.kept.origin ≡ auction.origin h held.kept.id
   pub indication : held.kept.indication ≡ auction.indication h held.kept.id
-  pub triggered : held.kept.triggered ≡ triggered_today own held.kept.id h
-  pub carried : held.kept.carried ≡ rules.is_carried h own held.kept.id
+  pub prior_close : held.kept.short.prior_close ≡ of.prior_close h own
+  pub triggered : held.kept.short.triggered ≡ triggered_today own held.kept.id h
+  pub carried : held.kept.short.carried ≡ rules.is_carried h own held.kept.id
   pub deals : SameLive (now h) held.deals (deals_today held.kept.id h)

@@ -1,12 +1,15 @@
 -- What the kept state is of an open history, and what the functions of the code do to it.
-use Rattle.std.specs.Prelude.{◌≡◌, ℕ, Bool, Some, List, [], ◌∷◌, ◌++◌, option_to_list}
+use Rattle.std.specs.Prelude.{◌≡◌, ℕ, Bool, false, Some, List, [], ◌∷◌, ◌++◌, ◌&&◌, not, option_to_list}
+use Rattle.session_core.specs.declared.state.Phase.{Phase}
 use Rattle.wire_out.specs.declared.message.Message.{Message}
+use Rattle.wire_out.specs.declared.message.Message.TheVariants.{State}
+use Rattle.pause_core.specs.Phases.{is_done}
 use Rattle.window_core.specs.declared.window.Deal.{Deal}
 use Rattle.rulebook.specs.declared.event.Event.{Event}
 use Rattle.rulebook.specs.declared.event.Event.TheVariants.{Accepted}
 use Rattle.rulebook.specs.Auction as auction
 use Rattle.rulebook.specs.Book.{Named, context, obeyed, all_obeyed, symbol_rules}
-use Rattle.rulebook.specs.History.{now, newest, today, publish}
+use Rattle.rulebook.specs.History.{now, newest, records, today, publish}
 use Rattle.rulebook.specs.Market.{is_market_halted}
 use Rattle.rulebook.specs.Rules as rules
 use Rattle.rulebook.specs.Rules.{Context}
@@ -20,6 +23,10 @@ use Rattle.symbol_core.specs.Window.{SameLive, window}
 -- the symbol of an id whose names are those of a test
 abbrev pub named : (List ℕ → Bool) → ℕ → Named
 named own s = record { symbol = s; own = own }
+
+-- whether the open step's record is the first of today that triggers the short sale restriction
+abbrev pub triggers_first : Context → Bool
+triggers_first c = rules.triggers c.day c.symbol c.newest (of.terms c.history c.own) && not (rules.has_triggered c)
 
 -- the kept state, the kept deals and the step are what the open history says of the symbol
 pub record Stands (own : List ℕ → Bool) (k : Kept) (deals : List Deal) (step : Step) (h : List Event) : Type 0 where
@@ -38,25 +45,40 @@ pub record Stands (own : List ℕ → Bool) (k : Kept) (deals : List Deal) (step
   pub round : k.round ≡ auction.last_round h k.id
   pub origin : k.origin ≡ auction.origin h k.id
   pub indication : k.indication ≡ auction.indication h k.id
-  pub triggered : k.triggered ≡ rules.has_triggered (context step.day (named own k.id) step.input h)
-  pub carried : k.carried ≡ rules.is_carried h own k.id
+  pub prior_close : k.short.prior_close ≡ of.prior_close h own
+  pub triggered : k.short.triggered ≡ rules.triggered_in own step.day k.id (records h)
+  pub carried : k.short.carried ≡ rules.is_carried h own k.id
   pub left_limit : k.left_limit ≡ rules.has_left_limit h k.id
   pub released : k.released ≡ rules.released h k.id
   pub deal : option_to_list k.deal ≡ deals_in step.day k.id [] (Accepted step.input ∷ [])
+  pub restricts : k.restricts ≡ triggers_first (context step.day (named own k.id) step.input h)
   pub window : SameLive (now h) (window k deals) (deals_of step.day h k.id)
+
+-- the phase of a symbol once it has said a message
+abbrev pub phase_said : Phase → Message → Phase
+phase_said p (State s to) = to
+phase_said p m = p
+
+-- once it has said these
+abbrev pub phase_after : Phase → List Message → Phase
+phase_after p [] = p
+phase_after p (m ∷ ms) = phase_after (phase_said p m) ms
 
 -- these messages are said, and a symbol that stands does so for them too
 pub record Says (ms : List Message) (step : Step) (old new : Kept) (before after : List Message) : Type 0 where
   pub items : after ≡ before ++ ms
   pub stands : (own : List ℕ → Bool) (deals : List Deal) (h : List Event) → Stands own old deals step h → Stands own new deals step (publish ms h)
+  pub phase : new.phase ≡ phase_after old.phase ms
   pub id : new.id ≡ old.id
 
--- What a rule's function does to a symbol that stands: it says what the rule says, and the symbol then stands for that too.
+-- What the function of a rule does to a symbol that stands and isn't closed: it says what the rule says, and the symbol then
+-- stands for that too, and still isn't closed.
 pub record Obeys (rule : Context → List Message) (step : Step) (old new : Kept) (before after : List Message) : Type 0 where
   pub says : (own : List ℕ → Bool) (deals : List Deal) (h : List Event) → Stands own old deals step h
       → after ≡ before ++ obeyed step.day (named own old.id) step.input rule h
   pub stands : (own : List ℕ → Bool) (deals : List Deal) (h : List Event) → Stands own old deals step h
       → Stands own new deals step (publish (obeyed step.day (named own old.id) step.input rule h) h)
+  pub goes_on : is_done new.phase ≡ false
   pub id : new.id ≡ old.id
 
 -- the same of a rule that reads the kept deals
@@ -65,6 +87,7 @@ pub record ObeysWith (deals : List Deal) (rule : Context → List Message) (step
       → after ≡ before ++ obeyed step.day (named own old.id) step.input rule h
   pub stands : (own : List ℕ → Bool) (h : List Event) → Stands own old deals step h
       → Stands own new deals step (publish (obeyed step.day (named own old.id) step.input rule h) h)
+  pub goes_on : is_done new.phase ≡ false
   pub id : new.id ≡ old.id
 
 -- the same of rules one after the other
@@ -74,6 +97,15 @@ pub record ObeysAll (deals : List Deal) (rules : List (Context → List Message)
   pub stands : (own : List ℕ → Bool) (h : List Event) → Stands own old deals step h
       → Stands own new deals step (publish (all_obeyed step.day (named own old.id) step.input rules h) h)
   pub id : new.id ≡ old.id
+
+-- the rules that turn a phase: the session close, a market-wide halt, the start of trading and a regulatory halt
+abbrev pub turning_rules : List (Context → List Message)
+turning_rules = rules.session_close ∷ rules.market_halt ∷ rules.start ∷ rules.regulatory_halt ∷ []
+
+-- those after them
+abbrev pub later_rules : List (Context → List Message)
+later_rules =
+    rules.pause ∷ rules.reopen ∷ rules.leave_limit ∷ rules.publish_band ∷ rules.enter_limit ∷ rules.straddle ∷ rules.restrict ∷ []
 
 -- what the record announces is said, and then what the rules give
 pub record Speaks (deals : List Deal) (step : Step) (old new : Kept) (before after : List Message) : Type 0 where

@@ -2,6 +2,7 @@
 ghost use Rattle.std.specs.Prelude.{◌≡◌, ◌+◌, ◌≤◌, [], false, List, unwrap_or, vec_len, vec_capacity};
 ghost use Rattle.std.specs.Option.{option_map_or};
 ghost use Rattle.price_core.specs.Moves.{moved_one_percent};
+ghost use Rattle.pause_core.specs.Phases.{is_done};
 ghost use Rattle.window_core.specs.Deals.{live, mean_of};
 ghost use Rattle.refprice_core.specs.Prices as prices;
 ghost use Rattle.rulebook.specs.Rules as rules;
@@ -13,7 +14,7 @@ ghost use Rattle.symbol_core.specs.Window.{window};
 use crate::kept::{Kept, Step};
 use crate::records::{opening_price, opens_on_quotes};
 use crate::says::midnight;
-use pause_core::{is_done, is_trading};
+use pause_core::is_trading;
 use percent_core::{bands, category, percent, span};
 use price_core::{Bands, Cause, Price, moved_one_percent};
 use refprice_core::{Adoption, Priced, because, forced, is_in_opening_period};
@@ -228,14 +229,12 @@ impl Kept {
 
     /// Bands, with a new reference price or where the time of day changes them.
     pub fn publish_band(&mut self, step: &Step, deals: &SummedDeals, out: &mut Vec<Message>)
-        requires { vec_len out.old + 1 ≤ vec_capacity out.old }
+        requires goes_on { is_done self.old.phase ≡ false }
+        requires room { vec_len out.old + 1 ≤ vec_capacity out.old }
         ensures obeys { ObeysWith deals.now.deals rules.publish_band step.now self.old self.new out.old.items out.new.items }
         ensures room { vec_capacity out.old ≤ vec_capacity out.new }
         ensures len { vec_len out.new ≤ vec_len out.old + 1 }
     {
-        if is_done(self.phase) {
-            return;
-        }
         self.banding(step, deals, out);
     }
 }

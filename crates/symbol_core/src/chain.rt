@@ -3,21 +3,22 @@ ghost use Rattle.rulebook.specs.Book.{symbol_rules};
 ghost use Rattle.symbol_core.specs.Stands.{ObeysAll};
 
 use crate::kept::{Kept, Step};
+use pause_core::is_done;
 use window_core::SummedDeals;
 use wire_out::Message;
 
 impl Kept {
-    /// The rules of the symbol, in order.
+    /// The rules of the symbol, in order. The others read that it isn't closed, which those that turn its phase tell.
     pub fn obey(&mut self, step: &Step, deals: &SummedDeals, out: &mut Vec<Message>)
         requires { vec_len out.old + 13 ≤ vec_capacity out.old }
         ensures obeys { ObeysAll deals.now.deals symbol_rules step.now self.old self.new out.old.items out.new.items }
         ensures room { vec_capacity out.old ≤ vec_capacity out.new }
         ensures len { vec_len out.new ≤ vec_len out.old + 13 }
     {
-        self.close(step, out);
-        self.stop(step, out);
-        self.start(step, out);
-        self.halt(step, out);
+        self.turn(step, out);
+        if is_done(self.phase) {
+            return;
+        }
         self.pause(step, out);
         self.reopen(step, out);
         self.leave_limit(step, out);

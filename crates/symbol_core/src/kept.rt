@@ -3,6 +3,7 @@ use price_core::{Price, Quotation};
 use reopen_core::{Indication, Origin};
 use rulebook::{Banded, Terms};
 use session_core::{Day, Moment, Phase};
+use short_core::Short;
 use window_core::Deal;
 use wire_in::Record;
 
@@ -32,10 +33,8 @@ pub struct Kept {
     pub origin: Origin,
     /// The last indication since the last pause.
     pub indication: Option<Indication>,
-    /// Whether an earlier record of today triggered the short sale restriction.
-    pub triggered: bool,
-    /// Whether the day before did.
-    pub carried: bool,
+    /// The short sale restriction.
+    pub short: Short,
     /// Whether the open step has left a limit state.
     pub left_limit: bool,
     /// The price at which the open step released the symbol.
@@ -44,6 +43,8 @@ pub struct Kept {
     pub deal: Option<Deal>,
     /// Whether the kept deals are of before the window's begin.
     pub is_fresh: bool,
+    /// Whether the open step's trade is the first of today that triggers the short sale restriction.
+    pub restricts: bool,
 }
 
 /// What the open step has for each rule.

@@ -1,8 +1,10 @@
 // Trading pauses (LULD Plan, Section VII).
-ghost use Rattle.std.specs.Prelude.{◌≡◌, ◌+◌, ◌≤◌, [], List, true, vec_len, vec_capacity};
+ghost use Rattle.std.specs.Prelude.{◌≡◌, ◌+◌, ◌≤◌, [], List, true, false, vec_len, vec_capacity};
 ghost use Rattle.std.specs.Option.{option_map_or};
+ghost use Rattle.pause_core.specs.Phases.{is_done};
 ghost use Rattle.rulebook.specs.Auction.{is_paused};
 ghost use Rattle.rulebook.specs.Rules as rules;
+ghost use Rattle.symbol_core.specs.Idle.{pauses_at};
 ghost use Rattle.symbol_core.specs.Kept.{first_rounds, pause_now, pausing, pausing_as};
 ghost use Rattle.symbol_core.specs.Stands.{Obeys, Says};
 
@@ -10,19 +12,31 @@ use crate::kept::{Kept, Step};
 use crate::records::asks_to_pause;
 use crate::round::TimedRound;
 use crate::says::{is_paused, origin_of};
-use limit_core::has_lasted;
-use pause_core::{is_done, pause};
+use limit_core::LimitTimer;
+use pause_core::pause;
+use price_core::Side;
 use reopen_core::first_collars;
 use rulebook::Banded;
-use session_core::{Phase, last_10};
+use session_core::{Moment, Phase, last_10};
 use wire_out::Message;
 
 impl Kept {
+    /// Whether it has been in a limit state for 15 seconds.
+    fn has_expired(&self, t: Moment) -> bool
+        ensures { result ≡ pauses_at self.now t }
+    {
+        match self.phase {
+            Phase::LimitLow => LimitTimer::enter(self.since, Side::Low).expired(t),
+            Phase::LimitHigh => LimitTimer::enter(self.since, Side::High).expired(t),
+            _ => false,
+        }
+    }
+
     fn pause_now(&self, step: &Step) -> Option<Phase>
         ensures { result ≡ pause_now self.now step.now }
     {
         pause(
-            has_lasted(self.since, step.moment),
+            self.has_expired(step.moment),
             asks_to_pause(self.id, &step.input),
             self.straddling,
             self.phase,
@@ -87,14 +101,12 @@ impl Kept {
 
     /// A trading pause, after 15 seconds in a limit state or where the listing exchange asks for it.
     pub fn pause(&mut self, step: &Step, out: &mut Vec<Message>)
-        requires { vec_len out.old + 2 ≤ vec_capacity out.old }
+        requires goes_on { is_done self.old.phase ≡ false }
+        requires room { vec_len out.old + 2 ≤ vec_capacity out.old }
         ensures obeys { Obeys rules.pause step.now self.old self.new out.old.items out.new.items }
         ensures room { vec_capacity out.old ≤ vec_capacity out.new }
         ensures len { vec_len out.new ≤ vec_len out.old + 2 }
     {
-        if is_done(self.phase) {
-            return;
-        }
         self.pausing(step, out);
     }
 }

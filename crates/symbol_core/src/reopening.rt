@@ -1,5 +1,6 @@
 // Reopening auctions (after Nasdaq Rule 4120).
-ghost use Rattle.std.specs.Prelude.{◌≡◌, ◌+◌, ◌≤◌, List, vec_len, vec_capacity};
+ghost use Rattle.std.specs.Prelude.{◌≡◌, ◌+◌, ◌≤◌, List, false, vec_len, vec_capacity};
+ghost use Rattle.pause_core.specs.Phases.{is_done};
 ghost use Rattle.rulebook.specs.Rules as rules;
 ghost use Rattle.symbol_core.specs.Kept.{IsDue, reopened, reopening, reopening_after, reopening_with, trial_now};
 ghost use Rattle.symbol_core.specs.Stands.{Obeys, Says};
@@ -7,7 +8,6 @@ ghost use Rattle.symbol_core.specs.Stands.{Obeys, Says};
 use crate::kept::{Kept, Step};
 use crate::round::TimedRound;
 use crate::says::is_paused;
-use pause_core::is_done;
 use price_core::Price;
 use reopen_core::{Trial, auction_reference, try_round};
 use rulebook::Banded;
@@ -94,14 +94,12 @@ impl Kept {
 
     /// A trial of the reopening auction, five minutes after its last round began.
     pub fn reopen(&mut self, step: &Step, out: &mut Vec<Message>)
-        requires { vec_len out.old + 2 ≤ vec_capacity out.old }
+        requires goes_on { is_done self.old.phase ≡ false }
+        requires room { vec_len out.old + 2 ≤ vec_capacity out.old }
         ensures obeys { Obeys rules.reopen step.now self.old self.new out.old.items out.new.items }
         ensures room { vec_capacity out.old ≤ vec_capacity out.new }
         ensures len { vec_len out.new ≤ vec_len out.old + 2 }
     {
-        if is_done(self.phase) {
-            return;
-        }
         self.reopening(step, out);
     }
 }

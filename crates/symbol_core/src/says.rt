@@ -74,7 +74,7 @@ impl Kept {
         self.indication = indicated_by(self.id, &step.input);
     }
 
-    fn turn(&mut self, step: &Step, phase: Phase)
+    fn set_phase(&mut self, step: &Step, phase: Phase)
         ensures { self.new ≡ turned self.old step.now phase }
     {
         let trades = is_trading(phase);
@@ -104,7 +104,7 @@ impl Kept {
                 phase,
             },
         );
-        self.turn(step, phase);
+        self.set_phase(step, phase);
     }
 }
 
@@ -212,7 +212,7 @@ impl Kept {
         ensures room { vec_capacity out.old ≤ vec_capacity out.new }
         ensures len { vec_len out.new ≤ vec_len out.old + 2 }
     {
-        if self.carried {
+        if self.short.is_carried() {
             self.announce_carried(step, name, out);
         } else {
             self.say_listed(step, name, out);

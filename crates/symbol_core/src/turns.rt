@@ -1,19 +1,17 @@
 // The rules that turn a phase: the close, a market-wide halt, the start, a regulatory halt, and limit and straddle states.
-ghost use Rattle.std.specs.Prelude.{◌≡◌, ◌+◌, ◌≤◌, ◌&&◌, if◌then◌else◌, [], List, vec_len, vec_capacity};
-ghost use Rattle.std.specs.Option.{option_map_or};
+ghost use Rattle.std.specs.Prelude.{◌≡◌, ◌+◌, ◌≤◌, ◌&&◌, false, List, option_to_list, vec_len, vec_capacity};
 ghost use Rattle.session_core.specs.Times.{is_closed};
 ghost use Rattle.limit_core.specs.Limits.{straddles};
-ghost use Rattle.pause_core.specs.Phases.{is_done, is_trading};
+ghost use Rattle.pause_core.specs.Phases.{is_done};
+ghost use Rattle.window_core.specs.declared.window.Deal.{Deal};
 ghost use Rattle.rulebook.specs.Rules as rules;
 ghost use Rattle.rulebook.specs.Rules.{at_band, meets};
-ghost use Rattle.symbol_core.specs.Kept.{becoming, brakes, is_straddling_now, straddling, with_quote};
-ghost use Rattle.symbol_core.specs.Stands.{Obeys, Says};
+ghost use Rattle.symbol_core.specs.Kept.{brakes, is_straddling_now, states, straddling, with_quote};
+ghost use Rattle.symbol_core.specs.Stands.{Obeys, ObeysAll, Says, turning_rules};
 
 use crate::kept::{Kept, Step};
 use limit_core::{is_at_lower, is_at_upper, straddles};
-use pause_core::{
-    Brakes, is_done, is_limit, is_trading, market_halt, regulatory_halt, session_close, start,
-};
+use pause_core::{Brakes, is_limit, is_trading, turn};
 use price_core::Quotation;
 use rulebook::Banded;
 use session_core::{Day, Moment, Phase, close_moment, in_session};
@@ -37,61 +35,29 @@ impl Kept {
         }
     }
 
-    /// Turns to a phase that one of these rules brings, unless the symbol is closed.
+    /// The phase that a rule brings, where it brings one.
     fn turn_to(&mut self, step: &Step, to: Option<Phase>, out: &mut Vec<Message>)
         requires { vec_len out.old + 1 ≤ vec_capacity out.old }
-        ensures says { Says (if is_done self.old.phase then [] else option_map_or (becoming self.old) to []) step.now self.old self.new out.old.items out.new.items }
+        ensures says { Says (states self.old.id (option_to_list to)) step.now self.old self.new out.old.items out.new.items }
         ensures room { vec_capacity out.old ≤ vec_capacity out.new }
         ensures len { vec_len out.new ≤ vec_len out.old + 1 }
     {
-        match to {
-            Some(phase) if !is_done(self.phase) => self.becomes(step, phase, out),
-            _ => {}
+        if let Some(phase) = to {
+            self.becomes(step, phase, out);
         }
     }
 
-    /// The close: the symbol's day is over.
-    pub fn close(&mut self, step: &Step, out: &mut Vec<Message>)
-        requires { vec_len out.old + 1 ≤ vec_capacity out.old }
-        ensures obeys { Obeys rules.session_close step.now self.old self.new out.old.items out.new.items }
+    /// The session close, a market-wide halt (NYSE Rule 7.12), the start of trading and a regulatory halt by notice, with its
+    /// end.
+    pub fn turn(&mut self, step: &Step, out: &mut Vec<Message>)
+        requires { vec_len out.old + 2 ≤ vec_capacity out.old }
+        ensures obeys { (deals : List Deal) → ObeysAll deals turning_rules step.now self.old self.new out.old.items out.new.items }
         ensures room { vec_capacity out.old ≤ vec_capacity out.new }
-        ensures len { vec_len out.new ≤ vec_len out.old + 1 }
+        ensures len { vec_len out.new ≤ vec_len out.old + 2 }
     {
-        let to = session_close(self.phase, &self.brakes(step));
-        self.turn_to(step, to, out);
-    }
-
-    /// A market-wide halt stops the symbol (NYSE Rule 7.12).
-    pub fn stop(&mut self, step: &Step, out: &mut Vec<Message>)
-        requires { vec_len out.old + 1 ≤ vec_capacity out.old }
-        ensures obeys { Obeys rules.market_halt step.now self.old self.new out.old.items out.new.items }
-        ensures room { vec_capacity out.old ≤ vec_capacity out.new }
-        ensures len { vec_len out.new ≤ vec_len out.old + 1 }
-    {
-        let to = market_halt(self.phase, &self.brakes(step));
-        self.turn_to(step, to, out);
-    }
-
-    /// Trading starts.
-    pub fn start(&mut self, step: &Step, out: &mut Vec<Message>)
-        requires { vec_len out.old + 1 ≤ vec_capacity out.old }
-        ensures obeys { Obeys rules.start step.now self.old self.new out.old.items out.new.items }
-        ensures room { vec_capacity out.old ≤ vec_capacity out.new }
-        ensures len { vec_len out.new ≤ vec_len out.old + 1 }
-    {
-        let to = start(self.phase, &self.brakes(step));
-        self.turn_to(step, to, out);
-    }
-
-    /// A regulatory halt by notice, and its end.
-    pub fn halt(&mut self, step: &Step, out: &mut Vec<Message>)
-        requires { vec_len out.old + 1 ≤ vec_capacity out.old }
-        ensures obeys { Obeys rules.regulatory_halt step.now self.old self.new out.old.items out.new.items }
-        ensures room { vec_capacity out.old ≤ vec_capacity out.new }
-        ensures len { vec_len out.new ≤ vec_len out.old + 1 }
-    {
-        let to = regulatory_halt(self.phase, &self.brakes(step));
-        self.turn_to(step, to, out);
+        let turned = turn(self.phase, &self.brakes(step));
+        self.turn_to(step, turned.first, out);
+        self.turn_to(step, turned.second, out);
     }
 }
 
@@ -121,14 +87,12 @@ fn straddles_bands(quote: &Option<Quotation>, band: &Option<Banded>) -> bool
 impl Kept {
     /// A limit state is left when the quotation leaves the band (LULD Plan, Section VI).
     pub fn leave_limit(&mut self, step: &Step, out: &mut Vec<Message>)
-        requires { vec_len out.old + 1 ≤ vec_capacity out.old }
+        requires goes_on { is_done self.old.phase ≡ false }
+        requires room { vec_len out.old + 1 ≤ vec_capacity out.old }
         ensures obeys { Obeys rules.leave_limit step.now self.old self.new out.old.items out.new.items }
         ensures room { vec_capacity out.old ≤ vec_capacity out.new }
         ensures len { vec_len out.new ≤ vec_len out.old + 1 }
     {
-        if is_done(self.phase) {
-            return;
-        }
         if is_limit(self.phase) && !at_band(self.phase, &self.quote, &self.band) {
             self.becomes(step, Phase::Trading, out);
         }
@@ -136,14 +100,12 @@ impl Kept {
 
     /// A limit state begins where the quotation is at a band (LULD Plan, Section VI).
     pub fn enter_limit(&mut self, step: &Step, out: &mut Vec<Message>)
-        requires { vec_len out.old + 1 ≤ vec_capacity out.old }
+        requires goes_on { is_done self.old.phase ≡ false }
+        requires room { vec_len out.old + 1 ≤ vec_capacity out.old }
         ensures obeys { Obeys rules.enter_limit step.now self.old self.new out.old.items out.new.items }
         ensures room { vec_capacity out.old ≤ vec_capacity out.new }
         ensures len { vec_len out.new ≤ vec_len out.old + 1 }
     {
-        if is_done(self.phase) {
-            return;
-        }
         if !is_trading(self.phase) {
             return;
         }
@@ -183,14 +145,12 @@ impl Kept {
 
     /// A straddle state begins or ends (LULD Plan, Section VII).
     pub fn straddle(&mut self, step: &Step, out: &mut Vec<Message>)
-        requires { vec_len out.old + 1 ≤ vec_capacity out.old }
+        requires goes_on { is_done self.old.phase ≡ false }
+        requires room { vec_len out.old + 1 ≤ vec_capacity out.old }
         ensures obeys { Obeys rules.straddle step.now self.old self.new out.old.items out.new.items }
         ensures room { vec_capacity out.old ≤ vec_capacity out.new }
         ensures len { vec_len out.new ≤ vec_len out.old + 1 }
     {
-        if is_done(self.phase) {
-            return;
-        }
         self.straddling(step, out);
     }
 }

@@ -1,8 +1,11 @@
-use Rattle.std.proofs.Common.{sym, ◌∙◌}
 use Rattle.rulebook.specs.Rules as rules
 use Rattle.symbol_core.proofs.Chains.{obeys}
 use Rattle.symbol_core.proofs.Gives.{pause-gives}
+use Rattle.symbol_core.proofs.GoesOn.{pausing-goes_on}
 use Rattle.symbol_core.proofs.kept.Kept.pause.Goals as goal
 
 pub returns-clause-obeys : goal.returns-clause-obeys
-returns-clause-obeys c = obeys rules.pause (sym c.is_done.ensures ∙ c.if-is_done.false) c.pausing.ensures.says (pause-gives c.args.self.now c.args.step.now)
+returns-clause-obeys c =
+    let k = c.args.self.now in
+    let step = c.args.step.now in
+    obeys rules.pause c.requires.goes_on (pausing-goes_on k step c.requires.goes_on) c.pausing.ensures.says (pause-gives k step)

@@ -1,9 +1,9 @@
-use Rattle.std.proofs.Common.{sym, ◌∙◌}
 use Rattle.window_core.specs.Deals.{live, mean_of}
 use Rattle.rulebook.specs.Rules as rules
 use Rattle.symbol_core.specs.Window.{window}
 use Rattle.symbol_core.proofs.Chains.{obeys_with}
 use Rattle.symbol_core.proofs.Gives.{banding-gives, mean-gives}
+use Rattle.symbol_core.proofs.GoesOn.{banding-goes_on}
 use Rattle.symbol_core.proofs.kept.Kept.publish_band.Goals as goal
 
 pub returns-clause-obeys : goal.returns-clause-obeys
@@ -11,5 +11,6 @@ returns-clause-obeys c =
     let k = c.args.self.now in
     let step = c.args.step.now in
     let deals = c.args.deals.now.deals in
-    obeys_with deals rules.publish_band (sym c.is_done.ensures ∙ c.if-is_done.false) c.banding.ensures.says
-    (λ mine h s. banding-gives (mean_of (live step.moment (window k deals))) k step mine deals h s (mean-gives k step mine deals h s))
+    let mean = mean_of (live step.moment (window k deals)) in
+    obeys_with deals rules.publish_band c.requires.goes_on (banding-goes_on mean k step c.requires.goes_on) c.banding.ensures.says
+    (λ mine h s. banding-gives mean k step mine deals h s (mean-gives k step mine deals h s))

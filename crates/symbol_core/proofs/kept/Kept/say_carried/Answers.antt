@@ -4,4 +4,4 @@ use Rattle.symbol_core.proofs.Messages.{stands-short}
 use Rattle.symbol_core.proofs.kept.Kept.say_carried.Goals as goal
 
 pub returns-clause-says : goal.returns-clause-says
-returns-clause-says c = record { items = c.push.ensures.items; stands = λ mine deals h s. stands-short mine c.args.self.now deals c.args.step.now Carried h s; id = refl }
+returns-clause-says c = record { items = c.push.ensures.items; stands = λ mine deals h s. stands-short mine c.args.self.now deals c.args.step.now Carried h s; phase = refl; id = refl }

@@ -1,0 +1,72 @@
+-- The rules that turn a phase, in one call.
+use Rattle.std.proofs.Common.{◌≡◌, ℕ, Bool, true, false, cond, List, [], ◌∷◌, ◌++◌, refl, sym, ap, ◌∙◌}
+use Rattle.std.specs.Prelude.{Option, Some, None, if◌then◌else◌, map, option_to_list, unwrap_or}
+use Rattle.std.specs.Option.{option_map_or}
+use Rattle.std.proofs.lemmas.List.{map-append}
+use Rattle.session_core.specs.declared.state.Phase.{Phase}
+use Rattle.wire_out.specs.declared.message.Message.{Message}
+use Rattle.wire_out.specs.declared.message.Message.TheVariants as out
+use Rattle.pause_core.specs.declared.turning.Brakes.{Brakes}
+use Rattle.pause_core.specs.declared.turning.Turned.{Turned}
+use Rattle.pause_core.specs.Phases.{is_done}
+use Rattle.pause_core.specs.Turns as turns
+use Rattle.window_core.specs.declared.window.Deal.{Deal}
+use Rattle.rulebook.specs.declared.event.Event.{Event}
+use Rattle.rulebook.specs.declared.event.Event.TheVariants.{Published}
+use Rattle.rulebook.specs.Book.{all_obeyed, obeyed}
+use Rattle.rulebook.specs.History.{publish}
+use Rattle.rulebook.specs.Rules as rules
+use Rattle.rulebook.specs.Rules.{Context}
+use Rattle.rulebook.specs.Symbol.{phase}
+use Rattle.symbol_core.specs.declared.kept.Kept.{Kept}
+use Rattle.symbol_core.specs.declared.kept.Step.{Step}
+use Rattle.symbol_core.specs.Kept.{becoming, brakes, states, turned}
+use Rattle.symbol_core.specs.Stands.{named, ObeysAll, Says, Stands, turning_rules}
+use Rattle.symbol_core.proofs.Chains.{obeys_all, then_of}
+use Rattle.symbol_core.proofs.Gives.{turned-gives}
+use Rattle.symbol_core.proofs.Phases.{stands-turned}
+
+-- such rules over a history
+abbrev turned_rules : List (Phase → Brakes → Option Phase) → List (Context → List Message)
+turned_rules [] = []
+turned_rules (rule ∷ later) = rules.turned rule ∷ turned_rules later
+
+option_closed : (done : Bool) (k : Kept) (o : Option Phase) → (if done then [] else option_map_or (becoming k) o []) ≡ option_map_or (becoming k) (if done then None else o) []
+option_closed true k o = refl
+option_closed false k o = refl
+
+-- one of them
+turn_gives : (rule : Phase → Brakes → Option Phase) (k : Kept) (step : Step) (mine : List ℕ → Bool) (deals : List Deal) (h : List Event) → Stands mine k deals step h
+    → obeyed step.day (named mine k.id) step.input (rules.turned rule) h ≡ option_map_or (becoming k) (turns.obeyed rule k.phase (brakes k step)) []
+turn_gives rule k step mine deals h s =
+    ap (λ (ms : List Message). cond (is_done (phase h k.id)) [] ms) (turned-gives rule k step mine deals h s)
+    ∙ ap (λ (p : Phase). cond (is_done p) [] (option_map_or (becoming k) (rule k.phase (brakes k step)) [])) (sym s.phase)
+    ∙ option_closed (is_done k.phase) k (rule k.phase (brakes k step))
+
+-- the phase that one brings, and then those of the others
+by_phase : (k : Kept) (step : Step) (mine : List ℕ → Bool) (deals : List Deal) (h : List Event) (later : List (Phase → Brakes → Option Phase)) → Stands mine k deals step h
+    → ((l : Kept) (g : List Event) → Stands mine l deals step g → all_obeyed step.day (named mine l.id) step.input (turned_rules later) g ≡ states l.id (turns.phases later l.phase (brakes l step)))
+    → (o : Option Phase) → option_map_or (becoming k) o [] ++ all_obeyed step.day (named mine k.id) step.input (turned_rules later) (publish (option_map_or (becoming k) o []) h)
+    ≡ states k.id (option_to_list o ++ turns.phases later (unwrap_or o k.phase) (brakes k step))
+by_phase k step mine deals h later s rest None = rest k h s
+by_phase k step mine deals h later s rest (Some p) =
+    ap (λ (ms : List Message). out.State k.id p ∷ ms) (rest (turned k step p) (Published (out.State k.id p) ∷ h) (stands-turned mine k deals step p h s))
+
+turns_give : (list : List (Phase → Brakes → Option Phase)) (k : Kept) (step : Step) (mine : List ℕ → Bool) (deals : List Deal) (h : List Event) → Stands mine k deals step h
+    → all_obeyed step.day (named mine k.id) step.input (turned_rules list) h ≡ states k.id (turns.phases list k.phase (brakes k step))
+turns_give [] k step mine deals h s = refl
+turns_give (rule ∷ later) k step mine deals h s =
+    (λ i. turn_gives rule k step mine deals h s i ++ all_obeyed step.day (named mine k.id) step.input (turned_rules later) (publish (turn_gives rule k step mine deals h s i) h))
+    ∙ by_phase k step mine deals h later s (λ l g t. turns_give later l step mine deals g t) (turns.obeyed rule k.phase (brakes k step))
+
+-- the phases of one call are those of the rules
+pub turns-obey : (k mid new : Kept) (step : Step) (brake : Brakes) (turned : Turned) (before between after : List Message) → brake ≡ brakes k step → option_to_list turned.first ++ option_to_list turned.second ≡ turns.turns k.phase brake
+    → Says (states k.id (option_to_list turned.first)) step k mid before between → Says (states mid.id (option_to_list turned.second)) step mid new between after
+    → (deals : List Deal) → ObeysAll deals turning_rules step k new before after
+turns-obey k mid new step brake turned before between after b all first second deals =
+    obeys_all deals turning_rules (then_of (λ s. states s (option_to_list turned.second)) first second)
+    (λ mine h s.
+    turns_give (turns.session_close ∷ turns.market_halt ∷ turns.start ∷ turns.regulatory_halt ∷ []) k step mine deals h s
+    ∙ ap (λ (b : Brakes). states k.id (turns.turns k.phase b)) (sym b)
+    ∙ ap (states k.id) (sym all)
+    ∙ map-append (λ p. out.State k.id p) (option_to_list turned.first) (option_to_list turned.second))

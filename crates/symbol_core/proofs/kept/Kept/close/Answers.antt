@@ -1,8 +1,0 @@
-use Rattle.pause_core.specs.Turns as turns
-use Rattle.rulebook.specs.Rules as rules
-use Rattle.symbol_core.proofs.Chains.{obeys_open}
-use Rattle.symbol_core.proofs.Gives.{turned-gives}
-use Rattle.symbol_core.proofs.kept.Kept.close.Goals as goal
-
-pub returns-clause-obeys : goal.returns-clause-obeys
-returns-clause-obeys c = obeys_open rules.session_close (rw (c.session_close-to.ensures, c.brakes.ensures) at c.turn_to.ensures.says) (turned-gives turns.session_close c.args.self.now c.args.step.now)
