@@ -54,17 +54,22 @@ impl Draw {
         Index::new(hundredths[self.below(8) as usize].clamp(1, 99_999_999)).unwrap()
     }
 
-    /// The next day of June 2024 at 09:29:00.
+    /// The next day of June 2024 at 09:29:00, by turns with each profile.
     fn day(&mut self) -> Record {
         self.days = self.days.wrapping_add(1);
         self.seconds = 34_140;
         let date = Date::of(2024, 6, (self.days % 28) as u8 + 1);
+        let profile = if self.days % 2 == 0 {
+            Profile::Before18
+        } else {
+            Profile::Since18
+        };
         Record::Day {
             moment: self.moment(),
             day: Day {
                 date: date.unwrap(),
                 close: Close::Regular,
-                profile: Profile::Since18,
+                profile,
             },
             index_close: Index::new(500_000).unwrap(),
         }

@@ -172,11 +172,13 @@ window_moves : said (morning ++ in_.Trade (seconds 34260) 0 2 520000 100 0 ∷ i
     ≡ opening ++ out.Band 0 cause.Moved 510000 484500 535500 ∷ out.Band 0 cause.Moved 520000 494000 546000 ∷ []
 window_moves = refl
 
+abbrev older_day : Record
+older_day = in_.Day (seconds 14400) (record { date = record { year = 2024; month = 6; day = 3 }; close = Regular; profile = Before18 }) 500000
+
 abbrev old_profile : Tier → ℕ → List Record
 old_profile t close =
-    in_.Day (seconds 14400) (record { date = record { year = 2024; month = 6; day = 3 }; close = Regular; profile = Before18 }) 500000
-    ∷ in_.Listing (seconds 14400) abc t 10 (Some close) ∷ in_.Clock (seconds 34200) ∷ in_.Trade (seconds 34200) 0 1 close 100 1
-    ∷ in_.Clock (seconds 35100 - 1) ∷ in_.Clock (seconds 35100) ∷ in_.Clock (seconds 56100) ∷ []
+    older_day ∷ in_.Listing (seconds 14400) abc t 10 (Some close) ∷ in_.Clock (seconds 34200) ∷ in_.Trade (seconds 34200) 0 1 close 100 1
+    ∷ in_.Clock (seconds 35100 - 1) ∷ in_.Clock (seconds 35100) ∷ in_.Clock (seconds 56100 - 1) ∷ in_.Clock (seconds 56100) ∷ []
 
 before_tier_one : said (old_profile tier.One 500000) ≡ begun ++ out.Band 0 cause.First 500000 450000 550000 ∷ out.Band 0 cause.Times 500000 475000 525000 ∷ out.Band 0 cause.Times 500000 450000 550000 ∷ []
 before_tier_one = refl
@@ -186,3 +188,7 @@ before_tier_two = refl
 
 before_low_priced : said (old_profile tier.Two 7000) ≡ begun ++ out.Band 0 cause.First 7000 4000 10000 ∷ out.Band 0 cause.Times 7000 5500 8500 ∷ out.Band 0 cause.Times 7000 4000 10000 ∷ []
 before_low_priced = refl
+
+-- the percentages are those of the last day
+last_profile : said (older_day ∷ next_day 4 ∷ listing ∷ in_.Clock (seconds 34200) ∷ open_trade ∷ []) ≡ opening
+last_profile = refl

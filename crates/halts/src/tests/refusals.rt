@@ -14,6 +14,12 @@ use wire_in::Refusal;
 /// A day of a month 13.
 const MONTH_13: &[u8] = b"\x13\x01\0\0\x0d\x18\xc2\xe2\x80\0\x07\xe8\x0d\x03\x01\x02\0\x07\xa1\x20";
 
+/// A day whose byte of the profile is 0, and another where it is 3.
+const PROFILE_0: &[u8] = b"\x13\x01\0\0\x0d\x18\xc2\xe2\x80\0\x07\xe8\x06\x03\x01\0\0\x07\xa1\x20";
+
+const PROFILE_3: &[u8] =
+    b"\x13\x01\0\0\x0d\x18\xc2\xe2\x80\0\x07\xe8\x06\x03\x01\x03\0\x07\xa1\x20";
+
 /// A trade of symbol 0 at 09:30:00 at a price of 0.
 const FREE_TRADE: &[u8] =
     b"\x1d\x03\0\0\x1f\x1a\xce\xd9\xf0\0\0\0\0\0\0\x01\0\0\0\0\0\0\0\0\0\0\0\x64\0\0";
@@ -29,6 +35,8 @@ fn a_refused_first_frame_is_told_with_its_code_and_field(rt: HostRuntime) -> Res
     expect(&rt, &[bytes(b"\x01\x0a"), refused(Refusal::UnknownType)])?;
     expect(&rt, &[bytes(b"\0"), refused(Refusal::BadLength)])?;
     expect(&rt, &[bytes(MONTH_13), refused(Refusal::BadField(3))])?;
+    expect(&rt, &[bytes(PROFILE_0), refused(Refusal::BadField(6))])?;
+    expect(&rt, &[bytes(PROFILE_3), refused(Refusal::BadField(6))])?;
     expect(&rt, &[clock(at(9, 30, 0)), refused(Refusal::NoDay)])
 }
 

@@ -1,15 +1,19 @@
 // Frames as lines, and lines as frames.
 use super::{fall, runs};
 use host_core::Status;
+use session_core::{Close, Profile};
 use std::test::Fail;
 use test_days::Session;
-use test_days::lines::day;
+use test_days::lines::{day, day_of};
 
-const DAY: &str = "day 04:00:00.000000000 2024-06-03 regular since18 5000.00\n";
+/// A day of each profile.
+const DAYS: &str = "day 04:00:00.000000000 2024-06-03 regular since18 5000.00\n\
+    day 04:00:00.000000000 2024-06-04 early before18 5000.00\n";
 
 #[test]
-fn a_day_is_printed_and_packed_again(rt: HostRuntime) -> Result<(), Fail> {
-    let session = Session::of(rt.alloc(), &[day(3)])?;
+fn days_are_printed_and_packed_again(rt: HostRuntime) -> Result<(), Fail> {
+    let days = [day(3), day_of(4, Close::Early, Profile::Before18)];
+    let session = Session::of(rt.alloc(), &days)?;
     let print = ["print", "--kind", "records"];
     let pack = ["pack", "--kind", "records"];
     runs(
@@ -17,14 +21,14 @@ fn a_day_is_printed_and_packed_again(rt: HostRuntime) -> Result<(), Fail> {
         &print,
         b"",
         &session.input,
-        DAY.as_bytes(),
+        DAYS.as_bytes(),
         Status::Done,
     )?;
     runs(
         &rt,
         &pack,
         b"",
-        DAY.as_bytes(),
+        DAYS.as_bytes(),
         &session.input,
         Status::Done,
     )?;
