@@ -46,9 +46,7 @@ rests-finished mine k kept left step index h not_day day same s =
       adopted = s.adopted;
       straddling = s.straddling;
       halted = s.halted;
-      round = s.round;
-      origin = s.origin;
-      indication = s.indication;
+      auction = s.auction;
       triggered =
           ap (λ (o : Option Terms). triggers step.day k.id x o || k.triggered) (s.terms ∙ ap (λ (r : List Record). terms_in mine r) records_is)
           ∙ ap (λ (b : Bool). b || k.triggered) (triggers-same mine step.day k.id x earlier)

@@ -1,6 +1,5 @@
-use crate::round::TimedRound;
 use price_core::{Price, Quotation};
-use reopen_core::{Indication, Origin};
+use reopen_core::Auction;
 use rulebook::{Banded, Terms};
 use session_core::{Day, Moment, Phase};
 use window_core::Deal;
@@ -26,12 +25,8 @@ pub struct Kept {
     pub straddling: bool,
     /// Whether a regulatory halt is in effect.
     pub halted: bool,
-    /// The last round of an auction.
-    pub round: Option<TimedRound>,
-    /// What the last pause came from.
-    pub origin: Origin,
-    /// The last indication since the last pause.
-    pub indication: Option<Indication>,
+    /// The reopening auction, while the symbol is paused.
+    pub auction: Option<Auction>,
     /// Whether an earlier record of today triggered the short sale restriction.
     pub triggered: bool,
     /// Whether the day before did.

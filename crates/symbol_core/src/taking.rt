@@ -1,13 +1,14 @@
 // Taking a record in, and what is kept at the end of a step.
 ghost use Rattle.std.specs.Prelude.{◌≡◌, ◌≤◌, ◌++◌, [], None, false, is_some, if◌then◌else◌, filter, length, option_to_list};
 ghost use Rattle.window_core.specs.Deals.{live};
+ghost use Rattle.symbol_core.specs.Kept.{heard};
 ghost use Rattle.symbol_core.specs.Taken.{finished, leaves, renewed, taken};
 ghost use Rattle.symbol_core.specs.Window.{SameLive};
 
 use crate::kept::{Kept, Step};
 use crate::records::{cancelled_by, deal_of, halted_by, indicated_by, listed_by, quoted_by};
 use crate::says::midnight;
-use reopen_core::Origin;
+use reopen_core::{Auction, Indication};
 use session_core::{Moment, Phase};
 use window_core::{Deal, SummedDeals};
 use wire_in::Record;
@@ -28,9 +29,7 @@ impl Kept {
             adopted: midnight(),
             straddling: false,
             halted: false,
-            round: None,
-            origin: Origin::Straddle,
-            indication: None,
+            auction: None,
             triggered: false,
             carried,
             left_limit: false,
@@ -49,7 +48,7 @@ impl Kept {
             self.quote = quoted_by(self.id, &step.input).or(self.quote);
         }
         self.halted = halted_by(self.id, &step.input, self.halted);
-        self.indication = indicated_by(self.id, &step.input).or(self.indication);
+        self.auction = heard(indicated_by(self.id, &step.input), self.auction);
         self.forget_step();
         self.deal = deal_of(self.id, step);
     }
@@ -71,6 +70,17 @@ impl Kept {
         self.triggered = self.triggering(step) || self.triggered;
         self.forget_step();
     }
+}
+
+/// An auction with what is indicated.
+fn heard(indication: Option<Indication>, auction: Option<Auction>) -> Option<Auction>
+    ensures { result ≡ heard indication auction }
+{
+    let mut heard = auction?;
+    if let Some(i) = indication {
+        heard.indicate(i.price, i.unmatched);
+    }
+    Some(heard)
 }
 
 /// A cancel takes its deals away.
