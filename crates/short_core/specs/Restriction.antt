@@ -11,18 +11,27 @@ fell_ten_percent price prior_close = nat_le (10 * price) (9 * prior_close)
 abbrev pub triggers : Option ℕ → ℕ → Bool
 triggers prior_close price = option_map_or (fell_ten_percent price) prior_close false
 
--- a day of the stock: its prior close, and the prices of its eligible trades, the newest first
+-- an eligible trade: its price, and the prior close that is listed by then
+pub record Trade : Type 0 where
+  pub price : ℕ
+  pub prior_close : Option ℕ
+
+-- a day of the stock: the prior close that is listed, and its eligible trades, the newest first
 pub record Trades : Type 0 where
   pub prior_close : Option ℕ
-  pub prices : List ℕ
+  pub trades : List Trade
+
+-- the day with another prior close, for the trades to come
+abbrev pub relisted : Option ℕ → Trades → Trades
+relisted prior_close day = record day { prior_close = prior_close }
 
 -- the day with one more trade
 abbrev pub traded : ℕ → Trades → Trades
-traded price day = record day { prices = price ∷ day.prices }
+traded price day = record day { trades = record { price = price; prior_close = day.prior_close } ∷ day.trades }
 
 -- a trade of the day triggers it
 abbrev pub has_triggered : Trades → Bool
-has_triggered day = list_any (triggers day.prior_close) day.prices
+has_triggered day = list_any (λ trade. triggers trade.prior_close trade.price) day.trades
 
 -- whether the day after these days, the newest first, carries the restriction: the last of them triggered it
 abbrev pub is_carried : List Trades → Bool

@@ -12,6 +12,10 @@ pub record ShortState : Type 0 where
 abbrev pub listed : Option ℕ → Bool → ShortState
 listed prior_close carried = record { prior_close = prior_close; triggered = false; carried = carried }
 
+-- another prior close
+abbrev pub with_prior_close : Option ℕ → ShortState → ShortState
+with_prior_close prior_close kept = record kept { prior_close = prior_close }
+
 -- one more trade
 abbrev pub with_trade : ℕ → ShortState → ShortState
 with_trade price kept = record kept { triggered = triggers kept.prior_close price || kept.triggered }

@@ -1,5 +1,5 @@
 ghost use Rattle.std.specs.Prelude.{◌≡◌, ◌&&◌, ◌||◌, [], ◌∷◌, List, not};
-ghost use Rattle.short_core.specs.Restriction.{Trades, traded, triggers, has_triggered, is_carried, is_restricted};
+ghost use Rattle.short_core.specs.Restriction.{Trades, relisted, traded, triggers, has_triggered, is_carried, is_restricted};
 
 use price_core::Price;
 use std::marker::Model;
@@ -32,20 +32,29 @@ impl Model for Short {
 }
 
 impl Short {
-    ghost use Rattle.short_core.specs.ShortState.{listed, with_trade, triggers_first, Represents};
+    ghost use Rattle.short_core.specs.ShortState.{listed, with_prior_close, with_trade, triggers_first, Represents};
 
     /// A day without a trade yet, with the prior close in ten-thousandths of a dollar, where there is one, and whether
     /// the day before carries the restriction over.
     pub fn listed(prior_close: Option<Price>, carried: bool) -> Short
         ensures value { result ≡ listed prior_close carried }
         ensures stands { (earlier : List Trades) → carried ≡ is_carried earlier
-            → Represents result (record { prior_close = prior_close; prices = [] }) earlier }
+            → Represents result (record { prior_close = prior_close; trades = [] }) earlier }
     {
         Short {
             prior_close,
             triggered: false,
             carried,
         }
+    }
+
+    /// Takes a further listing of the day, with the prior close in ten-thousandths of a dollar, where there is one: trades from
+    /// now on are measured by it.
+    pub fn list(&mut self, prior_close: Option<Price>)
+        ensures value { self.new ≡ with_prior_close prior_close self.old }
+        ensures stands { (day : Trades) (earlier : List Trades) → Represents self.old day earlier → Represents self.new (relisted prior_close day) earlier }
+    {
+        self.prior_close = prior_close;
     }
 
     /// Takes an eligible trade of the session, with its price in ten-thousandths of a dollar: true exactly at the first
@@ -68,6 +77,14 @@ impl Short {
         ensures answer { (day : Trades) (earlier : List Trades) → Represents self.now day earlier → result ≡ is_restricted day earlier }
     {
         self.triggered || self.carried
+    }
+
+    /// Whether the restriction is carried over from the day before.
+    pub fn is_carried(&self) -> bool
+        ensures value { result ≡ self.now.carried }
+        ensures answer { (day : Trades) (earlier : List Trades) → Represents self.now day earlier → result ≡ is_carried earlier }
+    {
+        self.carried
     }
 
     /// Whether the following day carries the restriction: a trade of today triggered it.

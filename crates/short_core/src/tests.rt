@@ -25,8 +25,20 @@ fn a_restriction_is_carried_over_one_day_alone(rt: HostRuntime) -> Result<(), Fa
     assert!(rt; first.trade(Price::new(180_000)?));
     let second = Short::listed(close, first.next_day());
     assert!(rt; second.restricted());
+    assert!(rt; second.is_carried());
     let third = Short::listed(close, second.next_day());
     assert!(rt; !third.restricted());
+    Ok(())
+}
+
+#[test]
+fn a_further_listing_measures_later_trades(rt: HostRuntime) -> Result<(), Fail> {
+    let mut short = Short::listed(Some(Price::new(200_000)?), false);
+    short.list(Some(Price::new(100_000)?));
+    assert!(rt; !short.trade(Price::new(180_000)?));
+    assert!(rt; short.trade(Price::new(90_000)?));
+    short.list(None);
+    assert!(rt; short.restricted());
     Ok(())
 }
 

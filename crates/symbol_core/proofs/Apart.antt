@@ -45,11 +45,13 @@ stands-apart mine k deals step m h q s =
       straddling = s.straddling ∙ sym (ap (λ (o : Option (Found Bool)). option_map_or (λ straddle. straddle.value) o false) (last-other (of.straddle_of k.id) m (today h) q.straddle));
       halted = s.halted;
       auction = s.auction ∙ (λ i. auction_by (auction.is_paused (sym phase_is i)) (sym run.band i) (sym round_is i) (origin_is i) (indication_is i));
+      prior_close = s.prior_close;
       triggered = s.triggered;
       carried = s.carried;
       left_limit = s.left_limit ∙ ap (λ (o : Option Phase). (option_map_or is_trading o false && is_limit (of.phase h k.id)) || rules.has_left_limit h k.id) (sym q.state);
       released = s.released ∙ sym (ap (λ (o : Option (Found ℕ)). option_map (λ release. release.value) o) (last-other (rules.release_of k.id) m (open_step h) q.release));
       deal = s.deal;
+      restricts = s.restricts;
       window = rw run.deals s.window;
     }
   where

@@ -9,7 +9,7 @@ use Rattle.wire_in.specs.declared.record.Record.{Record}
 use Rattle.wire_in.specs.declared.record.Record.TheVariants as in_
 use Rattle.wire_out.specs.declared.message.Message.{Message}
 use Rattle.wire_out.specs.declared.message.Message.TheVariants as out
-use Rattle.wire_out.specs.declared.message.ShortKind.TheVariants.{Carried}
+use Rattle.wire_out.specs.declared.message.ShortKind.TheVariants.{Carried, Triggered}
 use Rattle.pause_core.specs.declared.turning.Brakes.{Brakes}
 use Rattle.pause_core.specs.Phases.{is_limit, is_trading}
 use Rattle.session_core.specs.Times.{in_last_10_minutes}
@@ -24,7 +24,7 @@ use Rattle.window_core.specs.Deals.{live, mean_of}
 use Rattle.rulebook.specs.declared.event.Event.{Event}
 use Rattle.rulebook.specs.Auction as auction
 use Rattle.rulebook.specs.Book.{announced, context}
-use Rattle.rulebook.specs.History.{now, today}
+use Rattle.rulebook.specs.History.{now, records, today}
 use Rattle.rulebook.specs.Market.{is_market_halted}
 use Rattle.rulebook.specs.Rules as rules
 use Rattle.rulebook.specs.Rules.{at_band}
@@ -32,9 +32,9 @@ use Rattle.rulebook.specs.Symbol as of
 use Rattle.symbol_core.specs.declared.kept.Kept.{Kept}
 use Rattle.symbol_core.specs.declared.kept.Step.{Step}
 use Rattle.symbol_core.specs.Auctions.{auction_by, auction_of, auction_with}
-use Rattle.symbol_core.specs.Kept.{announcing, becoming, brakes, pausing, reopened, reopening, reopening_with, restricting, straddling}
+use Rattle.symbol_core.specs.Kept.{announcing, becoming, brakes, pausing, reopened, reopening, reopening_with, straddling}
 use Rattle.symbol_core.specs.Pricing.{banding}
-use Rattle.symbol_core.specs.Stands.{named, Stands}
+use Rattle.symbol_core.specs.Stands.{named, Stands, triggers_first}
 use Rattle.symbol_core.specs.Window.{window}
 
 -- the kept state that a history tells
@@ -53,16 +53,35 @@ told mine k step h =
       straddling = of.was_straddling h s;
       halted = of.is_under_regulatory_halt h s;
       auction = auction_of h s;
-      triggered = rules.has_triggered (context step.day (named mine s) step.input h);
-      carried = rules.is_carried h mine s;
+      short = record {
+        prior_close = of.prior_close h mine;
+        triggered = rules.triggered_in mine step.day s (records h);
+        carried = rules.is_carried h mine s;
+      };
       left_limit = rules.has_left_limit h s;
       released = rules.released h s;
       deal = k.deal;
       is_fresh = k.is_fresh;
+      restricts = triggers_first (context step.day (named mine s) step.input h);
     }
 
 pub stands-told : (mine : List ℕ → Bool) (k : Kept) (step : Step) (deals : List Deal) (h : List Event) → Stands mine k deals step h → k ≡ told mine k step h
-stands-told mine k step deals h s = rw (← s.auction, ← s.terms, ← s.phase, ← s.since, ← s.begun, ← s.quote, ← s.band, ← s.adopted, ← s.straddling, ← s.halted, ← s.triggered, ← s.carried, ← s.left_limit, ← s.released)
+stands-told mine k step deals h s = λ i. record k {
+  terms = s.terms i;
+  phase = s.phase i;
+  since = s.since i;
+  begun = s.begun i;
+  quote = s.quote i;
+  band = s.band i;
+  adopted = s.adopted i;
+  straddling = s.straddling i;
+  halted = s.halted i;
+  auction = s.auction i;
+  short = record { prior_close = s.prior_close i; triggered = s.triggered i; carried = s.carried i };
+  left_limit = s.left_limit i;
+  released = s.released i;
+  restricts = s.restricts i;
+}
 
 -- a rule that reads the kept state, the moment and the market's halt
 pub by_kept : (rule : Kept → Step → List Message) (mine : List ℕ → Bool) (k : Kept) (step : Step) (deals : List Deal) (h : List Event) → Stands mine k deals step h
@@ -137,6 +156,9 @@ mean-gives k step mine deals h s =
 pub straddle-gives : (k : Kept) (step : Step) (mine : List ℕ → Bool) (deals : List Deal) (h : List Event) → Stands mine k deals step h
     → rules.straddle (context step.day (named mine k.id) step.input h) ≡ straddling k step
 straddle-gives k step mine deals h s = by_kept straddling mine k step deals h s
+
+abbrev pub restricting : Kept → Step → List Message
+restricting k step = if k.restricts then out.Short k.id Triggered ∷ [] else []
 
 pub restrict-gives : (k : Kept) (step : Step) (mine : List ℕ → Bool) (deals : List Deal) (h : List Event) → Stands mine k deals step h
     → rules.restrict (context step.day (named mine k.id) step.input h) ≡ restricting k step

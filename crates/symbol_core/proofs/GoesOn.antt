@@ -9,7 +9,6 @@ use Rattle.price_core.specs.declared.quote.Cause.{Cause}
 use Rattle.limit_core.specs.Timers.{has_lasted}
 use Rattle.wire_out.specs.declared.message.Message.{Message}
 use Rattle.wire_out.specs.declared.message.Message.TheVariants as out
-use Rattle.wire_out.specs.declared.message.ShortKind.TheVariants.{Triggered}
 use Rattle.pause_core.specs.Pauses.{is_asked, is_limited}
 use Rattle.pause_core.specs.Phases.{is_done, is_limit, is_trading}
 use Rattle.refprice_core.specs.declared.reference.Priced.{Priced}
@@ -23,7 +22,7 @@ use Rattle.rulebook.specs.Rules.{asks_to_pause, at_band}
 use Rattle.rulebook.specs.Symbol.{bands_of}
 use Rattle.symbol_core.specs.declared.kept.Kept.{Kept}
 use Rattle.symbol_core.specs.declared.kept.Step.{Step}
-use Rattle.symbol_core.specs.Kept.{auction_begun, collars_of, is_straddling_now, pausing, pausing_as, reopened, reopening, reopening_with, restricting, straddling, triggering}
+use Rattle.symbol_core.specs.Kept.{auction_begun, collars_of, is_straddling_now, pausing, pausing_as, reopened, reopening, reopening_with, straddling}
 use Rattle.symbol_core.specs.Pricing.{band, band_by_time, banding, reference, time_changes}
 use Rattle.symbol_core.specs.Stands.{phase_after}
 use Rattle.symbol_core.proofs.Gives.{entering, leaving}
@@ -97,9 +96,3 @@ straddling-goes_on k step e = by (is_straddling_now k && not k.straddling) (k.st
   by true ends = e
   by false true = e
   by false false = e
-
-pub restricting-goes_on : (k : Kept) (step : Step) → GoesOn k.phase (restricting k step)
-restricting-goes_on k step e = by (triggering k step && not k.triggered) where
-  by : (triggers : Bool) → is_done (phase_after k.phase (if triggers then out.Short k.id Triggered ∷ [] else [])) ≡ false
-  by true = e
-  by false = e

@@ -69,11 +69,13 @@ stands-straddled mine k deals step on h s =
       straddling = sym (ap (λ (o : Option (Found Bool)). option_map_or (λ straddle. straddle.value) o false) last_is);
       halted = s.halted;
       auction = s.auction ∙ ap (λ (o : Option Banded). auction_by (auction.is_paused (of.phase h k.id)) o (auction.last_round h k.id) (auction.origin h k.id) (auction.indication h k.id)) (sym run.band);
+      prior_close = s.prior_close;
       triggered = s.triggered;
       carried = s.carried;
       left_limit = s.left_limit;
       released = s.released;
       deal = s.deal;
+      restricts = s.restricts;
       window = rw run.deals s.window;
     }
   where
@@ -107,11 +109,13 @@ stands-collared mine k deals step number collars a h is s =
       straddling = s.straddling;
       halted = s.halted;
       auction = is;
+      prior_close = s.prior_close;
       triggered = s.triggered;
       carried = s.carried;
       left_limit = s.left_limit;
       released = s.released;
       deal = s.deal;
+      restricts = s.restricts;
       window = rw run.deals s.window;
     }
   where
@@ -172,11 +176,13 @@ stands-released mine k deals step price h s =
       straddling = s.straddling;
       halted = s.halted;
       auction = s.auction ∙ ap (λ (o : Option Banded). auction_by (auction.is_paused (of.phase h k.id)) o (auction.last_round h k.id) (auction.origin h k.id) (auction.indication h k.id)) (sym run.band);
+      prior_close = s.prior_close;
       triggered = s.triggered;
       carried = s.carried;
       left_limit = s.left_limit;
       released = sym (ap (λ (o : Option (Found ℕ)). option_map (λ release. release.value) o) last_is);
       deal = s.deal;
+      restricts = s.restricts;
       window = rw run.deals s.window;
     }
   where
@@ -208,11 +214,13 @@ stands-short mine k deals step kind h s =
       straddling = s.straddling;
       halted = s.halted;
       auction = s.auction ∙ ap (λ (o : Option Banded). auction_by (auction.is_paused (of.phase h k.id)) o (auction.last_round h k.id) (auction.origin h k.id) (auction.indication h k.id)) (sym run.band);
+      prior_close = s.prior_close;
       triggered = s.triggered;
       carried = s.carried;
       left_limit = s.left_limit;
       released = s.released;
       deal = s.deal;
+      restricts = s.restricts;
       window = rw run.deals s.window;
     }
   where
@@ -238,11 +246,13 @@ stands-banded mine k deals step b h unpaused s =
       straddling = s.straddling;
       halted = s.halted;
       auction = none_of k.auction (auction.is_paused (of.phase h k.id)) (ap (λ (p : Phase). auction.is_paused p) (sym s.phase) ∙ unpaused) s.auction ∙ sym (ap (λ (b : Bool). auction_by b (of.last_band (Published m ∷ h) k.id) (auction.last_round h k.id) (auction.origin h k.id) (auction.indication h k.id)) (ap (λ (p : Phase). auction.is_paused p) (sym s.phase) ∙ unpaused));
+      prior_close = s.prior_close;
       triggered = s.triggered;
       carried = s.carried;
       left_limit = s.left_limit;
       released = s.released;
       deal = s.deal;
+      restricts = s.restricts;
       window = rw (deals_is) (subst (λ (own : List Deal). SameLive (now h) ((if (is_some k.begun && restarts k step) || k.is_fresh then [] else deals) ++ own) (if is_some k.begun && restarts k step then deals_in step.day k.id [] (Accepted step.input ∷ []) else deals_of step.day h k.id)) (own_is k.begun (restarts k step)) (window_begins (now h) (is_some k.begun && restarts k step) k.is_fresh deals (option_to_list k.deal) (counted_deal k) (deals_in step.day k.id [] (Accepted step.input ∷ [])) (deals_of step.day h k.id) s.deal s.window));
     }
   where

@@ -65,11 +65,13 @@ stands-turned-with mine k deals step p a h is s =
       straddling = s.straddling;
       halted = s.halted;
       auction = is;
+      prior_close = s.prior_close;
       triggered = s.triggered;
       carried = s.carried;
       left_limit = rw (state-own k.id p, ← s.phase, ← s.left_limit);
       released = s.released;
       deal = s.deal;
+      restricts = s.restricts;
       window = rw (deals_said step.day k.id step.input m h (begins k p) begun_is s.input (λ t r. refl)) (subst (λ (own : List Deal). SameLive (now h) ((if begins k p || k.is_fresh then [] else deals) ++ own) (if begins k p then deals_in step.day k.id [] (Accepted step.input ∷ []) else deals_of step.day h k.id)) (sym (own_is (begins k p))) (window_begins (now h) (begins k p) k.is_fresh deals (option_to_list k.deal) (counted_deal k) (deals_in step.day k.id [] (Accepted step.input ∷ [])) (deals_of step.day h k.id) s.deal s.window));
     }
   where

@@ -15,7 +15,7 @@ use Rattle.symbol_core.specs.declared.kept.Kept.{Kept}
 use Rattle.symbol_core.specs.declared.kept.Step.{Step}
 use Rattle.symbol_core.specs.declared.symbol.MarketView.{MarketView}
 use Rattle.symbol_core.specs.Idle.{IsDue, IsQuiet, IsSettled, Waits, WaitsAt, comes_often, is_out}
-use Rattle.symbol_core.specs.Kept.{announcing, triggering}
+use Rattle.symbol_core.specs.Kept.{announcing}
 use Rattle.symbol_core.specs.Pricing.{reference}
 use Rattle.symbol_core.specs.Stands.{ObeysAll, Says, Speaks, Stands}
 use Rattle.symbol_core.specs.Taken.{finished, taken}
@@ -62,13 +62,13 @@ pub waits-taken : (k : Kept) (step : Step) (o : Option ℕ) → IfSome o (λ unt
 waits-taken k step None w = tt
 waits-taken k step (Some until) w = record { often = w.often; later = w.later; waits = waits_taken k step step.day step.stopped step.moment until step.input refl w.often w.waits }
 
-pub waits-finished : (mid new : Kept) (step : Step) (o : Option ℕ) → new ≡ finished mid step → IfSome o (λ until. WaitsAt mid step until) → IfSome o (λ until. Waits new step.day step.stopped step.moment until)
+pub waits-finished : (mid new : Kept) (step : Step) (o : Option ℕ) → new ≡ finished mid → IfSome o (λ until. WaitsAt mid step until) → IfSome o (λ until. Waits new step.day step.stopped step.moment until)
 waits-finished mid new step None is w = tt
 waits-finished mid new step (Some until) is w = subst (λ (k : Kept). Waits k step.day step.stopped step.moment until) (sym is) (by w.waits) where
-  by : Waits mid step.day step.stopped step.moment until → Waits (finished mid step) step.day step.stopped step.moment until
+  by : Waits mid step.day step.stopped step.moment until → Waits (finished mid) step.day step.stopped step.moment until
   by v = record { closes = v.closes; starts = v.starts; pauses = v.pauses; reopens = v.reopens; bands = v.bands }
 
-pub settled-finished : (mid new : Kept) (step : Step) → new ≡ finished mid step → IsSettled mid step.stopped → IsSettled new step.stopped
+pub settled-finished : (mid new : Kept) (step : Step) → new ≡ finished mid → IsSettled mid step.stopped → IsSettled new step.stopped
 settled-finished mid new step is s =
     subst (λ (k : Kept). IsSettled k step.stopped) (sym is) (record { runs = s.runs; halted = s.halted; stays = s.stays; low = s.low; high = s.high; straddles = s.straddles })
 
@@ -85,7 +85,7 @@ waits-due k deals due step often from until same is inside = record {
 
 -- No rule says anything.
 
-quiet_at : (k : Kept) (deals : List Deal) (step : Step) (until : ℕ) → WaitsAt k step until → IsSettled k step.stopped → reference k step (mean_of (live step.moment (window k deals))) ≡ None → (triggering k step && not k.triggered) ≡ false → IsQuiet k deals step
+quiet_at : (k : Kept) (deals : List Deal) (step : Step) (until : ℕ) → WaitsAt k step until → IsSettled k step.stopped → reference k step (mean_of (live step.moment (window k deals))) ≡ None → k.restricts ≡ false → IsQuiet k deals step
 quiet_at k deals step until w settled prices restricts = record {
   settled = settled;
   closes = w.waits.closes step.moment w.later;
@@ -110,7 +110,7 @@ obeys_quiet k deals step before quiet =
       id = refl;
     }
 
-pub speaks-quiet : (k : Kept) (deals : List Deal) (step : Step) (before : List Message) (o : Option ℕ) → is_some o ≡ true → IfSome o (λ until. WaitsAt k step until) → IsSettled k step.stopped → reference k step (mean_of (live step.moment (window k deals))) ≡ None → (triggering k step && not k.triggered) ≡ false
+pub speaks-quiet : (k : Kept) (deals : List Deal) (step : Step) (before : List Message) (o : Option ℕ) → is_some o ≡ true → IfSome o (λ until. WaitsAt k step until) → IsSettled k step.stopped → reference k step (mean_of (live step.moment (window k deals))) ≡ None → k.restricts ≡ false
     → Speaks deals step k k before before
 speaks-quiet k deals step before None some w settled prices restricts = absurd cc
 speaks-quiet k deals step before (Some until) some w settled prices restricts =

@@ -36,7 +36,7 @@ quoted-due k deals due t quote market is from same settled = λ inside. by (is i
       let waits = idle.waits in
       let rested = idle.rested in
       record {
-        rested = record { left_limit = rested.left_limit; released = rested.released; deal = rested.deal; is_fresh = rested.is_fresh };
+        rested = record { left_limit = rested.left_limit; released = rested.released; deal = rested.deal; is_fresh = rested.is_fresh; restricts = rested.restricts };
         settled = subst (λ (m : MarketView). IsSettled (with_quote k (Some quote)) m.stopped) same settled;
         waits = record {
           closes = waits.closes;
@@ -68,7 +68,7 @@ module _ (market : MarketView) (t i y z : ℕ) (bid offer : Option ℕ) (k : Kep
   with_it = with_quote k (Some quote)
 
   rested : IsRested with_it
-  rested = record { left_limit = idle.rested.left_limit; released = idle.rested.released; deal = idle.rested.deal; is_fresh = idle.rested.is_fresh }
+  rested = record { left_limit = idle.rested.left_limit; released = idle.rested.released; deal = idle.rested.deal; is_fresh = idle.rested.is_fresh; restricts = idle.rested.restricts }
 
   -- the kept state once the quotation is taken in
   took : with_it ≡ taken k step
@@ -78,6 +78,7 @@ module _ (market : MarketView) (t i y z : ℕ) (bid offer : Option ℕ) (k : Kep
     released = idle.rested.released j;
     deal = idle.rested.deal j;
     is_fresh = idle.rested.is_fresh j;
+    restricts = idle.rested.restricts j;
   }
 
   abbrev stayed : List Deal
@@ -98,7 +99,7 @@ module _ (market : MarketView) (t i y z : ℕ) (bid offer : Option ℕ) (k : Kep
 
   keeps : SameLive t (live t deals) (window (taken k step) stayed)
   keeps =
-      subst (λ (ds : List Deal). SameLive t (live t deals) ds) (sym (window_rested (taken k step) stayed (record { left_limit = refl; released = refl; deal = refl; is_fresh = refl }) ∙ all))
+      subst (λ (ds : List Deal). SameLive t (live t deals) ds) (sym (window_rested (taken k step) stayed (record { left_limit = refl; released = refl; deal = refl; is_fresh = refl; restricts = refl }) ∙ all))
       (record { at = λ u le. refl })
 
   pub quote-steps : (before : List Message) → Steps step k with_it deals (live t deals) before before

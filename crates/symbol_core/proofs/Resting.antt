@@ -20,6 +20,7 @@ use Rattle.wire_in.proofs.RecordKinds.{by_listing}
 use Rattle.rulebook.specs.declared.event.Event.{Event}
 use Rattle.rulebook.specs.declared.event.Event.TheVariants.{Accepted, Published}
 use Rattle.rulebook.specs.declared.symbol.Banded.{Banded}
+use Rattle.rulebook.specs.declared.symbol.Terms.{Terms}
 use Rattle.rulebook.specs.Auction as auction
 use Rattle.rulebook.specs.History.{Found, last, newest, now, publish, records, step_record, today}
 use Rattle.rulebook.specs.Market.{day_record}
@@ -55,6 +56,7 @@ rests-message mine held m h q r =
       straddling = r.straddling ∙ sym (ap (λ (o : Option (Found Bool)). option_map_or (λ straddle. straddle.value) o false) (last-other (of.straddle_of s) m (today h) q.straddle));
       halted = r.halted;
       auction = r.auction ∙ (λ i. auction_by (auction.is_paused (sym phase_is i)) (sym band_is i) (sym round_is i) (origin_is i) (indication_is i));
+      prior_close = r.prior_close;
       triggered = r.triggered;
       carried = r.carried;
       deals = subst (λ (ds : List Deal). SameLive (now h) held.deals ds) (sym (deals_stay (day_record (records h)))) r.deals;
@@ -116,6 +118,7 @@ rests-same mine k deals other h same r =
       straddling = r.straddling;
       halted = r.halted;
       auction = r.auction;
+      prior_close = r.prior_close;
       triggered = r.triggered;
       carried = r.carried;
       deals = same_then (now h) other deals (deals_today k.id h) same r.deals;
@@ -136,6 +139,7 @@ rests-record mine held x h not_day o same r =
       straddling = along (λ t. held.kept.straddling ≡ option_map_or (λ straddle. straddle.value) (last (of.straddle_of s) t) false) r.straddling;
       halted = along (λ t. held.kept.halted ≡ is_under_regulatory_halt_in s (records t)) (r.halted ∙ sym (halted-taken s x (records (today h)) ∙ halted-others s x (is_under_regulatory_halt_in s (records (today h))) o.symbol));
       auction = along (λ t. held.kept.auction ≡ auction_since s t) (r.auction ∙ sym (auction-taken s x (today h) ∙ ap (λ (i : Option Indication). heard i (auction_since s (today h))) (indicated-others s x o.symbol)));
+      prior_close = r.prior_close ∙ ap (λ (o : Option Terms). of.prior_close_of o) (sym (terms-others mine x (records h) not_day o.name));
       triggered =
           r.triggered
           ∙ sym (triggered_stays (day_record (records h)))
@@ -177,7 +181,7 @@ rests-apart mine held x others h not_day o q later r =
 
 -- A new day: nothing is kept but whether the day before triggered.
 pub rests-day : (mine : List ℕ → Bool) (held : Held) (t : ℕ) (day : Day) (index : ℕ) (h : List Event) → Rests mine held h
-    → Rests mine (record { kept = renewed held.kept.id held.kept.triggered; deals = [] }) (Accepted (in_.Day t day index) ∷ h)
+    → Rests mine (record { kept = renewed held.kept.id held.kept.short.triggered; deals = [] }) (Accepted (in_.Day t day index) ∷ h)
 rests-day mine held t day index h r =
     record {
       terms = refl;
@@ -190,6 +194,7 @@ rests-day mine held t day index h r =
       straddling = refl;
       halted = refl;
       auction = refl;
+      prior_close = refl;
       triggered = refl;
       carried = r.triggered;
       deals = record { at = λ u le. refl };
@@ -197,9 +202,9 @@ rests-day mine held t day index h r =
 
 -- the same of a record that is a day
 pub rests-renewed : (mine : List ℕ → Bool) (held : Held) (x : Record) (h : List Event) → is_day x ≡ true → Rests mine held h
-    → Rests mine (record { kept = renewed held.kept.id held.kept.triggered; deals = [] }) (Accepted x ∷ h)
+    → Rests mine (record { kept = renewed held.kept.id held.kept.short.triggered; deals = [] }) (Accepted x ∷ h)
 rests-renewed mine held x h e r =
-    by_listing (λ y. is_day y ≡ true → Rests mine (record { kept = renewed held.kept.id held.kept.triggered; deals = [] }) (Accepted y ∷ h))
+    by_listing (λ y. is_day y ≡ true → Rests mine (record { kept = renewed held.kept.id held.kept.short.triggered; deals = [] }) (Accepted y ∷ h))
     (λ t d c e. rests-day mine held t d c h r) (λ t n k l c e. cc) (λ y o e. let both : true ≡ false = sym e ∙ o.no_day in cc) x e
 
 -- Before its first listing a symbol has said nothing.
@@ -217,6 +222,7 @@ rests-empty mine s =
       straddling = refl;
       halted = refl;
       auction = refl;
+      prior_close = refl;
       triggered = refl;
       carried = refl;
       deals = record { at = λ u le. refl };

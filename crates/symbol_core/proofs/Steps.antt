@@ -61,11 +61,13 @@ stands-same mine k deals other step h same s =
       straddling = s.straddling;
       halted = s.halted;
       auction = s.auction;
+      prior_close = s.prior_close;
       triggered = s.triggered;
       carried = s.carried;
       left_limit = s.left_limit;
       released = s.released;
       deal = s.deal;
+      restricts = s.restricts;
       window =
           same_then (now h) (window k other) (window k deals) (deals_of step.day h k.id)
           (same_kept (now h) k.is_fresh other deals (counted_deal k) (subst (λ (t : ℕ). SameLive t other deals) s.moment same)) s.window;
@@ -79,7 +81,7 @@ pub record Parts (step : Step) (k said mid : Kept) (kept dropped left : List Dea
   pub keeps : SameLive step.moment left ((if mid.is_fresh then [] else dropped) ++ (if is_some mid.begun then option_to_list (taken k step).deal else []))
 
 evaluated : (step : Step) (k said mid : Kept) (kept dropped left : List Deal) (before between after : List Message) → Parts step k said mid kept dropped left before between after
-    → Steps step k (finished mid step) kept left before after
+    → Steps step k (finished mid) kept left before after
 evaluated step k said mid kept dropped left before between after parts =
     record {
       says = λ mine others h p.
@@ -97,7 +99,7 @@ evaluated step k said mid kept dropped left before between after parts =
           subst (Stands mine mid dropped step) (sym (publish-append ms (all_obeyed step.day (named mine k.id) step.input symbol_rules (publish ms H)) H))
           (subst (λ (i : ℕ). Stands mine mid dropped step (publish (all_obeyed step.day (named mine i) step.input symbol_rules (publish ms H)) (publish ms H))) a.id (o.stands mine (publish ms H) (opened mine others h p))) in
           let same : option_to_list mid.deal ≡ option_to_list (taken k step).deal = t.deal ∙ ap (λ (i : ℕ). deals_in step.day i [] (Accepted step.input ∷ [])) (o.id ∙ a.id) ∙ sym (own-taken step.day k.id step.input) in
-          rests-finished mine mid dropped left step p.index all p.no_day (day_opened mine step k kept others h p (step_of step.day (named mine k.id) step.input H))
+          rests-finished mine mid dropped left step p.index all (day_opened mine step k kept others h p (step_of step.day (named mine k.id) step.input H))
           (subst (λ (own : List Deal). SameLive step.moment left ((if mid.is_fresh then [] else dropped) ++ (if is_some mid.begun then own else []))) (sym same) parts.keeps) t;
       id = o.id ∙ a.id;
     }
@@ -124,7 +126,7 @@ pub step-evaluates : (step : Step) (k said mid took new : Kept) (kept stayed dro
     → Says (announcing took step.input) step took said before between
     → ObeysAll lent symbol_rules step said mid between after
     → SameLive step.moment left ((if mid.is_fresh then [] else dropped) ++ (if is_some mid.begun then option_to_list took.deal else []))
-    → new ≡ finished mid step
+    → new ≡ finished mid
     → Steps step k new kept left before after
 step-evaluates step k said mid took new kept stayed dropped lent left before between after s d l t a o f n =
     subst (λ (m : Kept). Steps step k m kept left before after) (sym n)

@@ -1,6 +1,6 @@
 -- Taking a record in: the kept state that the code leaves stands for the history with it.
 use Rattle.std.proofs.Common.{◌≡◌, ℕ, ◌+◌, ◌≤◌, Bool, true, false, List, [], ◌∷◌, ◌++◌, refl, sym, ap, ◌∙◌, subst, arith}
-use Rattle.std.specs.Prelude.{Option, Some, None, if◌then◌else◌, option_map, unwrap_or, ◌&&◌, ◌==◌, is_some, filter, option_to_list}
+use Rattle.std.specs.Prelude.{Option, Some, None, if◌then◌else◌, option_map, unwrap_or, ◌&&◌, ◌||◌, ◌==◌, not, is_some, filter, option_to_list}
 use Rattle.std.specs.Option.{option_map_or}
 use Rattle.std.proofs.lemmas.List.Elements.{filter-append}
 use Rattle.session_core.specs.declared.day.Day.{Day}
@@ -27,7 +27,7 @@ use Rattle.symbol_core.specs.declared.kept.Step.{Step}
 use Rattle.symbol_core.specs.Auctions.{auction_by}
 use Rattle.symbol_core.specs.Kept.{heard, quoted_by}
 use Rattle.symbol_core.specs.Rests.{Rests}
-use Rattle.symbol_core.specs.Taken.{halted_by, listed_by, deal_of, leaves, taken}
+use Rattle.symbol_core.specs.Taken.{halted_by, listed_by, deal_of, leaves, prior_close_by, taken, triggers_by}
 use Rattle.symbol_core.specs.Stands.{Stands}
 use Rattle.symbol_core.specs.Window.{SameLive}
 use Rattle.window_core.specs.Deals.{live, is_live}
@@ -36,6 +36,9 @@ use Rattle.wire_in.specs.declared.record.NoticeKind.TheVariants as notice
 use Rattle.wire_in.specs.declared.record.Record.TheVariants as in_
 use Rattle.rulebook.specs.Auction as auction
 use Rattle.rulebook.specs.Rules as rules
+use Rattle.rulebook.proofs.OtherRecords.{leaves as as_before}
+use Rattle.short_core.specs.Restriction as restriction
+use Rattle.wire_in.proofs.RecordKinds.{by_listing}
 use Rattle.rulebook.specs.Symbol as of
 use Rattle.window_core.proofs.Deals.{filter_swap}
 use Rattle.symbol_core.proofs.Cancels.{append_none, deals-taken}
@@ -114,6 +117,38 @@ auction-taken s x t =
     (run_taken (λ r. option_map (λ b. b.value) (last (of.band_of s) r)) x (of.run_in s t) (λ r. refl))
     ∙ heard_by (indicated_by s x) (auction.indication_in s t) (auction.is_paused (of.phase_in s t)) (option_map (λ b. b.value) (last (of.band_of s) (unwrap_or (of.run_in s t) []))) (option_map auction.round_of (last (auction.collar_of s) t)) (auction.origin_in s t)
 
+pub prior_close-taken : (x : Record) (o : Option Terms) → prior_close_by x (of.prior_close_of o) ≡ of.prior_close_of (listed_by x o)
+prior_close-taken (in_.Day t d c) o = refl
+prior_close-taken (in_.Listing t n k l c) o = refl
+prior_close-taken (in_.Trade t i n p q f) o = refl
+prior_close-taken (in_.Cancel t i n) o = refl
+prior_close-taken (in_.Quote t i b p x y) o = refl
+prior_close-taken (in_.IndexTick t v) o = refl
+prior_close-taken (in_.Clock t) o = refl
+prior_close-taken (in_.Notice t i k) o = refl
+prior_close-taken (in_.Indication t i p u) o = refl
+
+-- the step's deal triggers what its trade triggers
+triggers-traded : (day : Day) (s : ℕ) (x : Record) (o : Option Terms) → triggers_by (of.prior_close_of o) (deal_of day s x) ≡ rules.triggers day s x o
+triggers-traded day s (in_.Day t d c) o = refl
+triggers-traded day s (in_.Listing t n k l c) o = refl
+triggers-traded day s (in_.Trade t i n p q f) o = by ((i == s) && eligible f t day) where
+  by : (v : Bool) → triggers_by (of.prior_close_of o) (if v then Some (record { moment = t; number = n; price = p }) else None) ≡ option_map_or (restriction.triggers (of.prior_close_of o)) (if v then Some p else None) false
+  by true = refl
+  by false = refl
+triggers-traded day s (in_.Cancel t i n) o = refl
+triggers-traded day s (in_.Quote t i b p x y) o = refl
+triggers-traded day s (in_.IndexTick t v) o = refl
+triggers-traded day s (in_.Clock t) o = refl
+triggers-traded day s (in_.Notice t i k) o = refl
+triggers-traded day s (in_.Indication t i p u) o = refl
+
+-- a listing triggers nothing
+triggers-same : (mine : List ℕ → Bool) (day : Day) (s : ℕ) (x : Record) (r : List Record) → rules.triggers day s x (terms_in mine (x ∷ r)) ≡ rules.triggers day s x (terms_in mine r)
+triggers-same mine day s x r =
+    by_listing (λ y. rules.triggers day s y (terms_in mine (y ∷ r)) ≡ rules.triggers day s y (terms_in mine r)) (λ t d c. refl) (λ t n k l c. refl)
+    (λ y o. ap (rules.triggers day s y) ((as_before y r o).terms mine)) x
+
 -- the window of a history with one more record, where x's cancellation is carried out
 window_taken : (day : Day) (s : ℕ) (x : Record) (t u : ℕ) (end : ℕ) (kept own : List Deal) (o : Option (List Event)) → t ≤ u → own ≡ deals_in day s [] (Accepted x ∷ [])
     → SameLive t kept (deals_in day s [] (counted_in day s end (unwrap_or o [])))
@@ -152,17 +187,35 @@ stands-taken mine k kept step index h not_day name day s at stopped later =
       straddling = along (λ t. k.straddling ≡ option_map_or (λ straddle. straddle.value) (last (of.straddle_of k.id) t) false) s.straddling;
       halted = along (λ t. halted_by k.id x k.halted ≡ is_under_regulatory_halt_in k.id (records t)) (ap (λ (b : Bool). halted_by k.id x b) s.halted ∙ sym (halted-taken k.id x (records (today h))));
       auction = along (λ t. heard (indicated_by k.id x) k.auction ≡ auction_since k.id t) (ap (heard (indicated_by k.id x)) s.auction ∙ sym (auction-taken k.id x (today h)));
-      triggered = s.triggered ∙ ap (λ (o : Option (Day × ℕ)). option_map_or (λ d. rules.triggered_in mine d.0 k.id (records h)) o false) day;
+      prior_close = prior_close_is;
+      triggered =
+          ap (λ (b : Bool). b || k.short.triggered) triggers_is
+          ∙ (λ i. triggers-same mine step.day k.id x (records h) i || before_is i)
+          ∙ ap (λ (b : Bool). if b then false else rules.triggers step.day k.id x (terms_in mine (records h)) || rules.triggered_in mine step.day k.id (records h)) (sym not_day);
       carried = s.carried ∙ ap (λ (b : Bool). let part = (if b then records h else rules.before_day (records h)) in option_map_or (λ day. rules.triggered_in mine day.0 k.id part) (day_record part) false) (sym not_day);
       left_limit = refl;
       released = refl;
       deal = own-taken step.day k.id x;
+      restricts = λ i. triggers_is i && not (before_is i);
       window = along (λ t. SameLive (moment_of x) (filter (leaves k.id x) kept ++ (if is_some k.begun then option_to_list (deal_of step.day k.id x) else [])) (deals_in step.day k.id [] (counted_in step.day k.id (unwrap_or (of.begun_in k.id t) 0 + five_minutes) (unwrap_or (of.run_in k.id t) []))))
           (rw has_run (window_taken step.day k.id x (now h) (moment_of x) (of.begun h k.id + five_minutes) kept (option_to_list (deal_of step.day k.id x)) (of.run_in k.id (today h)) (rw at at later) (own-taken step.day k.id x) kept_live));
     }
   where
     x : Record
     x = step.input
+
+    prior_close_is : prior_close_by x k.short.prior_close ≡ of.prior_close (Accepted x ∷ h) mine
+    prior_close_is =
+        ap (λ (o : Option ℕ). prior_close_by x o) s.prior_close ∙ prior_close-taken x (terms_in mine (records h))
+        ∙ ap (λ (o : Option Terms). of.prior_close_of o) (terms-taken mine x (records h) not_day name)
+
+    triggers_is : triggers_by (prior_close_by x k.short.prior_close) (deal_of step.day k.id x) ≡ rules.triggers step.day k.id x (terms_in mine (x ∷ records h))
+    triggers_is =
+        ap (λ (o : Option ℕ). triggers_by o (deal_of step.day k.id x)) prior_close_is
+        ∙ triggers-traded step.day k.id x (terms_in mine (x ∷ records h))
+
+    before_is : k.short.triggered ≡ rules.triggered_in mine step.day k.id (records h)
+    before_is = s.triggered ∙ ap (λ (o : Option (Day × ℕ)). option_map_or (λ d. rules.triggered_in mine d.0 k.id (records h)) o false) day
 
     today_is : today (Accepted x ∷ h) ≡ Accepted x ∷ today h
     today_is = ap (λ (b : Bool). if b then Accepted x ∷ [] else Accepted x ∷ today h) not_day

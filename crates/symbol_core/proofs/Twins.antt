@@ -39,7 +39,7 @@ use Rattle.symbol_core.specs.declared.kept.Kept.{Kept}
 use Rattle.symbol_core.specs.declared.kept.Step.{Step}
 use Rattle.symbol_core.specs.declared.symbol.MarketView.{MarketView}
 use Rattle.symbol_core.specs.Evaluates.{Opens, open_history, part_of, step_of}
-use Rattle.symbol_core.specs.Kept.{announcing, auction_begun, banded, becoming, begins_auction, brakes, collars_of, in_round, is_straddling_now, pause_now, pausing, pausing_as, released, reopened, reopening, reopening_with, restricting, straddled, straddling, triggering, turned, with_auction}
+use Rattle.symbol_core.specs.Kept.{announcing, auction_begun, banded, becoming, begins_auction, brakes, collars_of, in_round, is_straddling_now, pause_now, pausing, pausing_as, released, reopened, reopening, reopening_with, straddled, straddling, turned, with_auction}
 use Rattle.symbol_core.specs.Pricing.{band, band_by_time, banding, reference, time_changes}
 use Rattle.symbol_core.specs.Rests.{Held, Rests}
 use Rattle.symbol_core.specs.Stands.{named, Stands}
@@ -49,7 +49,7 @@ use Rattle.symbol_core.specs.Window.{window}
 use Rattle.symbol_core.proofs.Apart.{stands-listed}
 use Rattle.symbol_core.proofs.Evaluated.{away, away-open, evaluated-away, starts, step_for}
 use Rattle.symbol_core.proofs.Finished.{rests-finished}
-use Rattle.symbol_core.proofs.Gives.{announced-gives, banding-gives, enter-gives, entering, leave-gives, leaving, mean-gives, pause-gives, reopen-gives, restrict-gives, straddle-gives, turned-gives}
+use Rattle.symbol_core.proofs.Gives.{announced-gives, banding-gives, enter-gives, entering, leave-gives, leaving, mean-gives, pause-gives, reopen-gives, restrict-gives, restricting, straddle-gives, turned-gives}
 use Rattle.symbol_core.proofs.Messages.{stands-banded, stands-released, stands-short, stands-straddled, stands-with_round}
 use Rattle.symbol_core.proofs.Pauses.{Unpaused, alone, close-unpaused, halt-unpaused, priced-unpaused, start-unpaused, stop-unpaused, trading-unpaused}
 use Rattle.symbol_core.proofs.Phases.{stands-paused, stands-turned}
@@ -155,13 +155,13 @@ straddling_said k step =
     (λ else_so. said_if step (k.straddling && not (is_straddling_now k)) (out.Straddle k.id false ∷ []) [] k (λ so. straddle_said k step false) (λ else_so. none_said step k))
 
 restricting_said : (k : Kept) (step : Step) → Said step (restricting k step) k
-restricting_said k step = said_if step (triggering k step && not k.triggered) (out.Short k.id Triggered ∷ []) [] k (λ so. short_said k step Triggered) (λ else_so. none_said step k)
+restricting_said k step = said_if step k.restricts (out.Short k.id Triggered ∷ []) [] k (λ so. short_said k step Triggered) (λ else_so. none_said step k)
 
 announcing_said : (k : Kept) (step : Step) (x : Record) → Said step (announcing k x) k
 unfolding listed_said
 announcing_said k step (in_.Day t d c) = none_said step k
 announcing_said k step (in_.Listing t name n l c) =
-    said_if step k.carried (out.Listed k.id name ∷ out.Short k.id Carried ∷ []) (out.Listed k.id name ∷ []) k
+    said_if step k.short.carried (out.Listed k.id name ∷ out.Short k.id Carried ∷ []) (out.Listed k.id name ∷ []) k
     (λ so. then_said step (out.Listed k.id name) (out.Short k.id Carried ∷ []) k (listed_said k step name) (short_said k step Carried)) (λ else_so. listed_said k step name)
 announcing_said k step (in_.Trade t i n p q f) = none_said step k
 announcing_said k step (in_.Cancel t i n) = none_said step k
@@ -345,10 +345,10 @@ step_twins mine other step k kept others more h g p q =
     record {
       same = both.same;
       twins = record {
-        held = record { kept = finished both.new step; deals = window both.new dropped };
+        held = record { kept = finished both.new; deals = window both.new dropped };
         id = both.id;
-        one = rests-finished mine both.new dropped (window both.new dropped) step p.index (publish ms (open_history step.input others h)) p.no_day (day_opened mine step k kept others h p ms) (record { at = λ u le. refl }) both.one;
-        two = rests-finished other both.new dropped (window both.new dropped) step q.index (publish ns (open_history step.input more g)) q.no_day (day_opened other step k kept more g q ns) (record { at = λ u le. refl }) both.two;
+        one = rests-finished mine both.new dropped (window both.new dropped) step p.index (publish ms (open_history step.input others h)) (day_opened mine step k kept others h p ms) (record { at = λ u le. refl }) both.one;
+        two = rests-finished other both.new dropped (window both.new dropped) step q.index (publish ns (open_history step.input more g)) (day_opened other step k kept more g q ns) (record { at = λ u le. refl }) both.two;
       };
     }
 
@@ -390,7 +390,7 @@ twins-step mine other market x s held others more h g is p q =
 pub twins-day : (mine other : List ℕ → Bool) (s : ℕ) (x : Record) (h g : List Event) → is_day x ≡ true → Twins mine other s h g → Twins mine other s (Accepted x ∷ h) (Accepted x ∷ g)
 twins-day mine other s x h g e t =
     record {
-      held = record { kept = renewed t.held.kept.id t.held.kept.triggered; deals = [] };
+      held = record { kept = renewed t.held.kept.id t.held.kept.short.triggered; deals = [] };
       id = t.id;
       one = rests-renewed mine t.held x h e t.one;
       two = rests-renewed other t.held x g e t.two;

@@ -32,7 +32,7 @@ use Rattle.rulebook.proofs.Histories.{now-publish}
 use Rattle.rulebook.specs.Book.{Named, all_obeyed, announced, context, obeyed, symbol_rules}
 use Rattle.rulebook.specs.History.{publish}
 use Rattle.rulebook.specs.Rules as rules
-use Rattle.rulebook.specs.Rules.{Context, asks_to_pause, at_band, triggers}
+use Rattle.rulebook.specs.Rules.{Context, asks_to_pause, at_band}
 use Rattle.rulebook.specs.Symbol.{phase, terms}
 use Rattle.symbol_core.specs.declared.due.Due.{Due}
 use Rattle.symbol_core.specs.declared.kept.Kept.{Kept}
@@ -61,7 +61,6 @@ record OfNone (s : ℕ) (x : Record) : Type 0 where
   pub others : (mine : List ℕ → Bool) → IsOfOthers mine s x
   pub announces : (n : Named) (h : List Event) → announced n x h ≡ []
   pub asks : asks_to_pause s x ≡ false
-  pub triggers : (day : Day) (listed : Option Terms) → triggers day s x listed ≡ false
   pub cancels : cancelled_by s x ≡ None
   pub takes : (k : Kept) (step : Step) → k.id ≡ s → step.input ≡ x → IsRested k → taken k step ≡ k
 
@@ -76,19 +75,17 @@ tick_of_none s x e =
       others = λ mine. record { symbol = refl; name = refl };
       announces = λ n h. refl;
       asks = refl;
-      triggers = λ day listed. refl;
       cancels = refl;
       takes = λ k step is input r. (λ i. taken k (record step { input = input i }))
-          ∙ (λ i. record k { quote = quote_stays (is_some k.begun) k.quote i; left_limit = sym r.left_limit i; released = sym r.released i; deal = sym r.deal i; is_fresh = sym r.is_fresh i });
+          ∙ (λ i. record k { quote = quote_stays (is_some k.begun) k.quote i; left_limit = sym r.left_limit i; released = sym r.released i; deal = sym r.deal i; is_fresh = sym r.is_fresh i; restricts = sym r.restricts i });
     })
     (λ t v. record {
       others = λ mine. record { symbol = refl; name = refl };
       announces = λ n h. refl;
       asks = refl;
-      triggers = λ day listed. refl;
       cancels = refl;
       takes = λ k step is input r. (λ i. taken k (record step { input = input i }))
-          ∙ (λ i. record k { quote = quote_stays (is_some k.begun) k.quote i; left_limit = sym r.left_limit i; released = sym r.released i; deal = sym r.deal i; is_fresh = sym r.is_fresh i });
+          ∙ (λ i. record k { quote = quote_stays (is_some k.begun) k.quote i; left_limit = sym r.left_limit i; released = sym r.released i; deal = sym r.deal i; is_fresh = sym r.is_fresh i; restricts = sym r.restricts i });
     }) x e
 
 -- Where no rule says anything, the symbol stays as it is.
@@ -260,7 +257,7 @@ idle_quiet k deals due step idle tick from until day stopped =
       reopens = waits.reopens step.moment early;
       prices = ap (λ (ds : List Deal). reference k step (mean_of (live step.moment ds))) (window_rested k deals idle.rested) ∙ idle.prices step tick from until;
       bands = waits.bands step day from early;
-      restricts = ap (λ (b : Bool). b && not k.triggered) (of_none.triggers step.day k.terms);
+      restricts = idle.rested.restricts;
     }
   where
     waits : Waits k due.market.day due.market.stopped due.from due.waits
@@ -352,6 +349,6 @@ due-unlisted k deals due e = λ inside. absurd (by (is_done k.phase) (is_some k.
   by false true e f = cc
   by false false e f = cc
 
-pub rested-finished : (old new : Kept) (step : Step) → new ≡ finished old step → IsRested new
-rested-finished old new step e =
-    record { left_limit = ap (λ (k : Kept). k.left_limit) e; released = ap (λ (k : Kept). k.released) e; deal = ap (λ (k : Kept). k.deal) e; is_fresh = ap (λ (k : Kept). k.is_fresh) e }
+pub rested-finished : (old new : Kept) → new ≡ finished old → IsRested new
+rested-finished old new e =
+    record { left_limit = ap (λ (k : Kept). k.left_limit) e; released = ap (λ (k : Kept). k.released) e; deal = ap (λ (k : Kept). k.deal) e; is_fresh = ap (λ (k : Kept). k.is_fresh) e; restricts = ap (λ (k : Kept). k.restricts) e }

@@ -19,7 +19,7 @@ use Rattle.rulebook.specs.Rules.{asks_to_pause, at_band}
 use Rattle.symbol_core.specs.declared.due.Due.{Due}
 use Rattle.symbol_core.specs.declared.kept.Kept.{Kept}
 use Rattle.symbol_core.specs.declared.kept.Step.{Step}
-use Rattle.symbol_core.specs.Kept.{is_straddling_now, triggering, with_quote}
+use Rattle.symbol_core.specs.Kept.{is_straddling_now, with_quote}
 use Rattle.symbol_core.specs.Pricing.{adoption, reference, time_changes}
 use Rattle.symbol_core.specs.Rests.{Held}
 use Rattle.symbol_core.specs.Window.{window}
@@ -30,6 +30,7 @@ pub record IsRested (k : Kept) : Type 0 where
   pub released : k.released ≡ None
   pub deal : k.deal ≡ None
   pub is_fresh : k.is_fresh ≡ false
+  pub restricts : k.restricts ≡ false
 
 -- in a limit state whose band the quotation has left
 abbrev pub leaves_limit : Kept → Bool
@@ -96,7 +97,7 @@ pub record IsQuiet (k : Kept) (deals : List Deal) (step : Step) : Type 0 where
   pub reopens : reopens_at k step.moment ≡ false
   pub prices : reference k step (mean_of (live step.moment (window k deals))) ≡ None
   pub bands : changes_bands k step ≡ false
-  pub restricts : (triggering k step && not k.triggered) ≡ false
+  pub restricts : k.restricts ≡ false
 
 -- a quotation, a trade, a clock or an index tick
 abbrev pub comes_often : Record → Bool

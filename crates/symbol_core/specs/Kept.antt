@@ -10,7 +10,7 @@ use Rattle.wire_in.specs.declared.record.Record.{Record}
 use Rattle.wire_in.specs.declared.record.Record.TheVariants as in_
 use Rattle.wire_out.specs.declared.message.Message.{Message}
 use Rattle.wire_out.specs.declared.message.Message.TheVariants as out
-use Rattle.wire_out.specs.declared.message.ShortKind.TheVariants.{Carried, Triggered}
+use Rattle.wire_out.specs.declared.message.ShortKind.TheVariants.{Carried}
 use Rattle.limit_core.specs.Limits.{straddles}
 use Rattle.limit_core.specs.Timers.{has_lasted}
 use Rattle.pause_core.specs.declared.turning.Brakes.{Brakes}
@@ -24,7 +24,7 @@ use Rattle.reopen_core.specs.AuctionState.{AuctionState, begun, with_indication,
 use Rattle.reopen_core.specs.Trials as trials
 use Rattle.rulebook.specs.declared.symbol.Banded.{Banded}
 use Rattle.rulebook.specs.Auction.{is_paused, indicated_by, origin_of}
-use Rattle.rulebook.specs.Rules.{asks_to_pause, collar, meets, triggers}
+use Rattle.rulebook.specs.Rules.{asks_to_pause, collar, meets}
 use Rattle.rulebook.specs.Symbol.{is_times, opens_before}
 use Rattle.symbol_core.specs.declared.kept.Kept.{Kept}
 use Rattle.symbol_core.specs.declared.kept.Step.{Step}
@@ -148,14 +148,8 @@ straddling k step =
     else if k.straddling && not (is_straddling_now k) then out.Straddle k.id false ∷ []
     else []
 
-abbrev pub triggering : Kept → Step → Bool
-triggering k step = triggers step.day k.id step.input k.terms
-
-abbrev pub restricting : Kept → Step → List Message
-restricting k step = if triggering k step && not k.triggered then out.Short k.id Triggered ∷ [] else []
-
 abbrev pub announcing_name : Kept → List ℕ → List Message
-announcing_name k name = if k.carried then out.Listed k.id name ∷ out.Short k.id Carried ∷ [] else out.Listed k.id name ∷ []
+announcing_name k name = if k.short.carried then out.Listed k.id name ∷ out.Short k.id Carried ∷ [] else out.Listed k.id name ∷ []
 
 abbrev pub announcing : Kept → Record → List Message
 announcing k (in_.Listing t name tier l c) = announcing_name k name

@@ -38,6 +38,7 @@ pub record Rests (own : List ℕ → Bool) (held : Held) (h : List Event) : Type
   pub straddling : held.kept.straddling ≡ of.was_straddling h held.kept.id
   pub halted : held.kept.halted ≡ of.is_under_regulatory_halt h held.kept.id
   pub auction : held.kept.auction ≡ auction_of h held.kept.id
-  pub triggered : held.kept.triggered ≡ triggered_today own held.kept.id h
-  pub carried : held.kept.carried ≡ rules.is_carried h own held.kept.id
+  pub prior_close : held.kept.short.prior_close ≡ of.prior_close h own
+  pub triggered : held.kept.short.triggered ≡ triggered_today own held.kept.id h
+  pub carried : held.kept.short.carried ≡ rules.is_carried h own held.kept.id
   pub deals : SameLive (now h) held.deals (deals_today held.kept.id h)

@@ -1,5 +1,5 @@
 -- What the kept state is of an open history, and what the functions of the code do to it.
-use Rattle.std.specs.Prelude.{◌≡◌, ℕ, Bool, false, Some, List, [], ◌∷◌, ◌++◌, option_to_list}
+use Rattle.std.specs.Prelude.{◌≡◌, ℕ, Bool, false, Some, List, [], ◌∷◌, ◌++◌, ◌&&◌, not, option_to_list}
 use Rattle.session_core.specs.declared.state.Phase.{Phase}
 use Rattle.wire_out.specs.declared.message.Message.{Message}
 use Rattle.wire_out.specs.declared.message.Message.TheVariants.{State}
@@ -8,7 +8,7 @@ use Rattle.window_core.specs.declared.window.Deal.{Deal}
 use Rattle.rulebook.specs.declared.event.Event.{Event}
 use Rattle.rulebook.specs.declared.event.Event.TheVariants.{Accepted}
 use Rattle.rulebook.specs.Book.{Named, context, obeyed, all_obeyed, symbol_rules}
-use Rattle.rulebook.specs.History.{now, newest, today, publish}
+use Rattle.rulebook.specs.History.{now, newest, records, today, publish}
 use Rattle.rulebook.specs.Market.{is_market_halted}
 use Rattle.rulebook.specs.Rules as rules
 use Rattle.rulebook.specs.Rules.{Context}
@@ -23,6 +23,10 @@ use Rattle.symbol_core.specs.Window.{SameLive, window}
 -- the symbol of an id whose names are those of a test
 abbrev pub named : (List ℕ → Bool) → ℕ → Named
 named own s = record { symbol = s; own = own }
+
+-- whether the open step's record is the first of today that triggers the short sale restriction
+abbrev pub triggers_first : Context → Bool
+triggers_first c = rules.triggers c.day c.symbol c.newest (of.terms c.history c.own) && not (rules.has_triggered c)
 
 -- the kept state, the kept deals and the step are what the open history says of the symbol
 pub record Stands (own : List ℕ → Bool) (k : Kept) (deals : List Deal) (step : Step) (h : List Event) : Type 0 where
@@ -39,11 +43,13 @@ pub record Stands (own : List ℕ → Bool) (k : Kept) (deals : List Deal) (step
   pub straddling : k.straddling ≡ of.was_straddling h k.id
   pub halted : k.halted ≡ of.is_under_regulatory_halt h k.id
   pub auction : k.auction ≡ auction_of h k.id
-  pub triggered : k.triggered ≡ rules.has_triggered (context step.day (named own k.id) step.input h)
-  pub carried : k.carried ≡ rules.is_carried h own k.id
+  pub prior_close : k.short.prior_close ≡ of.prior_close h own
+  pub triggered : k.short.triggered ≡ rules.triggered_in own step.day k.id (records h)
+  pub carried : k.short.carried ≡ rules.is_carried h own k.id
   pub left_limit : k.left_limit ≡ rules.has_left_limit h k.id
   pub released : k.released ≡ rules.released h k.id
   pub deal : option_to_list k.deal ≡ deals_in step.day k.id [] (Accepted step.input ∷ [])
+  pub restricts : k.restricts ≡ triggers_first (context step.day (named own k.id) step.input h)
   pub window : SameLive (now h) (window k deals) (deals_of step.day h k.id)
 
 -- the phase of a symbol once it has said a message

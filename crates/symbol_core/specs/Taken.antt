@@ -1,11 +1,14 @@
 -- The kept state once a record is taken in. Private words: no public clause cites them.
 use Rattle.std.specs.Prelude.{ℕ, Bool, true, false, Option, Some, None, ◌==◌, if◌then◌else◌, not, ◌&&◌, ◌||◌, is_some}
+use Rattle.std.specs.Option.{option_map_or}
 use Rattle.session_core.specs.declared.day.Day.{Day}
 use Rattle.session_core.specs.declared.state.Phase.TheVariants.{Shut}
 use Rattle.wire_in.specs.declared.record.NoticeKind.TheVariants as notice
 use Rattle.wire_in.specs.declared.record.Record.{Record}
 use Rattle.wire_in.specs.declared.record.Record.TheVariants as in_
 use Rattle.eligible_core.specs.Conditions.{eligible}
+use Rattle.short_core.specs.Restriction.{triggers}
+use Rattle.short_core.specs.ShortState.{ShortState, listed}
 use Rattle.window_core.specs.declared.window.Deal.{Deal}
 use Rattle.rulebook.specs.declared.symbol.Terms.{Terms}
 use Rattle.rulebook.specs.Auction.{indicated_by}
@@ -13,7 +16,7 @@ use Rattle.rulebook.specs.Rules.{or_else}
 use Rattle.rulebook.specs.Symbol.{cancels}
 use Rattle.symbol_core.specs.declared.kept.Kept.{Kept}
 use Rattle.symbol_core.specs.declared.kept.Step.{Step}
-use Rattle.symbol_core.specs.Kept.{heard, quoted_by, triggering}
+use Rattle.symbol_core.specs.Kept.{heard, quoted_by}
 
 -- today's terms once a record is taken in
 abbrev pub listed_by : Record → Option Terms → Option Terms
@@ -38,6 +41,26 @@ halted_by s (in_.Notice t symbol notice.Halt) before = if symbol == s then true 
 halted_by s (in_.Notice t symbol notice.Resume) before = if symbol == s then false else before
 halted_by s x before = before
 
+-- the prior close once a record is taken in
+abbrev pub prior_close_by : Record → Option ℕ → Option ℕ
+prior_close_by (in_.Listing t n k l c) before = c
+prior_close_by x before = before
+
+-- whether the step's deal triggers the short sale restriction
+abbrev pub triggers_by : Option ℕ → Option Deal → Bool
+triggers_by prior_close deal = option_map_or (λ d. triggers prior_close d.price) deal false
+
+-- the restriction once a record and its deal are taken in
+abbrev pub shorted : Record → Option Deal → ShortState → ShortState
+shorted x deal short = record short {
+  prior_close = prior_close_by x short.prior_close;
+  triggered = triggers_by (prior_close_by x short.prior_close) deal || short.triggered;
+}
+
+-- whether the deal is the first of the day to trigger it
+abbrev pub restricts : Record → Option Deal → ShortState → Bool
+restricts x deal short = triggers_by (prior_close_by x short.prior_close) deal && not short.triggered
+
 -- the kept state once a record other than a day is taken in
 abbrev pub taken : Kept → Step → Kept
 taken k step = record k {
@@ -49,16 +72,18 @@ taken k step = record k {
   released = None;
   deal = deal_of step.day k.id step.input;
   is_fresh = false;
+  short = shorted step.input (deal_of step.day k.id step.input) k.short;
+  restricts = restricts step.input (deal_of step.day k.id step.input) k.short;
 }
 
 -- the kept state once the rules have been obeyed, without what was of the step alone
-abbrev pub finished : Kept → Step → Kept
-finished k step = record k {
-  triggered = triggering k step || k.triggered;
+abbrev pub finished : Kept → Kept
+finished k = record k {
   left_limit = false;
   released = None;
   deal = None;
   is_fresh = false;
+  restricts = false;
 }
 
 -- the kept state of an id at the begin of a day
@@ -75,10 +100,10 @@ renewed s carried = record {
   straddling = false;
   halted = false;
   auction = None;
-  triggered = false;
-  carried = carried;
+  short = listed None carried;
   left_limit = false;
   released = None;
   deal = None;
   is_fresh = false;
+  restricts = false;
 }

@@ -9,7 +9,7 @@ ghost use Rattle.window_core.specs.declared.window.Deal.{Deal};
 ghost use Rattle.rulebook.specs.Rules.{at_band};
 ghost use Rattle.symbol_core.specs.Idle.{ChangesBandsFrom, IsDue, IsRested, IsSettled, PausesFrom, PricesFrom, ReopensFrom, StartsFrom, Waits, WaitsAt, is_out, leaves_limit};
 ghost use Rattle.window_core.specs.Deals.{live, mean_of};
-ghost use Rattle.symbol_core.specs.Kept.{triggering, with_quote};
+ghost use Rattle.symbol_core.specs.Kept.{with_quote};
 ghost use Rattle.symbol_core.specs.Pricing.{reference, time_changes};
 ghost use Rattle.symbol_core.specs.Window.{window};
 
@@ -323,11 +323,9 @@ impl Kept {
     pub fn is_quiet(&self, step: &Step, deals: &SummedDeals) -> bool
         ensures settled { result ≡ true → IsSettled self.now step.now.stopped }
         ensures prices { result ≡ true → reference self.now step.now (mean_of (live step.now.moment (window self.now deals.now.deals))) ≡ None }
-        ensures restricts { result ≡ true → (triggering self.now step.now && not self.now.triggered) ≡ false }
+        ensures restricts { result ≡ true → self.now.restricts ≡ false }
     {
-        self.is_settled(step.stopped)
-            && self.reference(step, deals).is_none()
-            && !(self.triggering(step) && !self.triggered)
+        self.is_settled(step.stopped) && self.reference(step, deals).is_none() && !self.restricts
     }
 
     /// When the symbol is next due after a step, where only time can bring something, and before a moment only a new

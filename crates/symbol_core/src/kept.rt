@@ -2,6 +2,7 @@ use price_core::{Price, Quotation};
 use reopen_core::Auction;
 use rulebook::{Banded, Terms};
 use session_core::{Day, Moment, Phase};
+use short_core::Short;
 use window_core::Deal;
 use wire_in::Record;
 
@@ -27,10 +28,8 @@ pub struct Kept {
     pub halted: bool,
     /// The reopening auction, while the symbol is paused.
     pub auction: Option<Auction>,
-    /// Whether an earlier record of today triggered the short sale restriction.
-    pub triggered: bool,
-    /// Whether the day before did.
-    pub carried: bool,
+    /// The short sale restriction.
+    pub short: Short,
     /// Whether the open step has left a limit state.
     pub left_limit: bool,
     /// The price at which the open step released the symbol.
@@ -39,6 +38,8 @@ pub struct Kept {
     pub deal: Option<Deal>,
     /// Whether the kept deals are of before the window's begin.
     pub is_fresh: bool,
+    /// Whether the open step's trade is the first of today that triggers the short sale restriction.
+    pub restricts: bool,
 }
 
 /// What the open step has for each rule.

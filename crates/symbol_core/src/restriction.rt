@@ -2,37 +2,12 @@
 ghost use Rattle.std.specs.Prelude.{◌≡◌, ◌+◌, ◌≤◌, List, false, vec_len, vec_capacity};
 ghost use Rattle.pause_core.specs.Phases.{is_done};
 ghost use Rattle.rulebook.specs.Rules as rules;
-ghost use Rattle.rulebook.specs.Symbol.{prior_close_of};
-ghost use Rattle.symbol_core.specs.Kept.{restricting, triggering};
-ghost use Rattle.symbol_core.specs.Stands.{Obeys, Says};
+ghost use Rattle.symbol_core.specs.Stands.{Obeys};
 
 use crate::kept::{Kept, Step};
-use crate::records::traded_price;
-use short_core::triggers;
 use wire_out::Message;
 
 impl Kept {
-    /// Whether the step's trade triggers the restriction.
-    pub fn triggering(&self, step: &Step) -> bool
-        ensures { result ≡ triggering self.now step.now }
-    {
-        match traded_price(self.id, step) {
-            Some(price) => triggers(self.close_price(), price),
-            None => false,
-        }
-    }
-
-    fn restricting(&mut self, step: &Step, out: &mut Vec<Message>)
-        requires { vec_len out.old + 1 ≤ vec_capacity out.old }
-        ensures says { Says (restricting self.old step.now) step.now self.old self.new out.old.items out.new.items }
-        ensures room { vec_capacity out.old ≤ vec_capacity out.new }
-        ensures len { vec_len out.new ≤ vec_len out.old + 1 }
-    {
-        if self.triggering(step) && !self.triggered {
-            self.say_triggered(step, out);
-        }
-    }
-
     /// The restriction begins with the first trade of the day that triggers it.
     pub fn restrict(&mut self, step: &Step, out: &mut Vec<Message>)
         requires goes_on { is_done self.old.phase ≡ false }
@@ -41,6 +16,8 @@ impl Kept {
         ensures room { vec_capacity out.old ≤ vec_capacity out.new }
         ensures len { vec_len out.new ≤ vec_len out.old + 1 }
     {
-        self.restricting(step, out);
+        if self.restricts {
+            self.say_triggered(step, out);
+        }
     }
 }

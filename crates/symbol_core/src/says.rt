@@ -241,7 +241,7 @@ impl Kept {
         ensures room { vec_capacity out.old ≤ vec_capacity out.new }
         ensures len { vec_len out.new ≤ vec_len out.old + 2 }
     {
-        if self.carried {
+        if self.short.is_carried() {
             self.announce_carried(step, name, out);
         } else {
             self.say_listed(step, name, out);

@@ -131,7 +131,7 @@ impl Symbol {
         ensures none { self.new.deals ≡ [] }
     {
         let _day = x.is_day();
-        let renewed = Kept::renewed(self.kept.id, self.kept.triggered);
+        let renewed = Kept::renewed(self.kept.id, self.kept.short.next_day());
         self.due = Some(Due::without_end(x.moment(), market));
         self.kept = renewed;
         self.deals.clear();
@@ -334,6 +334,6 @@ fn take_step(
     let deal = k.deal;
     let is_quiet = speak(k, deals, step, waits, out);
     keep_deals(k, step.moment, &deal, deals);
-    k.finish(step);
+    k.forget_step();
     due_after(k, deals, step, waits, is_quiet)
 }

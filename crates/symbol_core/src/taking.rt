@@ -2,7 +2,7 @@
 ghost use Rattle.std.specs.Prelude.{◌≡◌, ◌≤◌, ◌++◌, [], None, false, is_some, if◌then◌else◌, filter, length, option_to_list};
 ghost use Rattle.window_core.specs.Deals.{live};
 ghost use Rattle.symbol_core.specs.Kept.{heard};
-ghost use Rattle.symbol_core.specs.Taken.{finished, leaves, renewed, taken};
+ghost use Rattle.symbol_core.specs.Taken.{finished, leaves, renewed, restricts, shorted, taken};
 ghost use Rattle.symbol_core.specs.Window.{SameLive};
 
 use crate::kept::{Kept, Step};
@@ -10,6 +10,7 @@ use crate::records::{cancelled_by, deal_of, halted_by, indicated_by, listed_by, 
 use crate::says::midnight;
 use reopen_core::{Auction, Indication};
 use session_core::{Moment, Phase};
+use short_core::Short;
 use window_core::{Deal, SummedDeals};
 use wire_in::Record;
 
@@ -30,12 +31,12 @@ impl Kept {
             straddling: false,
             halted: false,
             auction: None,
-            triggered: false,
-            carried,
+            short: Short::listed(None, carried),
             left_limit: false,
             released: None,
             deal: None,
             is_fresh: false,
+            restricts: false,
         }
     }
 
@@ -51,24 +52,31 @@ impl Kept {
         self.auction = heard(indicated_by(self.id, &step.input), self.auction);
         self.forget_step();
         self.deal = deal_of(self.id, step);
+        self.take_short(&step.input);
+    }
+
+    /// Takes what the record and its deal are to the short sale restriction.
+    fn take_short(&mut self, x: &Record)
+        ensures { self.new ≡ record self.old { short = shorted x.now self.old.deal self.old.short; restricts = restricts x.now self.old.deal self.old.short } }
+    {
+        if let Record::Listing { close, .. } = *x {
+            self.short.list(close);
+        }
+        self.restricts = match &self.deal {
+            Some(deal) => self.short.trade(deal.price),
+            None => false,
+        };
     }
 
     /// Leaves nothing of a step alone.
-    fn forget_step(&mut self)
-        ensures { self.new ≡ record self.old { left_limit = false; released = None; deal = None; is_fresh = false } }
+    pub fn forget_step(&mut self)
+        ensures { self.new ≡ finished self.old }
     {
         self.left_limit = false;
         self.released = None;
         self.deal = None;
         self.is_fresh = false;
-    }
-
-    /// Keeps whether the step's trade triggered the short sale restriction.
-    pub fn finish(&mut self, step: &Step)
-        ensures { self.new ≡ finished self.old step.now }
-    {
-        self.triggered = self.triggering(step) || self.triggered;
-        self.forget_step();
+        self.restricts = false;
     }
 }
 

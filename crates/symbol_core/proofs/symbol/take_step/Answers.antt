@@ -13,18 +13,18 @@ speak-is_quiet-requires-clause-waits c =
     subst (λ (k : Kept). IfSome c.args.waits (λ until. WaitsAt k c.args.step.now until)) (sym c.take.ensures) (waits-taken c.args.k.now c.args.step.now c.args.waits c.requires.waits)
 
 pub due_after-requires-clause-rested : goal.due_after-requires-clause-rested
-due_after-requires-clause-rested c = rested-finished c.speak-is_quiet.new.k c.finish.new.self c.args.step.now c.finish.ensures
+due_after-requires-clause-rested c = rested-finished c.speak-is_quiet.new.k c.forget_step.new.self c.forget_step.ensures
 
 pub due_after-requires-clause-quiet : goal.due_after-requires-clause-quiet
 due_after-requires-clause-quiet c = λ quiet.
     let same = c.speak-is_quiet.ensures.quiet quiet in
-    settled-finished c.speak-is_quiet.new.k c.finish.new.self c.args.step.now c.finish.ensures
+    settled-finished c.speak-is_quiet.new.k c.forget_step.new.self c.args.step.now c.forget_step.ensures
     (subst (λ (k : Kept). IsSettled k c.args.step.now.stopped) (sym same.0) same.1)
 
 pub due_after-requires-clause-waits : goal.due_after-requires-clause-waits
 due_after-requires-clause-waits c = λ quiet.
     let same = c.speak-is_quiet.ensures.quiet quiet in
-    waits-finished c.speak-is_quiet.new.k c.finish.new.self c.args.step.now c.args.waits c.finish.ensures
+    waits-finished c.speak-is_quiet.new.k c.forget_step.new.self c.args.step.now c.args.waits c.forget_step.ensures
     (subst (λ (k : Kept). IfSome c.args.waits (λ until. WaitsAt k c.args.step.now until)) (sym same.0)
     (subst (λ (k : Kept). IfSome c.args.waits (λ until. WaitsAt k c.args.step.now until)) (sym c.take.ensures) (waits-taken c.args.k.now c.args.step.now c.args.waits c.requires.waits)))
 
@@ -32,8 +32,8 @@ pub returns : goal.returns
 returns c =
     let spoken = c.speak-is_quiet.ensures.speaks in
     record {
-      steps = step-evaluates c.args.step.now c.args.k.now spoken.said c.speak-is_quiet.new.k c.take.new.self c.finish.new.self c.args.deals.now.deals c.drop_cancelled.new.deals.deals c.keep_live.new.self.deals c.keep_live.new.self.deals c.keep_deals.new.deals.deals c.args.out.now.items spoken.between c.speak-is_quiet.new.out.items
-          c.drop_cancelled.ensures.items c.keep_live.ensures.deals refl c.take.ensures spoken.announces spoken.obeys c.keep_deals.ensures.same c.finish.ensures;
+      steps = step-evaluates c.args.step.now c.args.k.now spoken.said c.speak-is_quiet.new.k c.take.new.self c.forget_step.new.self c.args.deals.now.deals c.drop_cancelled.new.deals.deals c.keep_live.new.self.deals c.keep_live.new.self.deals c.keep_deals.new.deals.deals c.args.out.now.items spoken.between c.speak-is_quiet.new.out.items
+          c.drop_cancelled.ensures.items c.keep_live.ensures.deals refl c.take.ensures spoken.announces spoken.obeys c.keep_deals.ensures.same c.forget_step.ensures;
       few = omega arith;
       capacity = omega arith;
       recent = λ now. c.keep_deals.ensures.recent (live-taken c.args.step.now c.args.k.now c.take.new.self c.take.ensures now);

@@ -1,11 +1,15 @@
+use Rattle.std.proofs.Common.{Bool, List, [], ◌∷◌, ap, ◌∙◌}
+use Rattle.std.specs.Prelude.{if◌then◌else◌}
+use Rattle.wire_out.specs.declared.message.Message.{Message}
+use Rattle.wire_out.specs.declared.message.Message.TheVariants as out
+use Rattle.wire_out.specs.declared.message.ShortKind.TheVariants.{Triggered}
 use Rattle.rulebook.specs.Rules as rules
 use Rattle.symbol_core.proofs.Chains.{obeys}
 use Rattle.symbol_core.proofs.Gives.{restrict-gives}
-use Rattle.symbol_core.proofs.GoesOn.{restricting-goes_on}
 use Rattle.symbol_core.proofs.kept.Kept.restrict.Goals as goal
 
-pub returns-clause-obeys : goal.returns-clause-obeys
-returns-clause-obeys c =
+pub returns-then-self-clause-obeys : goal.returns-then-self-clause-obeys
+returns-then-self-clause-obeys c =
     let k = c.args.self.now in
-    let step = c.args.step.now in
-    obeys rules.restrict c.requires.goes_on (restricting-goes_on k step c.requires.goes_on) c.restricting.ensures.says (restrict-gives k step)
+    obeys rules.restrict c.requires.goes_on c.requires.goes_on c.say_triggered.ensures.says
+    (λ mine deals h s. restrict-gives k c.args.step.now mine deals h s ∙ ap (λ (b : Bool). if b then out.Short k.id Triggered ∷ [] else []) c.if-self.true)
