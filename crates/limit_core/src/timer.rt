@@ -1,4 +1,4 @@
-ghost use Rattle.std.specs.Prelude.{◌≡◌, ◌≤◌};
+ghost use Rattle.std.specs.Prelude.{◌≡◌};
 ghost use Rattle.limit_core.specs.Timers.{has_lasted};
 
 use price_core::Side;
@@ -44,9 +44,9 @@ impl LimitTimer {
         self.side
     }
 
-    /// Whether the limit state has lasted for 15 seconds, which are enough for a pause (LULD Plan, Section VII).
+    /// Whether the limit state has lasted for 15 seconds, which are enough for a pause (LULD Plan, Section VII). It hasn't before
+    /// it is entered.
     pub fn expired(&self, t: Moment) -> bool
-        requires { self.now.entered ≤ t }
         ensures { result ≡ has_lasted self.now.entered t }
     {
         has_lasted(self.entered, t)

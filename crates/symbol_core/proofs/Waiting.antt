@@ -1,16 +1,19 @@
 -- Until when the rules that wait for a time say nothing at a tick.
 use Rattle.std.proofs.Common.{arith, ◌≡◌, ℕ, ◌+◌, ◌<◌, Bool, true, false, cond, List, [], ◌∷◌, refl, ap, ◌∙◌}
-use Rattle.std.specs.Prelude.{Option, Some, None, if◌then◌else◌, ◌&&◌, nat_le, nat_lt, not, is_some, option_and_then, option_map, slice_get, unwrap_or}
+use Rattle.std.specs.Prelude.{Option, Some, None, if◌then◌else◌, ◌&&◌, ◌||◌, nat_le, nat_lt, not, is_some, option_and_then, option_map, slice_get, unwrap_or}
 use Rattle.std.specs.Option.{option_map_or}
 use Rattle.std.proofs.lemmas.Bool.Decides.{nat_tests}
 use Rattle.price_core.specs.Moves.{moved_one_percent}
 use Rattle.price_core.specs.declared.quote.Cause.TheVariants.{First, Moved}
 use Rattle.session_core.specs.declared.day.Day.{Day}
+use Rattle.session_core.specs.declared.state.Phase.{Phase}
+use Rattle.session_core.specs.declared.state.Phase.TheVariants.{Closing, Paused}
 use Rattle.session_core.specs.Durations.{fifteen_seconds, five_minutes, thirty_seconds}
 use Rattle.session_core.specs.Times.{session_close, session_open}
 use Rattle.wire_in.specs.declared.record.Record.{Record}
 use Rattle.wire_in.specs.Records.{is_tick}
 use Rattle.limit_core.specs.Timers.{has_lasted}
+use Rattle.pause_core.specs.Pauses.{is_asked, pause}
 use Rattle.pause_core.specs.Phases.{can_start, is_limit, is_trading}
 use Rattle.percent_core.specs.Percentages as percentages
 use Rattle.percent_core.specs.PriceBands.{bands}
@@ -64,6 +67,15 @@ pauses-early k u before =
 
 pub pauses-never : (k : Kept) (u : ℕ) → is_limit k.phase ≡ false → pauses_at k u ≡ false
 pauses-never k u e = ap (λ (b : Bool). b && has_lasted k.since u) e
+
+and_twice : (a b : Bool) → (a && (a && b)) ≡ (a && b)
+and_twice true b = refl
+and_twice false b = refl
+
+-- a pause asks of the time alone only in a limit state
+pub limited-once : (p : Phase) (lasted asked straddling last : Bool) → pause (is_limit p && lasted) asked straddling p last ≡ pause lasted asked straddling p last
+limited-once p lasted asked straddling last =
+    ap (λ (limited : Bool). if limited || is_asked asked straddling p then (if last then Some Closing else Some Paused) else None) (and_twice (is_limit p) lasted)
 
 -- The trials of an auction.
 

@@ -4,23 +4,36 @@ ghost use Rattle.std.specs.Option.{option_map_or};
 ghost use Rattle.pause_core.specs.Phases.{is_done};
 ghost use Rattle.rulebook.specs.Auction.{is_paused};
 ghost use Rattle.rulebook.specs.Rules as rules;
+ghost use Rattle.symbol_core.specs.Idle.{pauses_at};
 ghost use Rattle.symbol_core.specs.Kept.{pause_now, pausing, pausing_as};
 ghost use Rattle.symbol_core.specs.Stands.{Obeys, Says};
 
 use crate::kept::{Kept, Step};
 use crate::records::asks_to_pause;
 use crate::says::is_paused;
-use limit_core::has_lasted;
+use limit_core::LimitTimer;
 use pause_core::pause;
-use session_core::{Phase, last_10};
+use price_core::Side;
+use session_core::{Moment, Phase, last_10};
 use wire_out::Message;
 
 impl Kept {
+    /// Whether it has been in a limit state for 15 seconds.
+    fn has_expired(&self, t: Moment) -> bool
+        ensures { result ≡ pauses_at self.now t }
+    {
+        match self.phase {
+            Phase::LimitLow => LimitTimer::enter(self.since, Side::Low).expired(t),
+            Phase::LimitHigh => LimitTimer::enter(self.since, Side::High).expired(t),
+            _ => false,
+        }
+    }
+
     fn pause_now(&self, step: &Step) -> Option<Phase>
         ensures { result ≡ pause_now self.now step.now }
     {
         pause(
-            has_lasted(self.since, step.moment),
+            self.has_expired(step.moment),
             asks_to_pause(self.id, &step.input),
             self.straddling,
             self.phase,
