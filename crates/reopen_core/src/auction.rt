@@ -1,4 +1,4 @@
-ghost use Rattle.std.specs.Prelude.{◌≡◌, ◌+◌, ◌*◌, ◌≤◌, ◌∷◌, List};
+ghost use Rattle.std.specs.Prelude.{◌≡◌, ◌+◌, ◌*◌, ◌<◌, ◌≤◌, ◌∷◌, ℕ, Bool, List};
 ghost use Rattle.session_core.specs.Durations.{five_minutes};
 ghost use Rattle.price_core.specs.declared.quote.Collars.{Collars};
 ghost use Rattle.reopen_core.specs.Trials.{outcome, trial};
@@ -138,6 +138,14 @@ impl Auction {
     {
         let _moment = self.round.moment.nanos();
         self.round.number
+    }
+
+    /// From when on a trial is due, in nanoseconds of the day: five minutes after the last round began.
+    pub fn due(&self) -> u64
+        ensures value { result ≡ self.now.round.moment + five_minutes }
+        ensures waits { (calls : List Call) → Represents self.now calls → (t : ℕ) (last_10 : Bool) → t < result → trial_after t last_10 calls ≡ Trial.NotDue }
+    {
+        self.round.moment.nanos() + FIVE_MINUTES
     }
 
     /// Takes an indication of the price and of the side of unmatched orders, in place of an earlier one.

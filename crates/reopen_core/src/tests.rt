@@ -29,6 +29,7 @@ fn auction(origin: Origin, lower: u64, upper: u64, reference: u64) -> Result<Auc
 fn a_price_below_widens_the_lower_collar_and_then_releases(rt: HostRuntime) -> Result<(), Fail> {
     let mut auction = auction(Origin::Low, 475_000, 525_000, 500_000)?;
     assert_eq!(rt; auction.collars(), collars(451_200, 525_000)?);
+    assert_eq!(rt; auction.due(), 36_300_000_000_000);
     auction.indicate(Price::new(440_000)?, Unmatched::Nothing);
     assert_eq!(rt;
         auction.trial(after(299, 999_999_999)?, false),

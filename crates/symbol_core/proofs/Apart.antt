@@ -17,6 +17,7 @@ use Rattle.window_core.specs.declared.window.Deal.{Deal}
 use Rattle.symbol_core.specs.declared.kept.Kept.{Kept}
 use Rattle.symbol_core.specs.declared.kept.Step.{Step}
 use Rattle.symbol_core.specs.Silent.{IsSilent, AllSilent}
+use Rattle.symbol_core.specs.Auctions.{auction_by}
 use Rattle.symbol_core.specs.Stands.{Stands}
 use Rattle.symbol_core.proofs.Deals.{deals_from}
 use Rattle.symbol_core.proofs.Histories.{last-other}
@@ -35,7 +36,7 @@ stands-apart mine k deals step m h q s =
       stopped = refl;
       input = s.input;
       terms = s.terms;
-      phase = s.phase ∙ sym (ap (λ (o : Option (Found Phase)). option_map_or (λ state. state.value) o Shut) state_is);
+      phase = s.phase ∙ sym phase_is;
       since = s.since ∙ sym (ap (λ (o : Option (Found Phase)). option_map_or (λ state. state.moment) o 0) state_is);
       begun = s.begun ∙ ap (λ (b : Bool). if b then Some (now (today h)) else of.begun_in k.id (today h)) (sym none_begins);
       quote = s.quote ∙ sym run.quote;
@@ -43,9 +44,7 @@ stands-apart mine k deals step m h q s =
       adopted = s.adopted ∙ sym run.adopted;
       straddling = s.straddling ∙ sym (ap (λ (o : Option (Found Bool)). option_map_or (λ straddle. straddle.value) o false) (last-other (of.straddle_of k.id) m (today h) q.straddle));
       halted = s.halted;
-      round = s.round ∙ sym (ap (λ (o : Option (Found (ℕ × Collars))). option_map auction.round_of o) (last-other (auction.collar_of k.id) m (today h) q.collar));
-      origin = s.origin ∙ ap (λ (b : Bool). if b then auction.origin_of (phase_in k.id (today h)) else auction.origin_in k.id (today h)) (sym none_pauses);
-      indication = s.indication ∙ ap (λ (b : Bool). if b then option_and_then (auction.indicated_by k.id) (newest (today h)) else auction.indication_in k.id (today h)) (sym none_pauses);
+      auction = s.auction ∙ (λ i. auction_by (auction.is_paused (sym phase_is i)) (sym run.band i) (sym round_is i) (origin_is i) (indication_is i));
       prior_close = s.prior_close;
       triggered = s.triggered;
       carried = s.carried;
@@ -64,6 +63,18 @@ stands-apart mine k deals step m h q s =
 
     none_pauses : auction.pauses k.id m ≡ false
     none_pauses = ap (λ (o : Option Phase). option_map_or auction.is_paused o false) q.state
+
+    phase_is : of.phase (Published m ∷ h) k.id ≡ of.phase h k.id
+    phase_is = ap (λ (o : Option (Found Phase)). option_map_or (λ state. state.value) o Shut) state_is
+
+    round_is : auction.last_round (Published m ∷ h) k.id ≡ auction.last_round h k.id
+    round_is = ap (λ (o : Option (Found (ℕ × Collars))). option_map auction.round_of o) (last-other (auction.collar_of k.id) m (today h) q.collar)
+
+    origin_is : auction.origin h k.id ≡ auction.origin (Published m ∷ h) k.id
+    origin_is = ap (λ (b : Bool). if b then auction.origin_of (phase_in k.id (today h)) else auction.origin_in k.id (today h)) (sym none_pauses)
+
+    indication_is : auction.indication h k.id ≡ auction.indication (Published m ∷ h) k.id
+    indication_is = ap (λ (b : Bool). if b then option_and_then (auction.indicated_by k.id) (newest (today h)) else auction.indication_in k.id (today h)) (sym none_pauses)
 
     none_adopts : of.adoption_of k.id m ≡ None
     none_adopts = ap (λ (o : Option Banded). option_and_then (λ b. if is_times b.cause then None else Some b) o) q.band

@@ -1,6 +1,6 @@
 -- What a rule gives at a history for which the symbol stands, by the kept state.
 use Rattle.std.proofs.Common.{◌≡◌, ℕ, Bool, List, [], ◌∷◌, refl, sym, ap, ◌∙◌}
-use Rattle.std.specs.Prelude.{Option, if◌then◌else◌, ◌&&◌, not}
+use Rattle.std.specs.Prelude.{Option, Some, None, true, false, if◌then◌else◌, ◌&&◌, not}
 use Rattle.std.specs.Option.{option_map_or}
 use Rattle.std.proofs.Math.Nat.{le_refl}
 use Rattle.session_core.specs.declared.state.Phase.{Phase}
@@ -12,6 +12,13 @@ use Rattle.wire_out.specs.declared.message.Message.TheVariants as out
 use Rattle.wire_out.specs.declared.message.ShortKind.TheVariants.{Carried, Triggered}
 use Rattle.pause_core.specs.declared.turning.Brakes.{Brakes}
 use Rattle.pause_core.specs.Phases.{is_limit, is_trading}
+use Rattle.session_core.specs.Times.{in_last_10_minutes}
+use Rattle.reopen_core.specs.declared.auction.Round.{Round}
+use Rattle.reopen_core.specs.declared.auction.Trial.{Trial}
+use Rattle.reopen_core.specs.declared.auction.Trial.TheVariants as trial
+use Rattle.reopen_core.specs.AuctionState.{AuctionState, with_trial}
+use Rattle.reopen_core.specs.Trials as trials
+use Rattle.rulebook.specs.declared.symbol.Banded.{Banded}
 use Rattle.window_core.specs.declared.window.Deal.{Deal}
 use Rattle.window_core.specs.Deals.{live, mean_of}
 use Rattle.rulebook.specs.declared.event.Event.{Event}
@@ -24,7 +31,8 @@ use Rattle.rulebook.specs.Rules.{at_band}
 use Rattle.rulebook.specs.Symbol as of
 use Rattle.symbol_core.specs.declared.kept.Kept.{Kept}
 use Rattle.symbol_core.specs.declared.kept.Step.{Step}
-use Rattle.symbol_core.specs.Kept.{announcing, becoming, brakes, pausing, reopening, straddling}
+use Rattle.symbol_core.specs.Auctions.{auction_by, auction_of, auction_with}
+use Rattle.symbol_core.specs.Kept.{announcing, becoming, brakes, pausing, reopened, reopening, reopening_with, straddling}
 use Rattle.symbol_core.specs.Pricing.{banding}
 use Rattle.symbol_core.specs.Stands.{named, Stands, triggers_first}
 use Rattle.symbol_core.specs.Window.{window}
@@ -44,9 +52,7 @@ told mine k step h =
       adopted = of.adopted h s;
       straddling = of.was_straddling h s;
       halted = of.is_under_regulatory_halt h s;
-      round = auction.last_round h s;
-      origin = auction.origin h s;
-      indication = auction.indication h s;
+      auction = auction_of h s;
       short = record {
         prior_close = of.prior_close h mine;
         triggered = rules.triggered_in mine step.day s (records h);
@@ -70,9 +76,7 @@ stands-told mine k step deals h s = λ i. record k {
   adopted = s.adopted i;
   straddling = s.straddling i;
   halted = s.halted i;
-  round = s.round i;
-  origin = s.origin i;
-  indication = s.indication i;
+  auction = s.auction i;
   short = record { prior_close = s.prior_close i; triggered = s.triggered i; carried = s.carried i };
   left_limit = s.left_limit i;
   released = s.released i;
@@ -91,9 +95,31 @@ pub turned-gives : (rule : Phase → Brakes → Option Phase) (k : Kept) (step :
     → rules.turned rule (context step.day (named mine k.id) step.input h) ≡ option_map_or (becoming k) (rule k.phase (brakes k step)) []
 turned-gives rule k step mine deals h s = by_kept (λ l step. option_map_or (becoming l) (rule l.phase (brakes l step)) []) mine k step deals h s
 
+-- a trial publishes what it leaves of the auction
+reopened_told : (mine : List ℕ → Bool) (k : Kept) (step : Step) (h : List Event) (x : Record) (a : AuctionState) (o : Trial)
+    → rules.reopened (context step.day (named mine k.id) x h) a.round.number o ≡ reopened k (with_trial step.moment o a) o
+reopened_told mine k step h x a trial.NotDue = refl
+reopened_told mine k step h x a (trial.Extend collars) = refl
+reopened_told mine k step h x a (trial.Release price) = refl
+reopened_told mine k step h x a trial.Closing = refl
+
+-- the auction that a history tells
+reopen_told : (mine : List ℕ → Bool) (k : Kept) (step : Step) (h : List Event) (x : Record) (paused : Bool) (band : Option Banded) (round : Option Round)
+    → (if paused then option_map_or (λ r. option_map_or (rules.reopen_with (context step.day (named mine k.id) x h) r) band []) round [] else [])
+    ≡ option_map_or (reopening_with k (record step { moment = now h })) (auction_by paused band round (auction.origin h k.id) (auction.indication h k.id)) []
+reopen_told mine k step h x false band round = refl
+reopen_told mine k step h x true None None = refl
+reopen_told mine k step h x true None (Some r) = refl
+reopen_told mine k step h x true (Some b) None = refl
+reopen_told mine k step h x true (Some b) (Some r) =
+    let a = auction_with (auction.origin h k.id) (auction.indication h k.id) b r in
+    reopened_told mine k (record step { moment = now h }) h x a (trials.trial (now h) (in_last_10_minutes (now h) step.day) r a.reference a.indication)
+
 pub reopen-gives : (k : Kept) (step : Step) (mine : List ℕ → Bool) (deals : List Deal) (h : List Event) → Stands mine k deals step h
     → rules.reopen (context step.day (named mine k.id) step.input h) ≡ reopening k step
-reopen-gives k step mine deals h s = by_kept reopening mine k step deals h s
+reopen-gives k step mine deals h s =
+    reopen_told mine (told mine k step h) (record step { moment = now h; stopped = is_market_halted h }) h step.input (auction.is_paused (of.phase h k.id)) (of.last_band h k.id) (auction.last_round h k.id)
+    ∙ by_kept reopening mine k step deals h s
 
 -- the end of a limit state, and its begin
 
@@ -131,9 +157,12 @@ pub straddle-gives : (k : Kept) (step : Step) (mine : List ℕ → Bool) (deals 
     → rules.straddle (context step.day (named mine k.id) step.input h) ≡ straddling k step
 straddle-gives k step mine deals h s = by_kept straddling mine k step deals h s
 
+abbrev pub restricting : Kept → Step → List Message
+restricting k step = if k.restricts then out.Short k.id Triggered ∷ [] else []
+
 pub restrict-gives : (k : Kept) (step : Step) (mine : List ℕ → Bool) (deals : List Deal) (h : List Event) → Stands mine k deals step h
-    → rules.restrict (context step.day (named mine k.id) step.input h) ≡ (if k.restricts then out.Short k.id Triggered ∷ [] else [])
-restrict-gives k step mine deals h s = by_kept (λ l step. if l.restricts then out.Short l.id Triggered ∷ [] else []) mine k step deals h s
+    → rules.restrict (context step.day (named mine k.id) step.input h) ≡ restricting k step
+restrict-gives k step mine deals h s = by_kept restricting mine k step deals h s
 
 pub pause-gives : (k : Kept) (step : Step) (mine : List ℕ → Bool) (deals : List Deal) (h : List Event) → Stands mine k deals step h
     → rules.pause (context step.day (named mine k.id) step.input h) ≡ pausing k step

@@ -12,17 +12,17 @@ use Rattle.wire_out.specs.declared.message.Message.TheVariants as out
 use Rattle.pause_core.specs.Pauses.{is_asked, is_limited}
 use Rattle.pause_core.specs.Phases.{is_done, is_limit, is_trading}
 use Rattle.refprice_core.specs.declared.reference.Priced.{Priced}
-use Rattle.reopen_core.specs.declared.auction.Round.{Round}
 use Rattle.reopen_core.specs.declared.auction.Trial.{Trial}
 use Rattle.reopen_core.specs.declared.auction.Trial.TheVariants as trial
+use Rattle.reopen_core.specs.AuctionState.{AuctionState, with_trial}
+use Rattle.reopen_core.specs.Trials as trials
 use Rattle.rulebook.specs.declared.symbol.Banded.{Banded}
 use Rattle.rulebook.specs.declared.symbol.Terms.{Terms}
-use Rattle.rulebook.specs.Auction.{is_paused}
 use Rattle.rulebook.specs.Rules.{asks_to_pause, at_band}
 use Rattle.rulebook.specs.Symbol.{bands_of}
 use Rattle.symbol_core.specs.declared.kept.Kept.{Kept}
 use Rattle.symbol_core.specs.declared.kept.Step.{Step}
-use Rattle.symbol_core.specs.Kept.{first_rounds, is_straddling_now, pausing, pausing_as, reopened, reopening, reopening_after, reopening_with, straddling, trial_now}
+use Rattle.symbol_core.specs.Kept.{auction_begun, collars_of, is_straddling_now, pausing, pausing_as, reopened, reopening, reopening_with, straddling}
 use Rattle.symbol_core.specs.Pricing.{band, band_by_time, banding, reference, time_changes}
 use Rattle.symbol_core.specs.Stands.{phase_after}
 use Rattle.symbol_core.proofs.Gives.{entering, leaving}
@@ -34,31 +34,28 @@ GoesOn p ms = is_done p ≡ false → is_done (phase_after p ms) ≡ false
 pub pausing-goes_on : (k : Kept) (step : Step) → GoesOn k.phase (pausing k step)
 pausing-goes_on k step e =
     by (is_limited (has_lasted k.since step.moment) k.phase || is_asked (asks_to_pause k.id step.input) k.straddling k.phase) (in_last_10_minutes step.moment step.day) where
-      round : (o : Option Banded) → is_done (phase_after phase.Paused (first_rounds k.id k.phase o)) ≡ false
+      round : (o : Option Banded) → is_done (phase_after phase.Paused (option_map_or (λ b. collars_of k.id (auction_begun k step b)) o [])) ≡ false
       round None = refl
       round (Some b) = refl
 
-      by : (pauses last : Bool) → is_done (phase_after k.phase (option_map_or (pausing_as k) (if pauses then (if last then Some phase.Closing else Some phase.Paused) else None) [])) ≡ false
+      by : (pauses last : Bool) → is_done (phase_after k.phase (option_map_or (pausing_as k step) (if pauses then (if last then Some phase.Closing else Some phase.Paused) else None) [])) ≡ false
       by false last = e
       by true true = refl
       by true false = round k.band
 
 pub reopening-goes_on : (k : Kept) (step : Step) → GoesOn k.phase (reopening k step)
-reopening-goes_on k step e = by (is_paused k.phase) k.round where
-  by_trial : (n : ℕ) (t : Trial) → is_done (phase_after k.phase (reopened k n t)) ≡ false
-  by_trial n trial.NotDue = e
-  by_trial n (trial.Extend collars) = e
-  by_trial n (trial.Release price) = refl
-  by_trial n trial.Closing = refl
+reopening-goes_on k step e = by k.auction where
+  by_trial : (a : AuctionState) (t : Trial) → is_done (phase_after k.phase (reopened k a t)) ≡ false
+  by_trial a trial.NotDue = e
+  by_trial a (trial.Extend collars) = e
+  by_trial a (trial.Release price) = refl
+  by_trial a trial.Closing = refl
 
-  with_band : (round : Round) (o : Option Banded) → is_done (phase_after k.phase (option_map_or (reopening_with k step round) o [])) ≡ false
-  with_band round None = e
-  with_band round (Some b) = by_trial round.number (trial_now k step round b)
-
-  by : (paused : Bool) (o : Option Round) → is_done (phase_after k.phase (if paused then option_map_or (reopening_after k step) o [] else [])) ≡ false
-  by false o = e
-  by true None = e
-  by true (Some round) = with_band round k.band
+  by : (o : Option AuctionState) → is_done (phase_after k.phase (option_map_or (reopening_with k step) o [])) ≡ false
+  by None = e
+  by (Some a) =
+      let t = trials.trial step.moment (in_last_10_minutes step.moment step.day) a.round a.reference a.indication in
+      by_trial (with_trial step.moment t a) t
 
 pub leaving-goes_on : (k : Kept) (step : Step) → GoesOn k.phase (leaving k step)
 leaving-goes_on k step e = by (is_limit k.phase && not (at_band k.phase k.quote k.band)) where

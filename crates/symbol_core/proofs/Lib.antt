@@ -1,6 +1,7 @@
 pub mod Histories
 pub mod Deals
 pub mod Phases
+pub mod Pauses
 pub mod Messages
 pub mod Chains
 pub mod Gives

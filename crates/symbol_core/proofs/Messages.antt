@@ -6,7 +6,11 @@ use Rattle.wire_out.specs.declared.message.Message.{Message}
 use Rattle.wire_out.specs.declared.message.ShortKind.{ShortKind}
 use Rattle.rulebook.specs.declared.symbol.Banded.{Banded}
 use Rattle.price_core.specs.declared.quote.Collars.{Collars}
+use Rattle.session_core.specs.declared.state.Phase.{Phase}
+use Rattle.reopen_core.specs.declared.auction.Indication.{Indication}
+use Rattle.reopen_core.specs.declared.auction.Origin.{Origin}
 use Rattle.reopen_core.specs.declared.auction.Round.{Round}
+use Rattle.reopen_core.specs.AuctionState.{AuctionState}
 use Rattle.rulebook.specs.declared.event.Event.{Event}
 use Rattle.rulebook.specs.declared.event.Event.TheVariants.{Accepted, Published}
 use Rattle.rulebook.specs.History.{Found, now, newest, open_step, today, last}
@@ -14,7 +18,8 @@ use Rattle.rulebook.specs.Symbol.{begins_run, quote_in, is_times, deals_in, deal
 use Rattle.window_core.specs.declared.window.Deal.{Deal}
 use Rattle.symbol_core.specs.declared.kept.Kept.{Kept}
 use Rattle.symbol_core.specs.declared.kept.Step.{Step}
-use Rattle.symbol_core.specs.Kept.{straddled, with_round, released, banded, restarts}
+use Rattle.symbol_core.specs.Auctions.{auction_by, auction_of}
+use Rattle.symbol_core.specs.Kept.{in_round, straddled, with_auction, released, banded, restarts}
 use Rattle.session_core.specs.declared.day.Day.{Day}
 use Rattle.wire_in.specs.declared.record.Record.{Record}
 use Rattle.session_core.specs.Durations.{five_minutes}
@@ -63,9 +68,7 @@ stands-straddled mine k deals step on h s =
       adopted = s.adopted ∙ sym run.adopted;
       straddling = sym (ap (λ (o : Option (Found Bool)). option_map_or (λ straddle. straddle.value) o false) last_is);
       halted = s.halted;
-      round = s.round;
-      origin = s.origin;
-      indication = s.indication;
+      auction = s.auction ∙ ap (λ (o : Option Banded). auction_by (auction.is_paused (of.phase h k.id)) o (auction.last_round h k.id) (auction.origin h k.id) (auction.indication h k.id)) (sym run.band);
       prior_close = s.prior_close;
       triggered = s.triggered;
       carried = s.carried;
@@ -88,9 +91,10 @@ stands-straddled mine k deals step on h s =
     last_is : last (of.straddle_of k.id) (Published m ∷ today h) ≡ Some (record { moment = now (today h); value = on })
     last_is = last-own (of.straddle_of k.id) m on (today h) own
 
-pub stands-with_round : (mine : List ℕ → Bool) (k : Kept) (deals : List Deal) (step : Step) (r : Round) (h : List Event) → r.moment ≡ step.moment → Stands mine k deals step h
-    → Stands mine (with_round k r) deals step (Published (out.Collar k.id r.number r.collars.lower r.collars.upper) ∷ h)
-stands-with_round mine k deals step r h at s =
+-- a Collar message, where this is then the auction
+pub stands-collared : (mine : List ℕ → Bool) (k : Kept) (deals : List Deal) (step : Step) (number : ℕ) (collars : Collars) (a : Option AuctionState) (h : List Event) → a ≡ auction_of (Published (out.Collar k.id number collars.lower collars.upper) ∷ h) k.id → Stands mine k deals step h
+    → Stands mine (with_auction k a) deals step (Published (out.Collar k.id number collars.lower collars.upper) ∷ h)
+stands-collared mine k deals step number collars a h is s =
     record {
       moment = s.moment;
       stopped = s.stopped;
@@ -104,9 +108,7 @@ stands-with_round mine k deals step r h at s =
       adopted = s.adopted ∙ sym run.adopted;
       straddling = s.straddling;
       halted = s.halted;
-      round = ap (λ (t : ℕ). Some (record r { moment = t })) (at ∙ s.moment ∙ sym (now-today h)) ∙ sym (ap (λ (o : Option (Found (ℕ × Collars))). option_map auction.round_of o) last_is);
-      origin = s.origin;
-      indication = s.indication;
+      auction = is;
       prior_close = s.prior_close;
       triggered = s.triggered;
       carried = s.carried;
@@ -118,16 +120,45 @@ stands-with_round mine k deals step r h at s =
     }
   where
     m : Message
-    m = out.Collar k.id r.number r.collars.lower r.collars.upper
+    m = out.Collar k.id number collars.lower collars.upper
 
     run : RunStays step.day k.id m h
     run = run_stays step.day k.id m step.input h s.input refl (λ r. refl) (λ r. refl) (λ t r. refl)
 
-    own : auction.collar_of k.id m ≡ Some (r.number, r.collars)
-    own = rw (same k.id)
+-- the round that a Collar message begins
+pub collared-round : (s number t : ℕ) (collars : Collars) (h : List Event) → t ≡ now h → Some (record { number = number; moment = t; collars = collars }) ≡ auction.last_round (Published (out.Collar s number collars.lower collars.upper) ∷ h) s
+collared-round s number t collars h at = ap (λ (u : ℕ). Some (record { number = number; moment = u; collars = collars })) (at ∙ sym (now-today h)) ∙ sym (ap (λ (o : Option (Found (ℕ × Collars))). option_map auction.round_of o) last_is)
+  where
+    m : Message
+    m = out.Collar s number collars.lower collars.upper
 
-    last_is : last (auction.collar_of k.id) (Published m ∷ today h) ≡ Some (record { moment = now (today h); value = (r.number, r.collars) })
-    last_is = last-own (auction.collar_of k.id) m (r.number, r.collars) (today h) own
+    own : auction.collar_of s m ≡ Some (number, collars)
+    own = rw (same s)
+
+    last_is : last (auction.collar_of s) (Published m ∷ today h) ≡ Some (record { moment = now (today h); value = (number, collars) })
+    last_is = last-own (auction.collar_of s) m (number, collars) (today h) own
+
+-- another round of an auction
+with_round : (paused : Bool) (band : Option Banded) (before : Option Round) (o : Origin) (i : Option Indication) (r : Round) (a : AuctionState) → option_map (in_round r) (auction_by paused band before o i) ≡ Some a → Some a ≡ auction_by paused band (Some r) o i
+with_round false band before o i r a e = absurd cc
+with_round true None before o i r a e = absurd cc
+with_round true (Some b) None o i r a e = absurd cc
+with_round true (Some b) (Some before) o i r a e = sym e
+
+pub stands-with_round : (mine : List ℕ → Bool) (k : Kept) (deals : List Deal) (step : Step) (a : AuctionState) (h : List Event) → option_map (in_round a.round) k.auction ≡ Some a → a.round.moment ≡ step.moment → Stands mine k deals step h
+    → Stands mine (with_auction k (Some a)) deals step (Published (out.Collar k.id a.round.number a.round.collars.lower a.round.collars.upper) ∷ h)
+stands-with_round mine k deals step a h is at s = stands-collared mine k deals step a.round.number a.round.collars (Some a) h auction_is s
+  where
+    m : Message
+    m = out.Collar k.id a.round.number a.round.collars.lower a.round.collars.upper
+
+    run : RunStays step.day k.id m h
+    run = run_stays step.day k.id m step.input h s.input refl (λ r. refl) (λ r. refl) (λ t r. refl)
+
+    auction_is : Some a ≡ auction_of (Published m ∷ h) k.id
+    auction_is =
+        with_round (auction.is_paused (of.phase h k.id)) (of.last_band h k.id) (auction.last_round h k.id) (auction.origin h k.id) (auction.indication h k.id) a.round a (ap (λ (o : Option AuctionState). option_map (in_round a.round) o) (sym s.auction) ∙ is)
+        ∙ (λ i. auction_by (auction.is_paused (of.phase h k.id)) (sym run.band i) (collared-round k.id a.round.number a.round.moment a.round.collars h (at ∙ s.moment) i) (auction.origin h k.id) (auction.indication h k.id))
 
 pub stands-released : (mine : List ℕ → Bool) (k : Kept) (deals : List Deal) (step : Step) (price : ℕ) (h : List Event) → Stands mine k deals step h → Stands mine (released k price) deals step (Published (out.Release k.id price) ∷ h)
 stands-released mine k deals step price h s =
@@ -144,9 +175,7 @@ stands-released mine k deals step price h s =
       adopted = s.adopted ∙ sym run.adopted;
       straddling = s.straddling;
       halted = s.halted;
-      round = s.round;
-      origin = s.origin;
-      indication = s.indication;
+      auction = s.auction ∙ ap (λ (o : Option Banded). auction_by (auction.is_paused (of.phase h k.id)) o (auction.last_round h k.id) (auction.origin h k.id) (auction.indication h k.id)) (sym run.band);
       prior_close = s.prior_close;
       triggered = s.triggered;
       carried = s.carried;
@@ -184,9 +213,7 @@ stands-short mine k deals step kind h s =
       adopted = s.adopted ∙ sym run.adopted;
       straddling = s.straddling;
       halted = s.halted;
-      round = s.round;
-      origin = s.origin;
-      indication = s.indication;
+      auction = s.auction ∙ ap (λ (o : Option Banded). auction_by (auction.is_paused (of.phase h k.id)) o (auction.last_round h k.id) (auction.origin h k.id) (auction.indication h k.id)) (sym run.band);
       prior_close = s.prior_close;
       triggered = s.triggered;
       carried = s.carried;
@@ -203,8 +230,8 @@ stands-short mine k deals step kind h s =
     run : RunStays step.day k.id m h
     run = run_stays step.day k.id m step.input h s.input refl (λ r. refl) (λ r. refl) (λ t r. refl)
 
-pub stands-banded : (mine : List ℕ → Bool) (k : Kept) (deals : List Deal) (step : Step) (b : Banded) (h : List Event) → Stands mine k deals step h → Stands mine (banded k step b) deals step (Published (out.Band k.id b.cause b.reference b.bands.lower b.bands.upper) ∷ h)
-stands-banded mine k deals step b h s =
+pub stands-banded : (mine : List ℕ → Bool) (k : Kept) (deals : List Deal) (step : Step) (b : Banded) (h : List Event) → auction.is_paused k.phase ≡ false → Stands mine k deals step h → Stands mine (banded k step b) deals step (Published (out.Band k.id b.cause b.reference b.bands.lower b.bands.upper) ∷ h)
+stands-banded mine k deals step b h unpaused s =
     record {
       moment = s.moment;
       stopped = s.stopped;
@@ -218,9 +245,7 @@ stands-banded mine k deals step b h s =
       adopted = rw (has_run, s.adopted) (adopted_run (of.run_in k.id (today h)) (is_times b.cause) refl (λ r e. s.moment ∙ sym (now-run k.id h r e)));
       straddling = s.straddling;
       halted = s.halted;
-      round = s.round;
-      origin = s.origin;
-      indication = s.indication;
+      auction = none_of k.auction (auction.is_paused (of.phase h k.id)) (ap (λ (p : Phase). auction.is_paused p) (sym s.phase) ∙ unpaused) s.auction ∙ sym (ap (λ (b : Bool). auction_by b (of.last_band (Published m ∷ h) k.id) (auction.last_round h k.id) (auction.origin h k.id) (auction.indication h k.id)) (ap (λ (p : Phase). auction.is_paused p) (sym s.phase) ∙ unpaused));
       prior_close = s.prior_close;
       triggered = s.triggered;
       carried = s.carried;
@@ -236,6 +261,10 @@ stands-banded mine k deals step b h s =
 
     own : of.band_of k.id m ≡ Some b
     own = rw (same k.id)
+
+    none_of : (a : Option AuctionState) (paused : Bool) → paused ≡ false → a ≡ auction_by paused (of.last_band h k.id) (auction.last_round h k.id) (auction.origin h k.id) (auction.indication h k.id) → a ≡ None
+    none_of a true e is = absurd cc
+    none_of a false e is = is
 
     has_run : is_some k.begun ≡ is_some (of.run_in k.id (today h))
     has_run = ap (λ (o : Option ℕ). is_some o) s.begun ∙ begun-run k.id (today h)

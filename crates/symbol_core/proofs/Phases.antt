@@ -1,26 +1,37 @@
 -- A State message of the symbol: the kept state that the code leaves stands for the history with it.
 use Rattle.std.proofs.Common.{◌≡◌, ℕ, Bool, true, false, List, [], ◌∷◌, ◌++◌, refl, sym, ap, ◌∙◌, subst}
-use Rattle.std.specs.Prelude.{Option, Some, if◌then◌else◌, option_map, ◌&&◌, ◌||◌, not, is_some, option_to_list}
+use Rattle.std.specs.Prelude.{Option, Some, None, option_and_then, if◌then◌else◌, option_map, ◌&&◌, ◌||◌, not, is_some, option_to_list}
 use Rattle.session_core.specs.declared.state.Phase.{Phase}
 use Rattle.wire_out.specs.declared.message.Message.{Message}
 use Rattle.rulebook.specs.declared.event.Event.{Event}
 use Rattle.rulebook.specs.declared.event.Event.TheVariants.{Accepted, Published}
-use Rattle.rulebook.specs.History.{now, step_record, today, last, Found}
+use Rattle.rulebook.specs.History.{now, newest, step_record, today, last, Found}
 use Rattle.pause_core.specs.Phases.{is_trading, is_limit}
 use Rattle.rulebook.specs.Symbol.{begins_run, phase_in, quote_in, deals_in, deals_of}
 use Rattle.window_core.specs.declared.window.Deal.{Deal}
 use Rattle.symbol_core.specs.declared.kept.Kept.{Kept}
 use Rattle.symbol_core.specs.declared.kept.Step.{Step}
-use Rattle.symbol_core.specs.Kept.{turned, quoted_by, begins}
+use Rattle.reopen_core.specs.declared.auction.Indication.{Indication}
+use Rattle.reopen_core.specs.declared.auction.Origin.{Origin}
+use Rattle.reopen_core.specs.declared.auction.Round.{Round}
+use Rattle.reopen_core.specs.AuctionState.{AuctionState}
+use Rattle.reopen_core.specs.Collars.{first_collars}
+use Rattle.rulebook.specs.declared.symbol.Banded.{Banded}
+use Rattle.price_core.specs.declared.quote.Collars.{Collars}
+use Rattle.symbol_core.specs.Auctions.{auction_by, auction_of}
+use Rattle.symbol_core.specs.Kept.{auction_begun, begins_auction, turned, quoted_by, begins, with_auction}
 use Rattle.symbol_core.specs.Window.{SameLive, counted_deal}
 use Rattle.symbol_core.specs.Stands.{Stands}
 use Rattle.symbol_core.proofs.Deals.{deals_said, window_begins}
+use Rattle.symbol_core.proofs.Messages.{RunStays, collared-round, run_stays, stands-collared}
 use Rattle.rulebook.proofs.Histories.{now-today}
 use Rattle.symbol_core.proofs.Histories.{newest-today, of_run, last-own, state-own, begins-own, pauses-own, record_alone}
 use Rattle.session_core.specs.declared.state.Phase.TheVariants.{Shut}
+use Rattle.session_core.specs.declared.state.Phase.TheVariants as phase
 use Rattle.wire_in.specs.declared.record.Record.{Record}
 use Rattle.std.specs.Option.{option_map_or}
 use Rattle.wire_out.specs.declared.message.Message.TheVariants as out
+use Rattle.rulebook.specs.Auction as auction
 use Rattle.rulebook.specs.Symbol as of
 use Rattle.wire_in.specs.declared.record.Record.TheVariants as in_
 
@@ -36,8 +47,10 @@ quote-record s (in_.Clock t) = refl
 quote-record s (in_.Notice t i k) = refl
 quote-record s (in_.Indication t i p u) = refl
 
-pub stands-turned : (mine : List ℕ → Bool) (k : Kept) (deals : List Deal) (step : Step) (p : Phase) (h : List Event) → Stands mine k deals step h → Stands mine (turned k step p) deals step (Published (out.State k.id p) ∷ h)
-stands-turned mine k deals step p h s =
+-- where this is then the auction
+pub stands-turned-with : (mine : List ℕ → Bool) (k : Kept) (deals : List Deal) (step : Step) (p : Phase) (a : Option AuctionState) (h : List Event) → a ≡ auction_of (Published (out.State k.id p) ∷ h) k.id → Stands mine k deals step h
+    → Stands mine (with_auction (turned k step p) a) deals step (Published (out.State k.id p) ∷ h)
+stands-turned-with mine k deals step p a h is s =
     record {
       moment = s.moment;
       stopped = s.stopped;
@@ -51,9 +64,7 @@ stands-turned mine k deals step p h s =
       adopted = rw (in_run (λ r. option_map_or (λ b. b.moment) (last (of.adoption_of k.id) r) 0) (λ r. refl), begun_is, alone, ← s.adopted);
       straddling = s.straddling;
       halted = s.halted;
-      round = s.round;
-      origin = rw (pauses-own k.id p, ← s.phase, ← s.origin);
-      indication = rw (pauses-own k.id p, newest-today h, s.input, ← s.indication);
+      auction = is;
       prior_close = s.prior_close;
       triggered = s.triggered;
       carried = s.carried;
@@ -82,3 +93,84 @@ stands-turned mine k deals step p h s =
     own_is : (b : Bool) → (if is_some (if b then Some step.moment else k.begun) then option_to_list k.deal else []) ≡ (if b then option_to_list k.deal else counted_deal k)
     own_is true = refl
     own_is false = refl
+
+-- without an auction
+none_begins : (p : Phase) (limit : Bool) (band : Option Banded) (round : Option Round) (o : Origin) (i : Option Indication) → (auction.is_paused p && is_some band) ≡ false → None ≡ auction_by (auction.is_paused p) (if is_trading p && not limit then None else band) round o i
+none_begins phase.Shut limit band round o i e = refl
+none_begins phase.Trading limit band round o i e = refl
+none_begins phase.LimitLow limit band round o i e = refl
+none_begins phase.LimitHigh limit band round o i e = refl
+none_begins phase.Paused limit None round o i e = refl
+none_begins phase.Paused limit (Some b) round o i e = absurd cc
+none_begins phase.Closing limit band round o i e = refl
+none_begins phase.Halted limit band round o i e = refl
+none_begins phase.Stopped limit band round o i e = refl
+none_begins phase.Closed limit band round o i e = refl
+
+pub stands-turned : (mine : List ℕ → Bool) (k : Kept) (deals : List Deal) (step : Step) (p : Phase) (h : List Event) → begins_auction k p ≡ false → Stands mine k deals step h → Stands mine (turned k step p) deals step (Published (out.State k.id p) ∷ h)
+stands-turned mine k deals step p h alone s = stands-turned-with mine k deals step p None h none_is s
+  where
+    after : List Event
+    after = Published (out.State k.id p) ∷ h
+
+    turns : Stands mine (with_auction (turned k step p) (auction_of after k.id)) deals step after
+    turns = stands-turned-with mine k deals step p (auction_of after k.id) h refl s
+
+    none_is : None ≡ auction_of after k.id
+    none_is =
+        none_begins p (is_limit k.phase) k.band (auction.last_round after k.id) (auction.origin after k.id) (auction.indication after k.id) alone
+        ∙ (λ i. auction_by (auction.is_paused (turns.phase i)) (turns.band i) (auction.last_round after k.id) (auction.origin after k.id) (auction.indication after k.id))
+
+-- a pause leaves the run as it is
+pause_keeps : (p : Phase) (limit : Bool) (band : Option Banded) → auction.is_paused p ≡ true → band ≡ (if is_trading p && not limit then None else band)
+pause_keeps phase.Shut limit band e = absurd cc
+pause_keeps phase.Trading limit band e = absurd cc
+pause_keeps phase.LimitLow limit band e = absurd cc
+pause_keeps phase.LimitHigh limit band e = absurd cc
+pause_keeps phase.Paused limit band e = refl
+pause_keeps phase.Closing limit band e = absurd cc
+pause_keeps phase.Halted limit band e = absurd cc
+pause_keeps phase.Stopped limit band e = absurd cc
+pause_keeps phase.Closed limit band e = absurd cc
+
+-- A pause with an auction: the phase, and then the collars of its first round.
+pub stands-paused : (mine : List ℕ → Bool) (k : Kept) (deals : List Deal) (step : Step) (p : Phase) (b : Banded) (h : List Event) → auction.is_paused p ≡ true → k.band ≡ Some b → Stands mine k deals step h
+    → let c = first_collars (auction.origin_of k.phase) b.bands b.reference in Stands mine (with_auction (turned k step p) (Some (auction_begun k step b))) deals step (Published (out.Collar k.id 0 c.lower c.upper) ∷ Published (out.State k.id p) ∷ h)
+stands-paused mine k deals step p b h paused banded s = stands-collared mine (with_auction (turned k step p) (auction_of first k.id)) deals step 0 c (Some (auction_begun k step b)) first auction_is turns
+  where
+    c : Collars
+    c = first_collars (auction.origin_of k.phase) b.bands b.reference
+
+    first : List Event
+    first = Published (out.State k.id p) ∷ h
+
+    m : Message
+    m = out.Collar k.id 0 c.lower c.upper
+
+    turns : Stands mine (with_auction (turned k step p) (auction_of first k.id)) deals step first
+    turns = stands-turned-with mine k deals step p (auction_of first k.id) h refl s
+
+    run : RunStays step.day k.id m first
+    run = run_stays step.day k.id m step.input first s.input refl (λ r. refl) (λ r. refl) (λ t r. refl)
+
+    is_paused : true ≡ auction.is_paused (of.phase first k.id)
+    is_paused = sym paused ∙ ap (λ (q : Phase). auction.is_paused q) turns.phase
+
+    band_is : Some b ≡ of.last_band (Published m ∷ first) k.id
+    band_is = sym banded ∙ pause_keeps p (is_limit k.phase) k.band paused ∙ turns.band ∙ sym run.band
+
+    pauses : auction.pauses k.id (out.State k.id p) ≡ true
+    pauses = pauses-own k.id p ∙ paused
+
+    origin_is : auction.origin_of k.phase ≡ auction.origin first k.id
+    origin_is =
+        ap (λ (q : Phase). auction.origin_of q) s.phase
+        ∙ ap (λ (v : Bool). if v then auction.origin_of (phase_in k.id (today h)) else auction.origin_in k.id (today h)) (sym pauses)
+
+    indication_is : auction.indicated_by k.id step.input ≡ auction.indication first k.id
+    indication_is =
+        ap (λ (o : Option Record). option_and_then (auction.indicated_by k.id) o) (sym (newest-today h ∙ s.input))
+        ∙ ap (λ (v : Bool). if v then option_and_then (auction.indicated_by k.id) (newest (today h)) else auction.indication_in k.id (today h)) (sym pauses)
+
+    auction_is : Some (auction_begun k step b) ≡ auction_of (Published m ∷ first) k.id
+    auction_is = λ i. auction_by (is_paused i) (band_is i) (collared-round k.id 0 step.moment c first s.moment i) (origin_is i) (indication_is i)

@@ -30,6 +30,8 @@ use Rattle.rulebook.specs.Symbol as of
 use Rattle.rulebook.specs.Symbol.{begins_run, counted_in, deals_in, deals_of, is_under_regulatory_halt_in, is_times, phase_in, quote_in}
 use Rattle.rulebook.proofs.OtherRecords.{day_record-same}
 use Rattle.symbol_core.specs.declared.kept.Kept.{Kept}
+use Rattle.symbol_core.specs.Auctions.{auction_by}
+use Rattle.symbol_core.specs.Kept.{heard}
 use Rattle.symbol_core.specs.Rests.{Held, Rests, deals_today}
 use Rattle.symbol_core.specs.Silent.{AllSilent, IsOfOthers, IsSilent, SaysNothing}
 use Rattle.symbol_core.specs.Taken.{renewed}
@@ -38,24 +40,22 @@ use Rattle.symbol_core.proofs.Deals.{deals_from}
 use Rattle.symbol_core.proofs.Histories.{begun-run, last-other, of_begun, on_run}
 use Rattle.symbol_core.proofs.Live.{same_later, same_then}
 use Rattle.symbol_core.proofs.Others.{deals-others, halted-others, indicated-others, quoted-others, terms-others, triggered-others}
-use Rattle.symbol_core.proofs.Taken.{halted-taken, quote-taken, run_taken}
+use Rattle.symbol_core.proofs.Taken.{auction-taken, auction_since, halted-taken, quote-taken, run_taken}
 
 -- one more message that says nothing of it
 rests-message : (mine : List ℕ → Bool) (held : Held) (m : Message) (h : List Event) → IsSilent held.kept.id m → Rests mine held h → Rests mine held (Published m ∷ h)
 rests-message mine held m h q r =
     record {
       terms = r.terms;
-      phase = r.phase ∙ sym (ap (λ (o : Option (Found Phase)). option_map_or (λ state. state.value) o Shut) state_is);
+      phase = r.phase ∙ sym phase_is;
       since = r.since ∙ sym (ap (λ (o : Option (Found Phase)). option_map_or (λ state. state.moment) o 0) state_is);
       begun = r.begun ∙ ap (λ (b : Bool). if b then Some (now (today h)) else of.begun_in s (today h)) (sym none_begins);
       quote = r.quote ∙ sym (on_run (quote_in s) s m h none_begins (λ e. refl));
-      band = r.band ∙ sym (on_run (λ e. option_map (λ b. b.value) (last (of.band_of s) e)) s m h none_begins (λ e. ap (λ (o : Option (Found Banded)). option_map (λ b. b.value) o) (last-other (of.band_of s) m e q.band)));
+      band = r.band ∙ sym band_is;
       adopted = r.adopted ∙ sym (on_run (λ e. option_map_or (λ b. b.moment) (last (of.adoption_of s) e) 0) s m h none_begins (λ e. ap (λ (o : Option (Found Banded)). option_map_or (λ b. b.moment) o 0) (last-other (of.adoption_of s) m e none_adopts)));
       straddling = r.straddling ∙ sym (ap (λ (o : Option (Found Bool)). option_map_or (λ straddle. straddle.value) o false) (last-other (of.straddle_of s) m (today h) q.straddle));
       halted = r.halted;
-      round = r.round ∙ sym (ap (λ (o : Option (Found (ℕ × Collars))). option_map auction.round_of o) (last-other (auction.collar_of s) m (today h) q.collar));
-      origin = r.origin ∙ ap (λ (b : Bool). if b then auction.origin_of (phase_in s (today h)) else auction.origin_in s (today h)) (sym none_pauses);
-      indication = r.indication ∙ ap (λ (b : Bool). if b then option_and_then (auction.indicated_by s) (newest (today h)) else auction.indication_in s (today h)) (sym none_pauses);
+      auction = r.auction ∙ (λ i. auction_by (auction.is_paused (sym phase_is i)) (sym band_is i) (sym round_is i) (origin_is i) (indication_is i));
       prior_close = r.prior_close;
       triggered = r.triggered;
       carried = r.carried;
@@ -73,6 +73,21 @@ rests-message mine held m h q r =
 
     none_pauses : auction.pauses s m ≡ false
     none_pauses = ap (λ (o : Option Phase). option_map_or auction.is_paused o false) q.state
+
+    phase_is : of.phase (Published m ∷ h) s ≡ of.phase h s
+    phase_is = ap (λ (o : Option (Found Phase)). option_map_or (λ state. state.value) o Shut) state_is
+
+    band_is : of.last_band (Published m ∷ h) s ≡ of.last_band h s
+    band_is = on_run (λ e. option_map (λ b. b.value) (last (of.band_of s) e)) s m h none_begins (λ e. ap (λ (o : Option (Found Banded)). option_map (λ b. b.value) o) (last-other (of.band_of s) m e q.band))
+
+    round_is : auction.last_round (Published m ∷ h) s ≡ auction.last_round h s
+    round_is = ap (λ (o : Option (Found (ℕ × Collars))). option_map auction.round_of o) (last-other (auction.collar_of s) m (today h) q.collar)
+
+    origin_is : auction.origin h s ≡ auction.origin (Published m ∷ h) s
+    origin_is = ap (λ (b : Bool). if b then auction.origin_of (phase_in s (today h)) else auction.origin_in s (today h)) (sym none_pauses)
+
+    indication_is : auction.indication h s ≡ auction.indication (Published m ∷ h) s
+    indication_is = ap (λ (b : Bool). if b then option_and_then (auction.indicated_by s) (newest (today h)) else auction.indication_in s (today h)) (sym none_pauses)
 
     none_adopts : of.adoption_of s m ≡ None
     none_adopts = ap (λ (o : Option Banded). option_and_then (λ b. if is_times b.cause then None else Some b) o) q.band
@@ -102,9 +117,7 @@ rests-same mine k deals other h same r =
       adopted = r.adopted;
       straddling = r.straddling;
       halted = r.halted;
-      round = r.round;
-      origin = r.origin;
-      indication = r.indication;
+      auction = r.auction;
       prior_close = r.prior_close;
       triggered = r.triggered;
       carried = r.carried;
@@ -125,9 +138,7 @@ rests-record mine held x h not_day o same r =
       adopted = along (λ t. held.kept.adopted ≡ option_map_or (λ b. b.moment) (last (of.adoption_of s) (unwrap_or (of.run_in s t) [])) 0) (r.adopted ∙ sym (run_taken (λ e. option_map_or (λ b. b.moment) (last (of.adoption_of s) e) 0) x (of.run_in s (today h)) (λ e. refl)));
       straddling = along (λ t. held.kept.straddling ≡ option_map_or (λ straddle. straddle.value) (last (of.straddle_of s) t) false) r.straddling;
       halted = along (λ t. held.kept.halted ≡ is_under_regulatory_halt_in s (records t)) (r.halted ∙ sym (halted-taken s x (records (today h)) ∙ halted-others s x (is_under_regulatory_halt_in s (records (today h))) o.symbol));
-      round = along (λ t. held.kept.round ≡ option_map auction.round_of (last (auction.collar_of s) t)) r.round;
-      origin = along (λ t. held.kept.origin ≡ auction.origin_in s t) r.origin;
-      indication = along (λ t. held.kept.indication ≡ auction.indication_in s t) (r.indication ∙ sym (ap (λ (i : Option Indication). elim i [ Some i ↦ Some i | None ↦ auction.indication_in s (today h) ]) (indicated-others s x o.symbol)));
+      auction = along (λ t. held.kept.auction ≡ auction_since s t) (r.auction ∙ sym (auction-taken s x (today h) ∙ ap (λ (i : Option Indication). heard i (auction_since s (today h))) (indicated-others s x o.symbol)));
       prior_close = r.prior_close ∙ ap (λ (o : Option Terms). of.prior_close_of o) (sym (terms-others mine x (records h) not_day o.name));
       triggered =
           r.triggered
@@ -182,9 +193,7 @@ rests-day mine held t day index h r =
       adopted = refl;
       straddling = refl;
       halted = refl;
-      round = refl;
-      origin = refl;
-      indication = refl;
+      auction = refl;
       prior_close = refl;
       triggered = refl;
       carried = r.triggered;
@@ -212,9 +221,7 @@ rests-empty mine s =
       adopted = refl;
       straddling = refl;
       halted = refl;
-      round = refl;
-      origin = refl;
-      indication = refl;
+      auction = refl;
       prior_close = refl;
       triggered = refl;
       carried = refl;

@@ -6,6 +6,10 @@ use Rattle.std.proofs.lemmas.List.Elements.{filter-append}
 use Rattle.session_core.specs.declared.day.Day.{Day}
 use Rattle.wire_in.specs.declared.record.Record.{Record}
 use Rattle.reopen_core.specs.declared.auction.Indication.{Indication}
+use Rattle.reopen_core.specs.declared.auction.Origin.{Origin}
+use Rattle.reopen_core.specs.declared.auction.Round.{Round}
+use Rattle.reopen_core.specs.AuctionState.{AuctionState}
+use Rattle.rulebook.specs.declared.symbol.Banded.{Banded}
 use Rattle.rulebook.specs.declared.symbol.Terms.{Terms}
 use Rattle.rulebook.specs.Auction.{indicated_by}
 use Rattle.rulebook.specs.declared.event.Event.{Event}
@@ -20,7 +24,8 @@ use Rattle.eligible_core.specs.Conditions.{eligible}
 use Rattle.window_core.specs.declared.window.Deal.{Deal}
 use Rattle.symbol_core.specs.declared.kept.Kept.{Kept}
 use Rattle.symbol_core.specs.declared.kept.Step.{Step}
-use Rattle.symbol_core.specs.Kept.{quoted_by}
+use Rattle.symbol_core.specs.Auctions.{auction_by}
+use Rattle.symbol_core.specs.Kept.{heard, quoted_by}
 use Rattle.symbol_core.specs.Rests.{Rests}
 use Rattle.symbol_core.specs.Taken.{halted_by, listed_by, deal_of, leaves, prior_close_by, taken, triggers_by}
 use Rattle.symbol_core.specs.Stands.{Stands}
@@ -94,6 +99,24 @@ pub run_taken : {X : Type 0} (value : List Event → X) (x : Record) (o : Option
 run_taken value x None ignores = refl
 run_taken value x (Some r) ignores = ignores r
 
+-- the auction of the events of a day
+abbrev pub auction_since : ℕ → List Event → Option AuctionState
+auction_since s t =
+    auction_by (auction.is_paused (of.phase_in s t)) (option_map (λ b. b.value) (last (of.band_of s) (unwrap_or (of.run_in s t) []))) (option_map auction.round_of (last (auction.collar_of s) t)) (auction.origin_in s t) (auction.indication_in s t)
+
+heard_by : (i before : Option Indication) (paused : Bool) (band : Option Banded) (round : Option Round) (o : Origin) → auction_by paused band round o (elim i [ Some i ↦ Some i | None ↦ before ]) ≡ heard i (auction_by paused band round o before)
+heard_by None before paused band round o = refl
+heard_by (Some i) before false band round o = refl
+heard_by (Some i) before true None round o = refl
+heard_by (Some i) before true (Some b) None o = refl
+heard_by (Some i) before true (Some b) (Some r) o = refl
+
+pub auction-taken : (s : ℕ) (x : Record) (t : List Event) → auction_since s (Accepted x ∷ t) ≡ heard (indicated_by s x) (auction_since s t)
+auction-taken s x t =
+    ap (λ (b : Option Banded). auction_by (auction.is_paused (of.phase_in s t)) b (option_map auction.round_of (last (auction.collar_of s) t)) (auction.origin_in s t) (auction.indication_in s (Accepted x ∷ t)))
+    (run_taken (λ r. option_map (λ b. b.value) (last (of.band_of s) r)) x (of.run_in s t) (λ r. refl))
+    ∙ heard_by (indicated_by s x) (auction.indication_in s t) (auction.is_paused (of.phase_in s t)) (option_map (λ b. b.value) (last (of.band_of s) (unwrap_or (of.run_in s t) []))) (option_map auction.round_of (last (auction.collar_of s) t)) (auction.origin_in s t)
+
 pub prior_close-taken : (x : Record) (o : Option Terms) → prior_close_by x (of.prior_close_of o) ≡ of.prior_close_of (listed_by x o)
 prior_close-taken (in_.Day t d c) o = refl
 prior_close-taken (in_.Listing t n k l c) o = refl
@@ -163,9 +186,7 @@ stands-taken mine k kept step index h not_day name day s at stopped later =
       adopted = along (λ t. k.adopted ≡ option_map_or (λ b. b.moment) (last (of.adoption_of k.id) (unwrap_or (of.run_in k.id t) [])) 0) (s.adopted ∙ sym (run_taken (λ r. option_map_or (λ b. b.moment) (last (of.adoption_of k.id) r) 0) x (of.run_in k.id (today h)) (λ r. refl)));
       straddling = along (λ t. k.straddling ≡ option_map_or (λ straddle. straddle.value) (last (of.straddle_of k.id) t) false) s.straddling;
       halted = along (λ t. halted_by k.id x k.halted ≡ is_under_regulatory_halt_in k.id (records t)) (ap (λ (b : Bool). halted_by k.id x b) s.halted ∙ sym (halted-taken k.id x (records (today h))));
-      round = along (λ t. k.round ≡ option_map auction.round_of (last (auction.collar_of k.id) t)) s.round;
-      origin = along (λ t. k.origin ≡ auction.origin_in k.id t) s.origin;
-      indication = along (λ t. or_else (indicated_by k.id x) k.indication ≡ auction.indication_in k.id t) (indicated (indicated_by k.id x) s.indication);
+      auction = along (λ t. heard (indicated_by k.id x) k.auction ≡ auction_since k.id t) (ap (heard (indicated_by k.id x)) s.auction ∙ sym (auction-taken k.id x (today h)));
       prior_close = prior_close_is;
       triggered =
           ap (λ (b : Bool). b || k.short.triggered) triggers_is
@@ -211,7 +232,3 @@ stands-taken mine k kept step index h not_day name day s at stopped later =
     quote_run : (o : Option (List Event)) → (if is_some o then or_else (quoted_by k.id x) (quote_in k.id (unwrap_or o [])) else quote_in k.id (unwrap_or o [])) ≡ quote_in k.id (unwrap_or (option_map (λ r. Accepted x ∷ r) o) [])
     quote_run None = refl
     quote_run (Some r) = sym (quote-taken k.id x r)
-
-    indicated : (o : Option Indication) → k.indication ≡ auction.indication_in k.id (today h) → or_else o k.indication ≡ elim o [ Some i ↦ Some i | None ↦ auction.indication_in k.id (today h) ]
-    indicated (Some i) e = refl
-    indicated None e = e

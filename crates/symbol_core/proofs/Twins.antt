@@ -1,29 +1,46 @@
 -- Two histories for which the same kept state stands. The rules give the same on both, and the same kept state stands for
 -- both again. So what a symbol says depends on nothing that its kept state doesn't tell.
 use Rattle.std.proofs.Common.{◌≡◌, ℕ, Bool, true, false, cond, List, [], ◌∷◌, ◌++◌, refl, sym, ap, ◌∙◌, subst}
-use Rattle.std.specs.Prelude.{Option, Some, if◌then◌else◌, ◌&&◌, not, filter}
+use Rattle.std.specs.Prelude.{Option, Some, None, if◌then◌else◌, option_map, is_some, ◌&&◌, not, filter}
+use Rattle.std.specs.Option.{option_map_or}
+use Rattle.price_core.specs.declared.quote.Cause.{Cause}
+use Rattle.price_core.specs.declared.quote.Cause.TheVariants.{Times}
+use Rattle.session_core.specs.declared.state.Phase.{Phase}
+use Rattle.session_core.specs.declared.state.Phase.TheVariants.{Closing, Trading, LimitLow, LimitHigh}
+use Rattle.session_core.specs.Times.{in_last_10_minutes}
 use Rattle.wire_in.specs.declared.record.Record.{Record}
+use Rattle.wire_in.specs.declared.record.Record.TheVariants as in_
 use Rattle.wire_in.specs.Records.{is_day}
 use Rattle.wire_out.specs.declared.message.Message.{Message}
 use Rattle.wire_out.specs.declared.message.Message.TheVariants as out
-use Rattle.pause_core.specs.Phases.{is_done}
+use Rattle.wire_out.specs.declared.message.ShortKind.{ShortKind}
+use Rattle.wire_out.specs.declared.message.ShortKind.TheVariants.{Carried, Triggered}
+use Rattle.pause_core.specs.declared.turning.Brakes.{Brakes}
+use Rattle.pause_core.specs.Phases.{is_done, is_limit, is_trading}
 use Rattle.pause_core.specs.Turns as turns
 use Rattle.window_core.specs.declared.window.Deal.{Deal}
 use Rattle.window_core.specs.Deals.{live, mean_of}
-use Rattle.reopen_core.specs.declared.auction.Round.{Round}
+use Rattle.refprice_core.specs.declared.reference.Priced.{Priced}
+use Rattle.reopen_core.specs.declared.auction.Trial.{Trial}
+use Rattle.reopen_core.specs.declared.auction.Trial.TheVariants as trial
+use Rattle.reopen_core.specs.AuctionState.{AuctionState, with_trial}
+use Rattle.reopen_core.specs.Trials as trials
 use Rattle.rulebook.specs.declared.symbol.Banded.{Banded}
 use Rattle.rulebook.specs.declared.event.Event.{Event}
 use Rattle.rulebook.specs.declared.event.Event.TheVariants.{Accepted, Published}
+use Rattle.rulebook.specs.Auction.{is_paused}
 use Rattle.rulebook.specs.Book.{all_obeyed, announced, context, obeyed, symbol_rules}
 use Rattle.rulebook.specs.History.{publish}
-use Rattle.rulebook.specs.Rules.{Context}
+use Rattle.rulebook.specs.Rules as rules
+use Rattle.rulebook.specs.Rules.{Context, at_band}
+use Rattle.rulebook.specs.Symbol as of
 use Rattle.rulebook.proofs.Histories.{publish-append}
-use Rattle.rulebook.proofs.OfSymbol.{AllBy, AllSpeak, all_obeyed-by, own_part-by, rules_speak, speaker}
 use Rattle.symbol_core.specs.declared.kept.Kept.{Kept}
 use Rattle.symbol_core.specs.declared.kept.Step.{Step}
 use Rattle.symbol_core.specs.declared.symbol.MarketView.{MarketView}
 use Rattle.symbol_core.specs.Evaluates.{Opens, open_history, part_of, step_of}
-use Rattle.symbol_core.specs.Kept.{banded, released, straddled, turned, with_round}
+use Rattle.symbol_core.specs.Kept.{announcing, auction_begun, banded, becoming, begins_auction, brakes, collars_of, in_round, is_straddling_now, pause_now, pausing, pausing_as, released, reopened, reopening, reopening_with, straddled, straddling, turned, with_auction}
+use Rattle.symbol_core.specs.Pricing.{band, band_by_time, banding, reference, time_changes}
 use Rattle.symbol_core.specs.Rests.{Held, Rests}
 use Rattle.symbol_core.specs.Stands.{named, Stands}
 use Rattle.symbol_core.specs.Steps.{Starts}
@@ -32,57 +49,136 @@ use Rattle.symbol_core.specs.Window.{window}
 use Rattle.symbol_core.proofs.Apart.{stands-listed}
 use Rattle.symbol_core.proofs.Evaluated.{away, away-open, evaluated-away, starts, step_for}
 use Rattle.symbol_core.proofs.Finished.{rests-finished}
-use Rattle.symbol_core.proofs.Gives.{announced-gives, banding-gives, enter-gives, leave-gives, mean-gives, pause-gives, reopen-gives, restrict-gives, straddle-gives, turned-gives}
+use Rattle.symbol_core.proofs.Gives.{announced-gives, banding-gives, enter-gives, entering, leave-gives, leaving, mean-gives, pause-gives, reopen-gives, restrict-gives, restricting, straddle-gives, turned-gives}
 use Rattle.symbol_core.proofs.Messages.{stands-banded, stands-released, stands-short, stands-straddled, stands-with_round}
-use Rattle.symbol_core.proofs.Phases.{stands-turned}
+use Rattle.symbol_core.proofs.Pauses.{Unpaused, alone, close-unpaused, halt-unpaused, priced-unpaused, start-unpaused, stop-unpaused, trading-unpaused}
+use Rattle.symbol_core.proofs.Phases.{stands-paused, stands-turned}
 use Rattle.symbol_core.proofs.Resting.{rests-renewed}
 use Rattle.symbol_core.proofs.Steps.{day_opened, stands-opened}
 
--- What a message of the symbol does to the kept state, whatever the history.
+-- What messages of the symbol do to the kept state, whatever the history.
 
-record Said (step : Step) (m : Message) (k : Kept) : Type 0 where
-  pub new : Kept
-  pub id : new.id ≡ k.id
-  pub stands : (mine : List ℕ → Bool) (deals : List Deal) (h : List Event) → Stands mine k deals step h → Stands mine new deals step (Published m ∷ h)
-
-said : (step : Step) (m : Message) (k : Kept) → speaker m ≡ Some k.id → Said step m k
-said step (out.Listed s name) k e =
-    let same : s ≡ k.id = cc in
-    subst (λ (i : ℕ). Said step (out.Listed i name) k) (sym same) (record { new = k; id = refl; stands = λ mine deals h on. stands-listed mine k deals step name h on })
-said step (out.State s p) k e =
-    let same : s ≡ k.id = cc in
-    subst (λ (i : ℕ). Said step (out.State i p) k) (sym same) (record { new = turned k step p; id = refl; stands = λ mine deals h on. stands-turned mine k deals step p h on })
-said step (out.Band s why reference lower upper) k e =
-    let same : s ≡ k.id = cc in
-    let b : Banded = record { cause = why; reference = reference; bands = record { lower = lower; upper = upper } } in
-    subst (λ (i : ℕ). Said step (out.Band i why reference lower upper) k) (sym same) (record { new = banded k step b; id = refl; stands = λ mine deals h on. stands-banded mine k deals step b h on })
-said step (out.Straddle s on) k e =
-    let same : s ≡ k.id = cc in
-    subst (λ (i : ℕ). Said step (out.Straddle i on) k) (sym same) (record { new = straddled k on; id = refl; stands = λ mine deals h stands. stands-straddled mine k deals step on h stands })
-said step (out.Collar s round lower upper) k e =
-    let same : s ≡ k.id = cc in
-    let r : Round = record { number = round; moment = step.moment; collars = record { lower = lower; upper = upper } } in
-    subst (λ (i : ℕ). Said step (out.Collar i round lower upper) k) (sym same) (record { new = with_round k r; id = refl; stands = λ mine deals h on. stands-with_round mine k deals step r h refl on })
-said step (out.Release s price) k e =
-    let same : s ≡ k.id = cc in
-    subst (λ (i : ℕ). Said step (out.Release i price) k) (sym same) (record { new = released k price; id = refl; stands = λ mine deals h on. stands-released mine k deals step price h on })
-said step (out.Short s kind) k e =
-    let same : s ≡ k.id = cc in
-    subst (λ (i : ℕ). Said step (out.Short i kind) k) (sym same) (record { new = k; id = refl; stands = λ mine deals h on. stands-short mine k deals step kind h on })
-said step (out.Breaker level index) k e = absurd cc
-said step out.MarketResume k e = absurd cc
-
-record SaidAll (step : Step) (ms : List Message) (k : Kept) : Type 0 where
+record Said (step : Step) (ms : List Message) (k : Kept) : Type 0 where
   pub new : Kept
   pub id : new.id ≡ k.id
   pub stands : (mine : List ℕ → Bool) (deals : List Deal) (h : List Event) → Stands mine k deals step h → Stands mine new deals step (publish ms h)
 
-said_all : (step : Step) (ms : List Message) (k : Kept) → AllBy (Some k.id) ms → SaidAll step ms k
-said_all step [] k all = record { new = k; id = refl; stands = λ mine deals h on. on }
-said_all step (m ∷ ms) k all =
-    let first = said step m k all.0 in
-    let rest = said_all step ms first.new (subst (λ (i : ℕ). AllBy (Some i) ms) (sym first.id) all.1) in
+none_said : (step : Step) (k : Kept) → Said step [] k
+none_said step k = record { new = k; id = refl; stands = λ mine deals h on. on }
+
+-- a message, then others
+then_said : (step : Step) (m : Message) (ms : List Message) (k : Kept) (first : Said step (m ∷ []) k) → Said step ms first.new → Said step (m ∷ ms) k
+then_said step m ms k first rest =
     record { new = rest.new; id = rest.id ∙ first.id; stands = λ mine deals h on. rest.stands mine deals (Published m ∷ h) (first.stands mine deals h on) }
+
+becoming_said : (k : Kept) (step : Step) (p : Phase) → begins_auction k p ≡ false → Said step (becoming k p) k
+becoming_said k step p can = record { new = turned k step p; id = refl; stands = λ mine deals h on. stands-turned mine k deals step p h can on }
+
+straddle_said : (k : Kept) (step : Step) (on : Bool) → Said step (out.Straddle k.id on ∷ []) k
+straddle_said k step on = record { new = straddled k on; id = refl; stands = λ mine deals h stands. stands-straddled mine k deals step on h stands }
+
+release_said : (k : Kept) (step : Step) (price : ℕ) → Said step (out.Release k.id price ∷ []) k
+release_said k step price = record { new = released k price; id = refl; stands = λ mine deals h on. stands-released mine k deals step price h on }
+
+short_said : (k : Kept) (step : Step) (kind : ShortKind) → Said step (out.Short k.id kind ∷ []) k
+short_said k step kind = record { new = k; id = refl; stands = λ mine deals h on. stands-short mine k deals step kind h on }
+
+listed_said : (k : Kept) (step : Step) (name : List ℕ) → Said step (out.Listed k.id name ∷ []) k
+listed_said k step name = record { new = k; id = refl; stands = λ mine deals h on. stands-listed mine k deals step name h on }
+
+-- by a test, and by whether there is a value
+said_if : (step : Step) (test : Bool) (ms ns : List Message) (k : Kept) → (test ≡ true → Said step ms k) → (test ≡ false → Said step ns k) → Said step (if test then ms else ns) k
+said_if step true ms ns k so else_so = so refl
+said_if step false ms ns k so else_so = else_so refl
+
+said_some : {X : Type 0} (step : Step) (f : X → List Message) (o : Option X) (k : Kept) → ((x : X) → o ≡ Some x → Said step (f x) k) → Said step (option_map_or f o []) k
+said_some step f None k some = none_said step k
+said_some step f (Some x) k some = some x refl
+
+-- What each rule says.
+
+turning_said : (rule : Phase → Brakes → Option Phase) → Unpaused rule → (k : Kept) (step : Step) → Said step (option_map_or (becoming k) (rule k.phase (brakes k step)) []) k
+turning_said rule unpaused k step =
+    said_some step (becoming k) (rule k.phase (brakes k step)) k
+    (λ p is. becoming_said k step p (alone k p (rule k.phase (brakes k step)) is (unpaused k.phase (brakes k step))))
+
+pausing_said : (k : Kept) (step : Step) → Said step (pausing k step) k
+pausing_said k step = said_some step (pausing_as k step) (pause_now k step) k (λ p is. by p (is_paused p) k.band refl refl) where
+  rounds : Banded → List Message
+  rounds b = collars_of k.id (auction_begun k step b)
+
+  by : (p : Phase) (paused : Bool) (band : Option Banded) → is_paused p ≡ paused → k.band ≡ band → Said step (becoming k p ++ (if paused then option_map_or rounds band [] else [])) k
+  by p false band e is = becoming_said k step p (ap (λ (b : Bool). b && is_some k.band) e)
+  by p true None e is = becoming_said k step p (λ i. e i && is_some (is i))
+  by p true (Some b) e is = record { new = with_auction (turned k step p) (Some (auction_begun k step b)); id = refl; stands = λ mine deals h on. stands-paused mine k deals step p b h e is on }
+
+reopening_said : (k : Kept) (step : Step) → Said step (reopening k step) k
+unfolding release_said
+reopening_said k step = said_some step (reopening_with k step) k.auction k (λ a is. by a is (trials.trial step.moment (in_last_10_minutes step.moment step.day) a.round a.reference a.indication)) where
+  by : (a : AuctionState) → k.auction ≡ Some a → (o : Trial) → Said step (reopened k (with_trial step.moment o a) o) k
+  by a is trial.NotDue = none_said step k
+  by a is (trial.Extend collars) =
+      let next = with_trial step.moment (trial.Extend collars) a in
+      record {
+        new = with_auction k (Some next);
+        id = refl;
+        stands = λ mine deals h on. stands-with_round mine k deals step next h (ap (λ (o : Option AuctionState). option_map (in_round next.round) o) is) refl on;
+      }
+  by a is (trial.Release price) =
+      then_said step (out.Release k.id price) (becoming k Trading) k (release_said k step price) (becoming_said (released k price) step Trading refl)
+  by a is trial.Closing = becoming_said k step Closing refl
+
+banding_said : (k : Kept) (step : Step) (mean : Option ℕ) → Said step (banding mean k step) k
+banding_said k step mean = by (reference k step mean) refl where
+  band_said : (why : Cause) (price : ℕ) → is_paused k.phase ≡ false → Said step (band k step why price) k
+  band_said why price unpaused =
+      said_some step (λ listed. let b = of.bands_of listed step.day step.moment price in out.Band k.id why price b.lower b.upper ∷ []) k.terms k
+      (λ listed is.
+      let b : Banded = record { cause = why; reference = price; bands = of.bands_of listed step.day step.moment price } in
+      record { new = banded k step b; id = refl; stands = λ mine deals h on. stands-banded mine k deals step b h unpaused on })
+
+  both_hold : (a b : Bool) → (a && b) ≡ true → a ≡ true
+  both_hold true b e = refl
+  both_hold false b e = absurd cc
+
+  by : (o : Option Priced) → reference k step mean ≡ o → Said step (elim o [ Some r ↦ band k step r.cause r.price | None ↦ option_map_or (band_by_time k step) k.band [] ]) k
+  by (Some r) is = band_said r.cause r.price (priced-unpaused k step mean r is)
+  by None is =
+      said_some step (band_by_time k step) k.band k
+      (λ last is. said_if step (is_trading k.phase && time_changes k step last) (band k step Times last.reference) [] k
+      (λ so. band_said Times last.reference (trading-unpaused k.phase (both_hold (is_trading k.phase) (time_changes k step last) so))) (λ else_so. none_said step k))
+
+straddling_said : (k : Kept) (step : Step) → Said step (straddling k step) k
+straddling_said k step =
+    said_if step (is_straddling_now k && not k.straddling) (out.Straddle k.id true ∷ []) (if k.straddling && not (is_straddling_now k) then out.Straddle k.id false ∷ [] else []) k
+    (λ so. straddle_said k step true)
+    (λ else_so. said_if step (k.straddling && not (is_straddling_now k)) (out.Straddle k.id false ∷ []) [] k (λ so. straddle_said k step false) (λ else_so. none_said step k))
+
+restricting_said : (k : Kept) (step : Step) → Said step (restricting k step) k
+restricting_said k step = said_if step k.restricts (out.Short k.id Triggered ∷ []) [] k (λ so. short_said k step Triggered) (λ else_so. none_said step k)
+
+announcing_said : (k : Kept) (step : Step) (x : Record) → Said step (announcing k x) k
+unfolding listed_said
+announcing_said k step (in_.Day t d c) = none_said step k
+announcing_said k step (in_.Listing t name n l c) =
+    said_if step k.short.carried (out.Listed k.id name ∷ out.Short k.id Carried ∷ []) (out.Listed k.id name ∷ []) k
+    (λ so. then_said step (out.Listed k.id name) (out.Short k.id Carried ∷ []) k (listed_said k step name) (short_said k step Carried)) (λ else_so. listed_said k step name)
+announcing_said k step (in_.Trade t i n p q f) = none_said step k
+announcing_said k step (in_.Cancel t i n) = none_said step k
+announcing_said k step (in_.Quote t i b o x y) = none_said step k
+announcing_said k step (in_.IndexTick t v) = none_said step k
+announcing_said k step (in_.Clock t) = none_said step k
+announcing_said k step (in_.Notice t i n) = none_said step k
+announcing_said k step (in_.Indication t i p u) = none_said step k
+
+leaving_said : (k : Kept) (step : Step) → Said step (leaving k step) k
+leaving_said k step = said_if step (is_limit k.phase && not (at_band k.phase k.quote k.band)) (becoming k Trading) [] k (λ so. becoming_said k step Trading refl) (λ else_so. none_said step k)
+
+entering_said : (k : Kept) (step : Step) → Said step (entering k step) k
+entering_said k step =
+    said_if step (not (is_trading k.phase)) [] (if at_band LimitLow k.quote k.band then becoming k LimitLow else if at_band LimitHigh k.quote k.band then becoming k LimitHigh else []) k (λ so. none_said step k)
+    (λ else_so. said_if step (at_band LimitLow k.quote k.band) (becoming k LimitLow) (if at_band LimitHigh k.quote k.band then becoming k LimitHigh else []) k (λ so. becoming_said k step LimitLow refl)
+    (λ else_so. said_if step (at_band LimitHigh k.quote k.band) (becoming k LimitHigh) [] k (λ so. becoming_said k step LimitHigh refl) (λ else_so. none_said step k)))
 
 -- The rules on two histories.
 
@@ -94,10 +190,9 @@ record Pair (mine other : List ℕ → Bool) (step : Step) (deals : List Deal) (
   pub one : Stands mine new deals step (publish ms h)
   pub two : Stands other new deals step (publish ns g)
 
-pair : (mine other : List ℕ → Bool) (step : Step) (deals : List Deal) (k : Kept) (ms ns : List Message) (h g : List Event) → AllBy (Some k.id) ms → ms ≡ ns
+pair : (mine other : List ℕ → Bool) (step : Step) (deals : List Deal) (k : Kept) (ms ns : List Message) (h g : List Event) → Said step ms k → ms ≡ ns
     → Stands mine k deals step h → Stands other k deals step g → Pair mine other step deals k ms ns h g
-pair mine other step deals k ms ns h g all same one two =
-    let further = said_all step ms k all in
+pair mine other step deals k ms ns h g further same one two =
     record {
       same = same;
       new = further.new;
@@ -118,40 +213,51 @@ pair_then mine other step deals k ms ns h g first a b rest =
       two = subst (Stands other rest.new deals step) (sym (publish-append ns b g)) rest.two;
     }
 
-abbrev Agrees : (Context → List Message) → Type 0
-Agrees rule =
-    (mine other : List ℕ → Bool) (k : Kept) (step : Step) (deals : List Deal) (h g : List Event) → Stands mine k deals step h → Stands other k deals step g
-    → rule (context step.day (named mine k.id) step.input h) ≡ rule (context step.day (named other k.id) step.input g)
+-- a rule by what is kept: what it gives, and that this leaves a kept state for each history
+record Ruled (rule : Context → List Message) : Type 0 where
+  pub ms : List Deal → Kept → Step → List Message
+  pub gives : (mine : List ℕ → Bool) (k : Kept) (step : Step) (deals : List Deal) (h : List Event) → Stands mine k deals step h → rule (context step.day (named mine k.id) step.input h) ≡ ms deals k step
+  pub says : (k : Kept) (step : Step) (deals : List Deal) → Said step (ms deals k step) k
 
-abbrev AllAgree : List (Context → List Message) → Type 0
-AllAgree [] = Unit {0}
-AllAgree (rule ∷ later) = Agrees rule × AllAgree later
+abbrev AllRuled : List (Context → List Message) → Type 0
+AllRuled [] = Unit {0}
+AllRuled (rule ∷ later) = Ruled rule × AllRuled later
 
-all_agree : AllAgree symbol_rules
-all_agree = (
-  λ mine other k step deals h g s t. turned-gives turns.session_close k step mine deals h s ∙ sym (turned-gives turns.session_close k step other deals g t),
+turning_ruled : (rule : Phase → Brakes → Option Phase) → Unpaused rule → Ruled (rules.turned rule)
+turning_ruled rule unpaused =
+    record {
+      ms = λ deals k step. option_map_or (becoming k) (rule k.phase (brakes k step)) [];
+      gives = λ mine k step deals h s. turned-gives rule k step mine deals h s;
+      says = λ k step deals. turning_said rule unpaused k step;
+    }
+
+all_ruled : AllRuled symbol_rules
+all_ruled = (
+  turning_ruled turns.session_close close-unpaused,
   (
-    λ mine other k step deals h g s t. turned-gives turns.market_halt k step mine deals h s ∙ sym (turned-gives turns.market_halt k step other deals g t),
+    turning_ruled turns.market_halt stop-unpaused,
     (
-      λ mine other k step deals h g s t. turned-gives turns.start k step mine deals h s ∙ sym (turned-gives turns.start k step other deals g t),
+      turning_ruled turns.start start-unpaused,
       (
-        λ mine other k step deals h g s t. turned-gives turns.regulatory_halt k step mine deals h s ∙ sym (turned-gives turns.regulatory_halt k step other deals g t),
+        turning_ruled turns.regulatory_halt halt-unpaused,
         (
-          λ mine other k step deals h g s t. pause-gives k step mine deals h s ∙ sym (pause-gives k step other deals g t),
+          record { ms = λ deals k step. pausing k step; gives = λ mine k step deals h s. pause-gives k step mine deals h s; says = λ k step deals. pausing_said k step },
           (
-            λ mine other k step deals h g s t. reopen-gives k step mine deals h s ∙ sym (reopen-gives k step other deals g t),
+            record { ms = λ deals k step. reopening k step; gives = λ mine k step deals h s. reopen-gives k step mine deals h s; says = λ k step deals. reopening_said k step },
             (
-              λ mine other k step deals h g s t. leave-gives k step mine deals h s ∙ sym (leave-gives k step other deals g t),
+              record { ms = λ deals k step. leaving k step; gives = λ mine k step deals h s. leave-gives k step mine deals h s; says = λ k step deals. leaving_said k step },
               (
-                λ mine other k step deals h g s t.
-                    banding-gives (mean_of (live step.moment (window k deals))) k step mine deals h s (mean-gives k step mine deals h s)
-                    ∙ sym (banding-gives (mean_of (live step.moment (window k deals))) k step other deals g t (mean-gives k step other deals g t)),
+                record {
+                  ms = λ deals k step. banding (mean_of (live step.moment (window k deals))) k step;
+                  gives = λ mine k step deals h s. banding-gives (mean_of (live step.moment (window k deals))) k step mine deals h s (mean-gives k step mine deals h s);
+                  says = λ k step deals. banding_said k step (mean_of (live step.moment (window k deals)));
+                },
                 (
-                  λ mine other k step deals h g s t. enter-gives k step mine deals h s ∙ sym (enter-gives k step other deals g t),
+                  record { ms = λ deals k step. entering k step; gives = λ mine k step deals h s. enter-gives k step mine deals h s; says = λ k step deals. entering_said k step },
                   (
-                    λ mine other k step deals h g s t. straddle-gives k step mine deals h s ∙ sym (straddle-gives k step other deals g t),
+                    record { ms = λ deals k step. straddling k step; gives = λ mine k step deals h s. straddle-gives k step mine deals h s; says = λ k step deals. straddling_said k step },
                     (
-                      λ mine other k step deals h g s t. restrict-gives k step mine deals h s ∙ sym (restrict-gives k step other deals g t),
+                      record { ms = λ deals k step. restricting k step; gives = λ mine k step deals h s. restrict-gives k step mine deals h s; says = λ k step deals. restricting_said k step },
                       tt,
                     ),
                   ),
@@ -165,31 +271,33 @@ all_agree = (
   ),
 )
 
-all_front : (s : Option ℕ) (a b : List Message) → AllBy s (a ++ b) → AllBy s a
-all_front s [] b all = tt
-all_front s (m ∷ a) b all = (all.0, all_front s a b all.1)
-
-obeyed_pair : (rule : Context → List Message) → Agrees rule → AllSpeak (rule ∷ []) → (mine other : List ℕ → Bool) (step : Step) (deals : List Deal) (k : Kept) (h g : List Event)
+obeyed_pair : (rule : Context → List Message) → Ruled rule → (mine other : List ℕ → Bool) (step : Step) (deals : List Deal) (k : Kept) (h g : List Event)
     → Stands mine k deals step h → Stands other k deals step g
     → Pair mine other step deals k (obeyed step.day (named mine k.id) step.input rule h) (obeyed step.day (named other k.id) step.input rule g) h g
-obeyed_pair rule agrees speaks mine other step deals k h g s t =
+obeyed_pair rule r mine other step deals k h g s t =
     pair mine other step deals k (obeyed step.day (named mine k.id) step.input rule h) (obeyed step.day (named other k.id) step.input rule g) h g
-    (all_front (Some k.id) (obeyed step.day (named mine k.id) step.input rule h) [] (all_obeyed-by step.day (named mine k.id) step.input (rule ∷ []) h speaks))
-    (λ i. cond (is_done ((sym s.phase ∙ t.phase) i)) [] (agrees mine other k step deals h g s t i)) s t
+    (subst (λ (ms : List Message). Said step ms k) (sym one) (said_if step (is_done k.phase) [] (r.ms deals k step) k (λ so. none_said step k) (λ else_so. r.says k step deals)))
+    (one ∙ sym two) s t
+  where
+    one : obeyed step.day (named mine k.id) step.input rule h ≡ (if is_done k.phase then [] else r.ms deals k step)
+    one = λ i. cond (is_done (sym s.phase i)) [] (r.gives mine k step deals h s i)
 
-obeyed_pairs : (later : List (Context → List Message)) → AllAgree later → AllSpeak later → (mine other : List ℕ → Bool) (step : Step) (deals : List Deal) (k : Kept) (h g : List Event)
+    two : obeyed step.day (named other k.id) step.input rule g ≡ (if is_done k.phase then [] else r.ms deals k step)
+    two = λ i. cond (is_done (sym t.phase i)) [] (r.gives other k step deals g t i)
+
+obeyed_pairs : (later : List (Context → List Message)) → AllRuled later → (mine other : List ℕ → Bool) (step : Step) (deals : List Deal) (k : Kept) (h g : List Event)
     → Stands mine k deals step h → Stands other k deals step g
     → Pair mine other step deals k (all_obeyed step.day (named mine k.id) step.input later h) (all_obeyed step.day (named other k.id) step.input later g) h g
-obeyed_pairs [] agree speak mine other step deals k h g s t = record { same = refl; new = k; id = refl; one = s; two = t }
-obeyed_pairs (rule ∷ later) agree speak mine other step deals k h g s t =
+obeyed_pairs [] all mine other step deals k h g s t = record { same = refl; new = k; id = refl; one = s; two = t }
+obeyed_pairs (rule ∷ later) all mine other step deals k h g s t =
     let ms = obeyed step.day (named mine k.id) step.input rule h in
     let ns = obeyed step.day (named other k.id) step.input rule g in
-    let first = obeyed_pair rule agree.0 (speak.0, tt) mine other step deals k h g s t in
+    let first = obeyed_pair rule all.0 mine other step deals k h g s t in
     pair_then mine other step deals k ms ns h g first
     (all_obeyed step.day (named mine k.id) step.input later (publish ms h)) (all_obeyed step.day (named other k.id) step.input later (publish ns g))
     (subst
     (λ (i : ℕ). Pair mine other step deals first.new (all_obeyed step.day (named mine i) step.input later (publish ms h)) (all_obeyed step.day (named other i) step.input later (publish ns g)) (publish ms h) (publish ns g))
-    first.id (obeyed_pairs later agree.1 speak.1 mine other step deals first.new (publish ms h) (publish ns g) first.one first.two))
+    first.id (obeyed_pairs later all.1 mine other step deals first.new (publish ms h) (publish ns g) first.one first.two))
 
 -- A record on two histories.
 
@@ -218,13 +326,13 @@ step_pair mine other step k kept others more h g p q =
     let ns = announced (named other k.id) step.input G in
     let first =
     pair mine other step dropped (taken k step) ms ns H G
-    (all_front (Some k.id) ms _ (own_part-by step.input (named mine k.id) H))
+    (subst (λ (xs : List Message). Said step xs (taken k step)) (sym (announced-gives (taken k step) step mine dropped H step.input s)) (announcing_said (taken k step) step step.input))
     (announced-gives (taken k step) step mine dropped H step.input s ∙ sym (announced-gives (taken k step) step other dropped G step.input t)) s t in
     pair_then mine other step dropped (taken k step) ms ns H G first
     (all_obeyed step.day (named mine k.id) step.input symbol_rules (publish ms H)) (all_obeyed step.day (named other k.id) step.input symbol_rules (publish ns G))
     (subst
     (λ (i : ℕ). Pair mine other step dropped first.new (all_obeyed step.day (named mine i) step.input symbol_rules (publish ms H)) (all_obeyed step.day (named other i) step.input symbol_rules (publish ns G)) (publish ms H) (publish ns G))
-    first.id (obeyed_pairs symbol_rules all_agree rules_speak mine other step dropped first.new (publish ms H) (publish ns G) first.one first.two))
+    first.id (obeyed_pairs symbol_rules all_ruled mine other step dropped first.new (publish ms H) (publish ns G) first.one first.two))
 
 step_twins : (mine other : List ℕ → Bool) (step : Step) (k : Kept) (kept : List Deal) (others more : List Message) (h g : List Event) → Starts mine k kept step others h → Starts other k kept step more g
     → Alike mine other k.id (step_of step.day (named mine k.id) step.input (open_history step.input others h)) (step_of step.day (named other k.id) step.input (open_history step.input more g))

@@ -20,16 +20,14 @@ use Rattle.refprice_core.specs.declared.reference.Priced.{Priced}
 use Rattle.window_core.specs.declared.window.Deal.{Deal}
 use Rattle.window_core.specs.Deals.{live, mean_of}
 use Rattle.window_core.proofs.Deals.{live-live}
-use Rattle.reopen_core.specs.declared.auction.Round.{Round}
 use Rattle.reopen_core.specs.declared.auction.Trial.TheVariants as trial
-use Rattle.reopen_core.specs.Collars.{auction_reference}
+use Rattle.reopen_core.specs.AuctionState.{AuctionState, with_trial}
 use Rattle.reopen_core.specs.Trials as trials
 use Rattle.wire_in.proofs.RecordKinds.{by_tick, tick as only_ticks}
 use Rattle.rulebook.specs.declared.event.Event.{Event}
 use Rattle.rulebook.specs.declared.event.Event.TheVariants.{Accepted}
 use Rattle.rulebook.specs.declared.symbol.Banded.{Banded}
 use Rattle.rulebook.specs.declared.symbol.Terms.{Terms}
-use Rattle.rulebook.specs.Auction.{is_paused}
 use Rattle.rulebook.proofs.Histories.{now-publish}
 use Rattle.rulebook.specs.Book.{Named, all_obeyed, announced, context, obeyed, symbol_rules}
 use Rattle.rulebook.specs.History.{publish}
@@ -41,7 +39,7 @@ use Rattle.symbol_core.specs.declared.kept.Kept.{Kept}
 use Rattle.symbol_core.specs.declared.kept.Step.{Step}
 use Rattle.symbol_core.specs.declared.symbol.MarketView.{MarketView}
 use Rattle.symbol_core.specs.Evaluates.{Evaluates, Opens, open_history, part_of}
-use Rattle.symbol_core.specs.Kept.{becoming, brakes, pausing_as, reopened, reopening, reopening_after, reopening_with}
+use Rattle.symbol_core.specs.Kept.{becoming, brakes, pausing_as, reopened, reopening, reopening_with}
 use Rattle.symbol_core.specs.Pricing.{band, band_by_time, reference, time_changes}
 use Rattle.symbol_core.specs.Idle.{IsDue, IsIdle, IsQuiet, IsRested, IsSettled, Waits, changes_bands, reopens_at, starts_at}
 use Rattle.symbol_core.specs.Rests.{Held}
@@ -166,16 +164,13 @@ not_true false e = absurd cc
 
 -- before the five minutes of a round have passed, no trial is due
 reopens_none : (k : Kept) (step : Step) → reopens_at k step.moment ≡ false → reopening k step ≡ []
-reopens_none k step e = by (is_paused k.phase) k.round e where
-  with_band : (round : Round) (o : Option Banded) → nat_lt step.moment (round.moment + five_minutes) ≡ true → option_map_or (reopening_with k step round) o [] ≡ []
-  with_band round None early = refl
-  with_band round (Some b) early =
-      ap (λ (early : Bool). reopened k round.number (if early then trial.NotDue else if in_last_10_minutes step.moment step.day then trial.Closing else trials.outcome k.indication (auction_reference k.origin b.bands b.reference) round.collars)) early
-
-  by : (paused : Bool) (o : Option Round) → (paused && option_map_or (λ round. not (nat_lt step.moment (round.moment + five_minutes))) o false) ≡ false → (if paused then option_map_or (reopening_after k step) o [] else []) ≡ []
-  by false o e = refl
-  by true None e = refl
-  by true (Some round) e = with_band round k.band (not_true (nat_lt step.moment (round.moment + five_minutes)) e)
+reopens_none k step e = by k.auction e where
+  by : (o : Option AuctionState) → option_map_or (λ a. not (nat_lt step.moment (a.round.moment + five_minutes))) o false ≡ false → option_map_or (reopening_with k step) o [] ≡ []
+  by None e = refl
+  by (Some a) e =
+      ap
+      (λ (early : Bool). let o = (if early then trial.NotDue else if in_last_10_minutes step.moment step.day then trial.Closing else trials.outcome a.indication a.reference a.round.collars) in reopened k (with_trial step.moment o a) o)
+      (not_true (nat_lt step.moment (a.round.moment + five_minutes)) e)
 
 -- where time gives the bands that there are, none are published
 bands_none : (k : Kept) (step : Step) → changes_bands k step ≡ false → option_map_or (band_by_time k step) k.band [] ≡ []
@@ -204,7 +199,7 @@ quiet_rules k deals step quiet mine h s = (
             ∙ ap (λ (o : Option Phase). option_map_or (becoming k) o []) (halted_none (Some Phase.Halted) (Some (phase_after_regulatory_halt (brakes k step))) k.halted (is_in_regulatory_halt k.phase) settled.halted)),
         (
           said rules.pause (pause-gives k step mine deals h s
-              ∙ (λ i. option_map_or (pausing_as k) (if quiet.pauses i || (quiet.asks i && is_trading k.phase && k.straddling) then (if in_last_10_minutes t step.day then Some Phase.Closing else Some Phase.Paused) else None) [])),
+              ∙ (λ i. option_map_or (pausing_as k step) (if quiet.pauses i || (quiet.asks i && is_trading k.phase && k.straddling) then (if in_last_10_minutes t step.day then Some Phase.Closing else Some Phase.Paused) else None) [])),
           (
             said rules.reopen (reopen-gives k step mine deals h s ∙ reopens_none k step quiet.reopens),
             (

@@ -20,13 +20,12 @@ use Rattle.percent_core.specs.PriceBands.{bands}
 use Rattle.refprice_core.specs.declared.reference.Adoption.{Adoption}
 use Rattle.refprice_core.specs.declared.reference.Priced.{Priced}
 use Rattle.refprice_core.specs.Prices.{because, forced, has_stood, is_in_opening_period, moved_price}
-use Rattle.reopen_core.specs.declared.auction.Round.{Round}
+use Rattle.reopen_core.specs.AuctionState.{AuctionState}
 use Rattle.window_core.specs.declared.window.Deal.{Deal}
 use Rattle.window_core.specs.Deals.{live, mean_of}
 use Rattle.wire_in.proofs.RecordKinds.{by_tick}
 use Rattle.rulebook.specs.declared.symbol.Banded.{Banded}
 use Rattle.rulebook.specs.declared.symbol.Terms.{Terms}
-use Rattle.rulebook.specs.Auction.{is_paused}
 use Rattle.rulebook.specs.Rules as rules
 use Rattle.rulebook.specs.Rules.{or_else}
 use Rattle.rulebook.specs.Symbol as of
@@ -80,19 +79,13 @@ limited-once p lasted asked straddling last =
 
 -- The trials of an auction.
 
-abbrev tried : Kept → ℕ → Bool → Option Round → Bool
-tried k u paused o = paused && option_map_or (λ round. not (nat_lt u (round.moment + five_minutes))) o false
+pub reopens-early : (k : Kept) (a : AuctionState) (u : ℕ) → k.auction ≡ Some a → u < a.round.moment + five_minutes → reopens_at k u ≡ false
+reopens-early k a u is before =
+    let early : nat_lt u (a.round.moment + five_minutes) ≡ true = grind (arith, nat_tests) in
+    ap (λ (o : Option AuctionState). option_map_or (λ b. not (nat_lt u (b.round.moment + five_minutes))) o false) is ∙ ap (λ (b : Bool). not b) early
 
-pub reopens-early : (k : Kept) (round : Round) (u : ℕ) → k.round ≡ Some round → u < round.moment + five_minutes → reopens_at k u ≡ false
-reopens-early k round u is before =
-    let early : nat_lt u (round.moment + five_minutes) ≡ true = grind (arith, nat_tests) in
-    ap (λ (o : Option Round). tried k u (is_paused k.phase) o) is ∙ ap (λ (b : Bool). is_paused k.phase && not b) early ∙ nothing_and (is_paused k.phase)
-
-pub reopens-without : (k : Kept) (u : ℕ) → k.round ≡ None → reopens_at k u ≡ false
-reopens-without k u is = ap (λ (o : Option Round). tried k u (is_paused k.phase) o) is ∙ nothing_and (is_paused k.phase)
-
-pub reopens-never : (k : Kept) (u : ℕ) → is_paused k.phase ≡ false → reopens_at k u ≡ false
-reopens-never k u e = ap (λ (b : Bool). tried k u b k.round) e
+pub reopens-without : (k : Kept) (u : ℕ) → k.auction ≡ None → reopens_at k u ≡ false
+reopens-without k u is = ap (λ (o : Option AuctionState). option_map_or (λ b. not (nat_lt u (b.round.moment + five_minutes))) o false) is
 
 -- The bands that time brings.
 

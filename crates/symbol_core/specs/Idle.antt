@@ -15,7 +15,6 @@ use Rattle.refprice_core.specs.Prices.{has_stood, is_in_opening_period}
 use Rattle.window_core.specs.declared.window.Deal.{Deal}
 use Rattle.window_core.specs.Deals.{live, mean_of}
 use Rattle.rulebook.specs.declared.symbol.Banded.{Banded}
-use Rattle.rulebook.specs.Auction.{is_paused}
 use Rattle.rulebook.specs.Rules.{asks_to_pause, at_band}
 use Rattle.symbol_core.specs.declared.due.Due.{Due}
 use Rattle.symbol_core.specs.declared.kept.Kept.{Kept}
@@ -64,7 +63,7 @@ abbrev pub PausesFrom : Kept → ℕ → Type 0
 PausesFrom k until = (u : ℕ) → u < until → pauses_at k u ≡ false
 
 abbrev pub reopens_at : Kept → ℕ → Bool
-reopens_at k u = is_paused k.phase && option_map_or (λ round. not (nat_lt u (round.moment + five_minutes))) k.round false
+reopens_at k u = option_map_or (λ auction. not (nat_lt u (auction.round.moment + five_minutes))) k.auction false
 
 abbrev pub ReopensFrom : Kept → ℕ → Type 0
 ReopensFrom k until = (u : ℕ) → u < until → reopens_at k u ≡ false

@@ -1,5 +1,5 @@
 -- What the code does to the kept state, in one equation each. Private words: no public clause cites them.
-use Rattle.std.specs.Prelude.{ℕ, Bool, true, false, Option, Some, None, List, [], ◌∷◌, ◌++◌, ◌==◌, if◌then◌else◌, ◌&&◌, ◌||◌, not, is_some, map, unwrap_or, ◌+◌, ◌≤◌}
+use Rattle.std.specs.Prelude.{ℕ, Bool, true, false, Option, Some, None, List, [], ◌∷◌, ◌++◌, ◌==◌, if◌then◌else◌, ◌&&◌, ◌||◌, not, is_some, map, unwrap_or, option_map, ◌+◌}
 use Rattle.std.specs.Option.{option_map_or}
 use Rattle.price_core.specs.declared.quote.Quotation.{Quotation}
 use Rattle.session_core.specs.declared.state.Phase.{Phase}
@@ -16,10 +16,11 @@ use Rattle.limit_core.specs.Timers.{has_lasted}
 use Rattle.pause_core.specs.declared.turning.Brakes.{Brakes}
 use Rattle.pause_core.specs.Pauses.{pause}
 use Rattle.pause_core.specs.Phases.{is_limit, is_trading}
+use Rattle.reopen_core.specs.declared.auction.Indication.{Indication}
 use Rattle.reopen_core.specs.declared.auction.Round.{Round}
 use Rattle.reopen_core.specs.declared.auction.Trial.{Trial}
 use Rattle.reopen_core.specs.declared.auction.Trial.TheVariants as trial
-use Rattle.reopen_core.specs.Collars.{auction_reference, first_collars}
+use Rattle.reopen_core.specs.AuctionState.{AuctionState, begun, with_indication, with_trial}
 use Rattle.reopen_core.specs.Trials as trials
 use Rattle.rulebook.specs.declared.symbol.Banded.{Banded}
 use Rattle.rulebook.specs.Auction.{is_paused, indicated_by, origin_of}
@@ -47,8 +48,7 @@ turned k step p = record k {
   quote = if begins k p then quoted_by k.id step.input else k.quote;
   band = if begins k p then None else k.band;
   adopted = if begins k p then 0 else k.adopted;
-  origin = if is_paused p then origin_of k.phase else k.origin;
-  indication = if is_paused p then indicated_by k.id step.input else k.indication;
+  auction = None;
   left_limit = (is_trading p && is_limit k.phase) || k.left_limit;
   is_fresh = begins k p || k.is_fresh;
 }
@@ -56,8 +56,27 @@ turned k step p = record k {
 abbrev pub straddled : Kept → Bool → Kept
 straddled k on = record k { straddling = on }
 
-abbrev pub with_round : Kept → Round → Kept
-with_round k round = record k { round = Some round }
+abbrev pub with_auction : Kept → Option AuctionState → Kept
+with_auction k auction = record k { auction = auction }
+
+-- an auction begins where the stock is paused in a run that has bands
+abbrev pub begins_auction : Kept → Phase → Bool
+begins_auction k p = is_paused p && is_some k.band
+
+-- the auction that begins with those bands, and with what the step's record indicates
+abbrev pub auction_begun : Kept → Step → Banded → AuctionState
+auction_begun k step b =
+    let first = begun step.moment (origin_of k.phase) b.bands b.reference in
+    record first { indication = indicated_by k.id step.input }
+
+-- an auction in another round
+abbrev pub in_round : Round → AuctionState → AuctionState
+in_round round auction = record auction { round = round }
+
+-- an auction once a record is taken in, with what it indicates
+abbrev pub heard : Option Indication → Option AuctionState → Option AuctionState
+heard None auction = auction
+heard (Some i) auction = option_map (with_indication i.price i.unmatched) auction
 
 abbrev pub released : Kept → ℕ → Kept
 released k price = record k { released = Some price }
@@ -91,45 +110,34 @@ brakes k step = record {
 abbrev pub states : ℕ → List Phase → List Message
 states s phases = map (λ p. out.State s p) phases
 
-abbrev pub first_round : ℕ → Phase → Banded → List Message
-first_round s origin b = collar s 0 (first_collars (origin_of origin) b.bands b.reference)
+-- the message of an auction's last round
+abbrev pub collars_of : ℕ → AuctionState → List Message
+collars_of s auction = collar s auction.round.number auction.round.collars
 
-abbrev pub first_rounds : ℕ → Phase → Option Banded → List Message
-first_rounds s origin band = option_map_or (first_round s origin) band []
-
-abbrev pub pausing_as : Kept → Phase → List Message
-pausing_as k p = becoming k p ++ (if is_paused p then first_rounds k.id k.phase k.band else [])
+abbrev pub pausing_as : Kept → Step → Phase → List Message
+pausing_as k step p = becoming k p ++ (if is_paused p then option_map_or (λ b. collars_of k.id (auction_begun k step b)) k.band [] else [])
 
 abbrev pub pause_now : Kept → Step → Option Phase
 pause_now k step =
     pause (has_lasted k.since step.moment) (asks_to_pause k.id step.input) k.straddling k.phase (in_last_10_minutes step.moment step.day)
 
 abbrev pub pausing : Kept → Step → List Message
-pausing k step = option_map_or (pausing_as k) (pause_now k step) []
+pausing k step = option_map_or (pausing_as k step) (pause_now k step) []
 
-abbrev pub reopened : Kept → ℕ → Trial → List Message
-reopened k round trial.NotDue = []
-reopened k round (trial.Extend collars) = collar k.id (round + 1) collars
-reopened k round (trial.Release price) = out.Release k.id price ∷ becoming k Trading
-reopened k round trial.Closing = becoming k Closing
+-- what a trial publishes that left the auction like this
+abbrev pub reopened : Kept → AuctionState → Trial → List Message
+reopened k auction trial.NotDue = []
+reopened k auction (trial.Extend collars) = collars_of k.id auction
+reopened k auction (trial.Release price) = out.Release k.id price ∷ becoming k Trading
+reopened k auction trial.Closing = becoming k Closing
 
-abbrev pub trial_now : Kept → Step → Round → Banded → Trial
-trial_now k step round b =
-    trials.trial step.moment (in_last_10_minutes step.moment step.day) round (auction_reference k.origin b.bands b.reference) k.indication
-
-abbrev pub reopening_with : Kept → Step → Round → Banded → List Message
-reopening_with k step round b = reopened k round.number (trial_now k step round b)
-
-abbrev pub reopening_after : Kept → Step → Round → List Message
-reopening_after k step round = option_map_or (reopening_with k step round) k.band []
+abbrev pub reopening_with : Kept → Step → AuctionState → List Message
+reopening_with k step auction =
+    let trial = trials.trial step.moment (in_last_10_minutes step.moment step.day) auction.round auction.reference auction.indication in
+    reopened k (with_trial step.moment trial auction) trial
 
 abbrev pub reopening : Kept → Step → List Message
-reopening k step = if is_paused k.phase then option_map_or (reopening_after k step) k.round [] else []
-
--- a further round is begun five minutes after this one at least
-abbrev pub IsDue : ℕ → Round → Trial → Type 0
-IsDue t round (trial.Extend collars) = round.moment + five_minutes ≤ t
-IsDue t round other = Unit {0}
+reopening k step = option_map_or (reopening_with k step) k.auction []
 
 abbrev pub is_straddling_now : Kept → Bool
 is_straddling_now k = is_trading k.phase && meets straddles k.quote k.band

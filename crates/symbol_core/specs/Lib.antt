@@ -1,3 +1,4 @@
+pub mod Auctions
 pub mod Kept
 pub mod Pricing
 pub mod Window

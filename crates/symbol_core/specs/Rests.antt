@@ -3,7 +3,6 @@ use Rattle.std.specs.Prelude.{◌≡◌, ℕ, Bool, false, List, []}
 use Rattle.std.specs.Option.{option_map_or}
 use Rattle.window_core.specs.declared.window.Deal.{Deal}
 use Rattle.rulebook.specs.declared.event.Event.{Event}
-use Rattle.rulebook.specs.Auction as auction
 use Rattle.rulebook.specs.History.{now, today, records}
 use Rattle.rulebook.specs.Market.{day_record}
 use Rattle.rulebook.specs.Rules as rules
@@ -11,6 +10,7 @@ use Rattle.rulebook.specs.Rules.{triggered_in}
 use Rattle.rulebook.specs.Symbol as of
 use Rattle.rulebook.specs.Symbol.{deals_of}
 use Rattle.symbol_core.specs.declared.kept.Kept.{Kept}
+use Rattle.symbol_core.specs.Auctions.{auction_of}
 use Rattle.symbol_core.specs.Window.{SameLive}
 
 -- the kept state and the kept deals
@@ -37,9 +37,7 @@ pub record Rests (own : List ℕ → Bool) (held : Held) (h : List Event) : Type
   pub adopted : held.kept.adopted ≡ of.adopted h held.kept.id
   pub straddling : held.kept.straddling ≡ of.was_straddling h held.kept.id
   pub halted : held.kept.halted ≡ of.is_under_regulatory_halt h held.kept.id
-  pub round : held.kept.round ≡ auction.last_round h held.kept.id
-  pub origin : held.kept.origin ≡ auction.origin h held.kept.id
-  pub indication : held.kept.indication ≡ auction.indication h held.kept.id
+  pub auction : held.kept.auction ≡ auction_of h held.kept.id
   pub prior_close : held.kept.short.prior_close ≡ of.prior_close h own
   pub triggered : held.kept.short.triggered ≡ triggered_today own held.kept.id h
   pub carried : held.kept.short.carried ≡ rules.is_carried h own held.kept.id

@@ -7,7 +7,6 @@ use Rattle.pause_core.specs.Phases.{is_done}
 use Rattle.window_core.specs.declared.window.Deal.{Deal}
 use Rattle.rulebook.specs.declared.event.Event.{Event}
 use Rattle.rulebook.specs.declared.event.Event.TheVariants.{Accepted}
-use Rattle.rulebook.specs.Auction as auction
 use Rattle.rulebook.specs.Book.{Named, context, obeyed, all_obeyed, symbol_rules}
 use Rattle.rulebook.specs.History.{now, newest, records, today, publish}
 use Rattle.rulebook.specs.Market.{is_market_halted}
@@ -18,6 +17,7 @@ use Rattle.rulebook.specs.Symbol.{deals_in, deals_of}
 use Rattle.symbol_core.specs.declared.kept.Kept.{Kept}
 use Rattle.symbol_core.specs.declared.kept.Step.{Step}
 use Rattle.symbol_core.specs.Kept.{announcing}
+use Rattle.symbol_core.specs.Auctions.{auction_of}
 use Rattle.symbol_core.specs.Window.{SameLive, window}
 
 -- the symbol of an id whose names are those of a test
@@ -42,9 +42,7 @@ pub record Stands (own : List ℕ → Bool) (k : Kept) (deals : List Deal) (step
   pub adopted : k.adopted ≡ of.adopted h k.id
   pub straddling : k.straddling ≡ of.was_straddling h k.id
   pub halted : k.halted ≡ of.is_under_regulatory_halt h k.id
-  pub round : k.round ≡ auction.last_round h k.id
-  pub origin : k.origin ≡ auction.origin h k.id
-  pub indication : k.indication ≡ auction.indication h k.id
+  pub auction : k.auction ≡ auction_of h k.id
   pub prior_close : k.short.prior_close ≡ of.prior_close h own
   pub triggered : k.short.triggered ≡ rules.triggered_in own step.day k.id (records h)
   pub carried : k.short.carried ≡ rules.is_carried h own k.id

@@ -10,14 +10,13 @@ use Rattle.eligible_core.specs.Conditions.{eligible}
 use Rattle.short_core.specs.Restriction.{triggers}
 use Rattle.short_core.specs.ShortState.{ShortState, listed}
 use Rattle.window_core.specs.declared.window.Deal.{Deal}
-use Rattle.reopen_core.specs.declared.auction.Origin.TheVariants.{Straddle}
 use Rattle.rulebook.specs.declared.symbol.Terms.{Terms}
 use Rattle.rulebook.specs.Auction.{indicated_by}
 use Rattle.rulebook.specs.Rules.{or_else}
 use Rattle.rulebook.specs.Symbol.{cancels}
 use Rattle.symbol_core.specs.declared.kept.Kept.{Kept}
 use Rattle.symbol_core.specs.declared.kept.Step.{Step}
-use Rattle.symbol_core.specs.Kept.{quoted_by}
+use Rattle.symbol_core.specs.Kept.{heard, quoted_by}
 
 -- today's terms once a record is taken in
 abbrev pub listed_by : Record → Option Terms → Option Terms
@@ -68,7 +67,7 @@ taken k step = record k {
   terms = listed_by step.input k.terms;
   quote = if is_some k.begun then or_else (quoted_by k.id step.input) k.quote else k.quote;
   halted = halted_by k.id step.input k.halted;
-  indication = or_else (indicated_by k.id step.input) k.indication;
+  auction = heard (indicated_by k.id step.input) k.auction;
   left_limit = false;
   released = None;
   deal = deal_of step.day k.id step.input;
@@ -100,9 +99,7 @@ renewed s carried = record {
   adopted = 0;
   straddling = false;
   halted = false;
-  round = None;
-  origin = Straddle;
-  indication = None;
+  auction = None;
   short = listed None carried;
   left_limit = false;
   released = None;

@@ -5,6 +5,7 @@ ghost use Rattle.price_core.specs.Moves.{moved_one_percent};
 ghost use Rattle.pause_core.specs.Phases.{is_done};
 ghost use Rattle.window_core.specs.Deals.{live, mean_of};
 ghost use Rattle.refprice_core.specs.Prices as prices;
+ghost use Rattle.rulebook.specs.Auction.{is_paused};
 ghost use Rattle.rulebook.specs.Rules as rules;
 ghost use Rattle.rulebook.specs.Symbol.{bands_of, prior_close_of};
 ghost use Rattle.symbol_core.specs.Pricing as pricing;
@@ -170,7 +171,8 @@ impl Kept {
     }
 
     fn band(&mut self, step: &Step, cause: Cause, price: Price, out: &mut Vec<Message>)
-        requires { vec_len out.old + 1 ≤ vec_capacity out.old }
+        requires unpaused { is_paused self.old.phase ≡ false }
+        requires room { vec_len out.old + 1 ≤ vec_capacity out.old }
         ensures says { Says (pricing.band self.old step.now cause price) step.now self.old self.new out.old.items out.new.items }
         ensures room { vec_capacity out.old ≤ vec_capacity out.new }
         ensures len { vec_len out.new ≤ vec_len out.old + 1 }

@@ -15,7 +15,6 @@ ghost use Rattle.symbol_core.specs.Window.{window};
 
 use crate::kept::{Kept, Step};
 use crate::records::comes_often;
-use crate::says::is_paused;
 use crate::symbol::MarketView;
 use crate::turns::at_band;
 use pause_core::{
@@ -215,11 +214,8 @@ impl Kept {
     fn reopens_from(&self) -> u64
         ensures { ReopensFrom self.now result }
     {
-        if !is_paused(self.phase) {
-            return u64::MAX;
-        }
-        match &self.round {
-            Some(timed) => timed.round().moment.nanos() + FIVE_MINUTES,
+        match &self.auction {
+            Some(auction) => auction.due(),
             None => u64::MAX,
         }
     }

@@ -1,6 +1,5 @@
-use crate::round::TimedRound;
 use price_core::{Price, Quotation};
-use reopen_core::{Indication, Origin};
+use reopen_core::Auction;
 use rulebook::{Banded, Terms};
 use session_core::{Day, Moment, Phase};
 use short_core::Short;
@@ -27,12 +26,8 @@ pub struct Kept {
     pub straddling: bool,
     /// Whether a regulatory halt is in effect.
     pub halted: bool,
-    /// The last round of an auction.
-    pub round: Option<TimedRound>,
-    /// What the last pause came from.
-    pub origin: Origin,
-    /// The last indication since the last pause.
-    pub indication: Option<Indication>,
+    /// The reopening auction, while the symbol is paused.
+    pub auction: Option<Auction>,
     /// The short sale restriction.
     pub short: Short,
     /// Whether the open step has left a limit state.

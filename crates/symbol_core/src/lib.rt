@@ -9,7 +9,6 @@ mod pausing;
 mod records;
 mod reopening;
 mod restriction;
-mod round;
 mod says;
 mod symbol;
 mod taking;

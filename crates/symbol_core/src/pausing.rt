@@ -5,18 +5,15 @@ ghost use Rattle.pause_core.specs.Phases.{is_done};
 ghost use Rattle.rulebook.specs.Auction.{is_paused};
 ghost use Rattle.rulebook.specs.Rules as rules;
 ghost use Rattle.symbol_core.specs.Idle.{pauses_at};
-ghost use Rattle.symbol_core.specs.Kept.{first_rounds, pause_now, pausing, pausing_as};
+ghost use Rattle.symbol_core.specs.Kept.{pause_now, pausing, pausing_as};
 ghost use Rattle.symbol_core.specs.Stands.{Obeys, Says};
 
 use crate::kept::{Kept, Step};
 use crate::records::asks_to_pause;
-use crate::round::TimedRound;
-use crate::says::{is_paused, origin_of};
+use crate::says::is_paused;
 use limit_core::LimitTimer;
 use pause_core::pause;
 use price_core::Side;
-use reopen_core::first_collars;
-use rulebook::Banded;
 use session_core::{Moment, Phase, last_10};
 use wire_out::Message;
 
@@ -44,45 +41,27 @@ impl Kept {
         )
     }
 
-    fn say_first_round(
-        &mut self,
-        step: &Step,
-        origin: Phase,
-        band: &Option<Banded>,
-        out: &mut Vec<Message>,
-    )
-        requires { vec_len out.old + 1 ≤ vec_capacity out.old }
-        ensures says { Says (first_rounds self.old.id origin band.now) step.now self.old self.new out.old.items out.new.items }
-        ensures room { vec_capacity out.old ≤ vec_capacity out.new }
-        ensures len { vec_len out.new ≤ vec_len out.old + 1 }
-    {
-        if let Some(b) = band {
-            let collars = first_collars(origin_of(origin), &b.bands, b.reference);
-            self.say_round(step, &TimedRound::first(step.moment, collars), out);
-        }
-    }
-
-    fn begin_auction(&mut self, step: &Step, phase: Phase, out: &mut Vec<Message>)
+    fn begin_pause(&mut self, step: &Step, phase: Phase, out: &mut Vec<Message>)
         requires paused { is_paused phase ≡ true }
         requires room { vec_len out.old + 2 ≤ vec_capacity out.old }
-        ensures says { Says (pausing_as self.old phase) step.now self.old self.new out.old.items out.new.items }
+        ensures says { Says (pausing_as self.old step.now phase) step.now self.old self.new out.old.items out.new.items }
         ensures room { vec_capacity out.old ≤ vec_capacity out.new }
         ensures len { vec_len out.new ≤ vec_len out.old + 2 }
     {
-        let origin = self.phase;
-        let band = self.band;
-        self.becomes(step, phase, out);
-        self.say_first_round(step, origin, &band, out);
+        match self.band {
+            Some(b) => self.say_pause(step, phase, &b, out),
+            None => self.becomes(step, phase, out),
+        }
     }
 
     fn pause_as(&mut self, step: &Step, phase: Phase, out: &mut Vec<Message>)
         requires { vec_len out.old + 2 ≤ vec_capacity out.old }
-        ensures says { Says (pausing_as self.old phase) step.now self.old self.new out.old.items out.new.items }
+        ensures says { Says (pausing_as self.old step.now phase) step.now self.old self.new out.old.items out.new.items }
         ensures room { vec_capacity out.old ≤ vec_capacity out.new }
         ensures len { vec_len out.new ≤ vec_len out.old + 2 }
     {
         if is_paused(phase) {
-            self.begin_auction(step, phase, out);
+            self.begin_pause(step, phase, out);
         } else {
             self.becomes(step, phase, out);
         }

@@ -1,18 +1,15 @@
 // What a symbol says, and what is then kept of it.
-ghost use Rattle.std.specs.Prelude.{true, None, Some, ◌≡◌, ◌+◌, ◌≤◌, ◌++◌, ◌∷◌, [], List, vec_len, vec_capacity};
+ghost use Rattle.std.specs.Prelude.{true, false, None, Some, ◌≡◌, ◌+◌, ◌≤◌, ◌++◌, ◌∷◌, [], List, option_map, vec_len, vec_capacity};
 ghost use Rattle.rulebook.specs.Auction.{is_paused, origin_of};
-ghost use Rattle.rulebook.specs.Rules.{collar};
 ghost use Rattle.rulebook.specs.Symbol.{is_times};
-ghost use Rattle.symbol_core.specs.Kept.{quoted_by, turned};
-ghost use Rattle.rulebook.specs.Auction.{indicated_by};
+ghost use Rattle.symbol_core.specs.Kept.{auction_begun, becoming, begins_auction, in_round, quoted_by, collars_of, turned};
 ghost use Rattle.symbol_core.specs.Stands.{Says};
 
 use crate::kept::{Kept, Step};
 use crate::records::{indicated_by, opens_early, quoted_by};
-use crate::round::TimedRound;
 use pause_core::{is_limit, is_trading};
 use price_core::{Cause, Price};
-use reopen_core::Origin;
+use reopen_core::{Auction, Origin};
 use rulebook::Banded;
 use session_core::{Moment, Phase};
 use wire_in::Record;
@@ -67,20 +64,10 @@ impl Kept {
         self.is_fresh = true;
     }
 
-    fn begin_pause(&mut self, step: &Step)
-        ensures { self.new ≡ record self.old { origin = origin_of self.old.phase; indication = indicated_by self.old.id step.now.input } }
-    {
-        self.origin = origin_of(self.phase);
-        self.indication = indicated_by(self.id, &step.input);
-    }
-
     fn set_phase(&mut self, step: &Step, phase: Phase)
         ensures { self.new ≡ turned self.old step.now phase }
     {
         let trades = is_trading(phase);
-        if is_paused(phase) {
-            self.begin_pause(step);
-        }
         if is_limit(self.phase) {
             self.left_limit = trades || self.left_limit;
         } else if trades {
@@ -88,11 +75,13 @@ impl Kept {
         }
         self.phase = phase;
         self.since = step.moment;
+        self.auction = None;
     }
 
-    /// The symbol's phase becomes this one.
+    /// The symbol's phase becomes this one, without an auction.
     pub fn becomes(&mut self, step: &Step, phase: Phase, out: &mut Vec<Message>)
-        requires { vec_len out.old + 1 ≤ vec_capacity out.old }
+        requires alone { begins_auction self.old phase ≡ false }
+        requires room { vec_len out.old + 1 ≤ vec_capacity out.old }
         ensures says { Says (Message.State self.old.id phase ∷ []) step.now self.old self.new out.old.items out.new.items }
         ensures room { vec_capacity out.old ≤ vec_capacity out.new }
         ensures len { vec_len out.new ≡ vec_len out.old + 1 }
@@ -105,6 +94,54 @@ impl Kept {
             },
         );
         self.set_phase(step, phase);
+    }
+}
+
+impl Kept {
+    /// The auction that begins where the symbol is paused with these bands.
+    fn auction_begun(&self, step: &Step, b: &Banded) -> Auction
+        ensures { result ≡ auction_begun self.now step.now b.now }
+    {
+        let mut auction = Auction::begin(step.moment, origin_of(self.phase), &b.bands, b.reference);
+        if let Some(i) = indicated_by(self.id, &step.input) {
+            auction.indicate(i.price, i.unmatched);
+        }
+        auction
+    }
+
+    /// The collars of the auction's last round.
+    fn collar(&self, auction: &Auction) -> Message
+        ensures { result ≡ Message.Collar self.now.id auction.now.round.number auction.now.round.collars.lower auction.now.round.collars.upper }
+    {
+        let collars = auction.collars();
+        Message::Collar {
+            symbol: self.id,
+            round: auction.round(),
+            lower: collars.lower,
+            upper: collars.upper,
+        }
+    }
+
+    /// The symbol is paused, and the first round of its auction begins.
+    pub fn say_pause(&mut self, step: &Step, phase: Phase, b: &Banded, out: &mut Vec<Message>)
+        requires paused { is_paused phase ≡ true }
+        requires band { self.old.band ≡ Some b.now }
+        requires room { vec_len out.old + 2 ≤ vec_capacity out.old }
+        ensures says { Says (becoming self.old phase ++ collars_of self.old.id (auction_begun self.old step.now b.now)) step.now self.old self.new out.old.items out.new.items }
+        ensures room { vec_capacity out.old ≤ vec_capacity out.new }
+        ensures len { vec_len out.new ≡ vec_len out.old + 2 }
+    {
+        let auction = self.auction_begun(step, b);
+        push(
+            out,
+            Message::State {
+                symbol: self.id,
+                phase,
+            },
+        );
+        push(out, self.collar(&auction));
+        self.set_phase(step, phase);
+        self.auction = Some(auction);
     }
 }
 
@@ -128,25 +165,17 @@ impl Kept {
         self.straddling = on;
     }
 
-    /// A round of the auction begins.
-    pub fn say_round(&mut self, step: &Step, round: &TimedRound, out: &mut Vec<Message>)
-        requires now { round.now.moment ≡ step.now.moment }
+    /// The next round of the auction begins.
+    pub fn say_round(&mut self, step: &Step, auction: &Auction, out: &mut Vec<Message>)
+        requires same { option_map (in_round auction.now.round) self.old.auction ≡ Some auction.now }
+        requires now { auction.now.round.moment ≡ step.now.moment }
         requires room { vec_len out.old + 1 ≤ vec_capacity out.old }
-        ensures says { Says (collar self.old.id round.now.number round.now.collars) step.now self.old self.new out.old.items out.new.items }
+        ensures says { Says (collars_of self.old.id auction.now) step.now self.old self.new out.old.items out.new.items }
         ensures room { vec_capacity out.old ≤ vec_capacity out.new }
         ensures len { vec_len out.new ≡ vec_len out.old + 1 }
     {
-        let r = round.round();
-        push(
-            out,
-            Message::Collar {
-                symbol: self.id,
-                round: r.number,
-                lower: r.collars.lower,
-                upper: r.collars.upper,
-            },
-        );
-        self.round = Some(*round);
+        push(out, self.collar(auction));
+        self.auction = Some(*auction);
     }
 
     /// The auction releases the symbol.
@@ -263,7 +292,8 @@ impl Kept {
 
     /// Price bands.
     pub fn say_band(&mut self, step: &Step, b: &Banded, out: &mut Vec<Message>)
-        requires { vec_len out.old + 1 ≤ vec_capacity out.old }
+        requires unpaused { is_paused self.old.phase ≡ false }
+        requires room { vec_len out.old + 1 ≤ vec_capacity out.old }
         ensures says { Says (Message.Band self.old.id b.now.cause b.now.reference b.now.bands.lower b.now.bands.upper ∷ []) step.now self.old self.new out.old.items out.new.items }
         ensures room { vec_capacity out.old ≤ vec_capacity out.new }
         ensures len { vec_len out.new ≡ vec_len out.old + 1 }

@@ -1,13 +1,14 @@
 // Taking a record in, and what is kept at the end of a step.
 ghost use Rattle.std.specs.Prelude.{◌≡◌, ◌≤◌, ◌++◌, [], None, false, is_some, if◌then◌else◌, filter, length, option_to_list};
 ghost use Rattle.window_core.specs.Deals.{live};
+ghost use Rattle.symbol_core.specs.Kept.{heard};
 ghost use Rattle.symbol_core.specs.Taken.{finished, leaves, renewed, restricts, shorted, taken};
 ghost use Rattle.symbol_core.specs.Window.{SameLive};
 
 use crate::kept::{Kept, Step};
 use crate::records::{cancelled_by, deal_of, halted_by, indicated_by, listed_by, quoted_by};
 use crate::says::midnight;
-use reopen_core::Origin;
+use reopen_core::{Auction, Indication};
 use session_core::{Moment, Phase};
 use short_core::Short;
 use window_core::{Deal, SummedDeals};
@@ -29,9 +30,7 @@ impl Kept {
             adopted: midnight(),
             straddling: false,
             halted: false,
-            round: None,
-            origin: Origin::Straddle,
-            indication: None,
+            auction: None,
             short: Short::listed(None, carried),
             left_limit: false,
             released: None,
@@ -50,7 +49,7 @@ impl Kept {
             self.quote = quoted_by(self.id, &step.input).or(self.quote);
         }
         self.halted = halted_by(self.id, &step.input, self.halted);
-        self.indication = indicated_by(self.id, &step.input).or(self.indication);
+        self.auction = heard(indicated_by(self.id, &step.input), self.auction);
         self.forget_step();
         self.deal = deal_of(self.id, step);
         self.take_short(&step.input);
@@ -79,6 +78,17 @@ impl Kept {
         self.is_fresh = false;
         self.restricts = false;
     }
+}
+
+/// An auction with what is indicated.
+fn heard(indication: Option<Indication>, auction: Option<Auction>) -> Option<Auction>
+    ensures { result ≡ heard indication auction }
+{
+    let mut heard = auction?;
+    if let Some(i) = indication {
+        heard.indicate(i.price, i.unmatched);
+    }
+    Some(heard)
 }
 
 /// A cancel takes its deals away.

@@ -1,9 +1,11 @@
 // The rules that turn a phase: the close, a market-wide halt, the start, a regulatory halt, and limit and straddle states.
 ghost use Rattle.std.specs.Prelude.{◌≡◌, ◌+◌, ◌≤◌, ◌&&◌, false, List, option_to_list, vec_len, vec_capacity};
+ghost use Rattle.std.specs.Option.{option_map_or};
 ghost use Rattle.session_core.specs.Times.{is_closed};
 ghost use Rattle.limit_core.specs.Limits.{straddles};
 ghost use Rattle.pause_core.specs.Phases.{is_done};
 ghost use Rattle.window_core.specs.declared.window.Deal.{Deal};
+ghost use Rattle.rulebook.specs.Auction.{is_paused};
 ghost use Rattle.rulebook.specs.Rules as rules;
 ghost use Rattle.rulebook.specs.Rules.{at_band, meets};
 ghost use Rattle.symbol_core.specs.Kept.{brakes, is_straddling_now, states, straddling, with_quote};
@@ -37,7 +39,8 @@ impl Kept {
 
     /// The phase that a rule brings, where it brings one.
     fn turn_to(&mut self, step: &Step, to: Option<Phase>, out: &mut Vec<Message>)
-        requires { vec_len out.old + 1 ≤ vec_capacity out.old }
+        requires unpaused { option_map_or is_paused to false ≡ false }
+        requires room { vec_len out.old + 1 ≤ vec_capacity out.old }
         ensures says { Says (states self.old.id (option_to_list to)) step.now self.old self.new out.old.items out.new.items }
         ensures room { vec_capacity out.old ≤ vec_capacity out.new }
         ensures len { vec_len out.new ≤ vec_len out.old + 1 }

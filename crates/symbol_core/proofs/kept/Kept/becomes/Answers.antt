@@ -4,4 +4,4 @@ use Rattle.symbol_core.proofs.Phases.{stands-turned}
 use Rattle.symbol_core.proofs.kept.Kept.becomes.Goals as goal
 
 pub returns-clause-says : goal.returns-clause-says
-returns-clause-says c = record { items = c.push.ensures.items; stands = λ mine deals h s. rw c.set_phase.ensures (stands-turned mine c.args.self.now deals c.args.step.now c.args.phase h s); phase = ap (λ (k : Kept). k.phase) c.set_phase.ensures; id = ap (λ (k : Kept). k.id) c.set_phase.ensures }
+returns-clause-says c = record { items = c.push.ensures.items; stands = λ mine deals h s. rw c.set_phase.ensures (stands-turned mine c.args.self.now deals c.args.step.now c.args.phase h c.requires.alone s); phase = ap (λ (k : Kept). k.phase) c.set_phase.ensures; id = ap (λ (k : Kept). k.id) c.set_phase.ensures }

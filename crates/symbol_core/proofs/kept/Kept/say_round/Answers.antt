@@ -3,4 +3,4 @@ use Rattle.symbol_core.proofs.Messages.{stands-with_round}
 use Rattle.symbol_core.proofs.kept.Kept.say_round.Goals as goal
 
 pub returns-clause-says : goal.returns-clause-says
-returns-clause-says c = record { items = rw (← c.round-r.ensures) c.push.ensures.items; stands = λ mine deals h s. stands-with_round mine c.args.self.now deals c.args.step.now c.args.round.now h c.requires.now s; phase = refl; id = refl }
+returns-clause-says c = record { items = rw (← c.collar.ensures) c.push.ensures.items; stands = λ mine deals h s. stands-with_round mine c.args.self.now deals c.args.step.now c.args.auction.now h c.requires.same c.requires.now s; phase = refl; id = refl }

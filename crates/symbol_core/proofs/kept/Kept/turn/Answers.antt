@@ -1,7 +1,13 @@
-use Rattle.symbol_core.proofs.Turning.{turns-obey}
+use Rattle.symbol_core.proofs.Turning.{first-unpaused, second-unpaused, turns-obey}
 use Rattle.symbol_core.proofs.kept.Kept.turn.Goals as goal
 
 pub returns-clause-obeys : goal.returns-clause-obeys
 returns-clause-obeys c =
     turns-obey c.args.self.now c.turn_to.new.self c.turn_to-2.new.self c.args.step.now _ _ c.args.out.now.items c.turn_to.new.out.items c.turn_to-2.new.out.items
     c.brakes.ensures c.turn-turned.ensures.all c.turn_to.ensures.says c.turn_to-2.ensures.says
+
+pub turn_to-requires-clause-unpaused : goal.turn_to-requires-clause-unpaused
+turn_to-requires-clause-unpaused c = first-unpaused c.args.self.now.phase _ c.turn-turned.result c.turn-turned.ensures.all
+
+pub turn_to-requires-2-clause-unpaused : goal.turn_to-requires-2-clause-unpaused
+turn_to-requires-2-clause-unpaused c = second-unpaused c.args.self.now.phase _ c.turn-turned.result c.turn-turned.ensures.all
