@@ -1,10 +1,12 @@
 -- What is answered of a stream, unit after unit.
-use Rattle.std.proofs.Common.{◌≡◌, ℕ, ◌+◌, ◌<◌, ◌==◌, cond, Bool, true, false, List, [], ◌∷◌, ◌++◌, length, take, drop, refl, sym, ap, subst, ◌∙◌, length-append, arith, true≢false}
-use Rattle.std.specs.Prelude.{Option, Some, None, nat_lt}
+use Rattle.std.proofs.Common.{◌≡◌, inl, inr, ℕ, ◌+◌, ◌<◌, ◌==◌, cond, Bool, true, false, List, [], ◌∷◌, ◌++◌, length, take, drop, refl, sym, ap, subst, ◌∙◌, length-append, arith, true≢false}
+use Rattle.std.specs.Prelude.{Option, Some, None, nat_lt, if◌then◌else◌}
+use Rattle.std.proofs.lemmas.Bool.Decides.{eqb_tells}
 use Rattle.std.proofs.lemmas.List.{append-nil}
 use Rattle.wire_core.specs.Frames.{framed}
 use Rattle.wire_in.specs.Cutting as frames
 use Rattle.wire_in.specs.Cutting.{GoesOn, pending, is_frame}
+use Rattle.wire_in.proofs.Cuts.{bodies_of-append, rest_of-append, cut_framed}
 use Rattle.text_core.specs.declared.kind.Kind.{Kind}
 use Rattle.text_core.specs.declared.task.Task.{Task}
 use Rattle.text_core.specs.declared.task.Task.TheVariants.{Print, Pack}
@@ -12,12 +14,12 @@ use Rattle.text_core.specs.declared.writer.Writer.{Writer}
 use Rattle.text_core.specs.declared.translator.Translator.{Translator}
 use Rattle.stream_core.specs.Pending.{Expects}
 use Rattle.text_core.specs.Streams.{units_of, rest_of, last_unit, outputs, output_of, text_of}
-use Rattle.text_core.specs.InternalStreams.{Answers, Reads}
+use Rattle.text_core.specs.InternalStreams.{Answers, Reads, IsOneLine}
 use Rattle.std.specs.Io.KnownBytes.{append_known}
 use Rattle.host_core.specs.Outside.{Outside, Elapses}
 use Rattle.stream_core.specs.Pending.{SendsPrefix}
 use Rattle.stream_core.proofs.Pending.{expects_same, expects_nothing}
-use Rattle.text_core.proofs.Units.{units-append, newline_units, newline_rest, other_units, other_rest, is_bad, still_bad, one_good, one_bad, text_one, text_same, cut_output, outputs_last, cut_more}
+use Rattle.text_core.proofs.Units.{units-append, line_units, line_rest, part_units, part_rest, is_bad, still_bad, one_good, one_bad, text_one, text_same, cut_output, outputs_last, cut_more}
 
 module _ {task : Task} {kind : Kind} {begin : Option (List ℕ)} {units : List (List ℕ)} {writer : Writer} {old : Option (List ℕ)} (answers : Answers task kind begin units writer old) where
   -- one unit more, which has a value
@@ -42,6 +44,15 @@ module _ {task : Task} {kind : Kind} {begin : Option (List ℕ)} {units : List (
         bad_is = sym one.1;
         pending_is = expects_same _ _ (text_same task kind units (units ++ unit ∷ []) (sym one.0)) answers.pending_is;
       }
+
+-- whether a unit has a value, by what was written for it
+pub gives_none : (gives : Option (List ℕ)) (written : Bool) (output : List ℕ) → gives ≡ (if written then Some output else None) → written ≡ false → None ≡ gives
+gives_none gives true output is failed = absurd (true≢false failed)
+gives_none gives false output is failed = sym is
+
+pub gives_some : (gives : Option (List ℕ)) (written : Bool) (output bytes : List ℕ) → gives ≡ (if written then Some output else None) → written ≡ true → bytes ≡ output → Some bytes ≡ gives
+gives_some gives true output bytes is done same = ap (λ (b : List ℕ). Some b) same ∙ sym is
+gives_some gives false output bytes is done same = absurd (true≢false (sym done))
 
 -- the same answers, where the last unit has the same output
 pub answers_last : {task : Task} {kind : Kind} {begin : Option (List ℕ)} {writer : Writer} {sent : Option (List ℕ)} (units : List (List ℕ)) (u v : List ℕ) → output_of task kind u ≡ output_of task kind v
@@ -115,9 +126,9 @@ unfolding units_of
 frame_units read taken held body on whole is =
     on.bodies ∙ ap (λ (b : Bool). frames.bodies_of read ++ cond b (drop 1 held ∷ []) []) whole ∙ ap (λ (frame : List ℕ). frames.bodies_of read ++ drop 1 frame ∷ []) (sym is)
 
-part_units : (read taken held : List ℕ) → GoesOn read taken held → is_frame held ≡ false → units_of Print (read ++ taken) ≡ units_of Print read
+partial_units : (read taken held : List ℕ) → GoesOn read taken held → is_frame held ≡ false → units_of Print (read ++ taken) ≡ units_of Print read
 unfolding units_of
-part_units read taken held on part =
+partial_units read taken held on part =
     on.bodies ∙ ap (λ (b : Bool). frames.bodies_of read ++ cond b (drop 1 held ∷ []) []) part ∙ append-nil (frames.bodies_of read)
 
 -- a frame more
@@ -134,25 +145,60 @@ pub reads_part : {kind : Kind} {begin : Option (List ℕ)} {sent : Option (List 
     → translator.cutter ≡ held → Answers Print kind begin (units_of Print read) translator.writer sent → Reads Print kind begin (read ++ taken) translator sent
 unfolding rest_of
 reads_part read taken held on part cutter answers = record {
-  answers = answers_same (sym (part_units read taken held on part)) answers;
+  answers = answers_same (sym (partial_units read taken held on part)) answers;
   begun = λ going. ap (λ (c : List ℕ). pending c) cutter ∙ on.rest;
 }
 
--- a line more
-pub reads_line : {kind : Kind} {begin : Option (List ℕ)} {sent : Option (List ℕ)} {translator : Translator} (read line : List ℕ) → line ≡ take 256 (rest_of Pack read)
-    → translator.line ≡ [] → Answers Pack kind begin (units_of Pack read ++ line ∷ []) translator.writer sent → Reads Pack kind begin (read ++ 10 ∷ []) translator sent
-reads_line {kind} read line is empty answers = record {
-  answers = answers_same (sym (newline_units read 10 refl))
-      (answers_last (units_of Pack read) line (rest_of Pack read) (ap (output_of Pack kind) is ∙ cut_output kind (rest_of Pack read)) answers);
-  begun = λ going. empty ∙ ap (λ (l : List ℕ). take 256 l) (sym (newline_rest read 10 refl));
+-- a whole frame behind whole frames
+whole_on : (read taken body : List ℕ) → frames.rest_of read ≡ [] → framed body ≡ taken → (frames.bodies_of (read ++ taken) ≡ frames.bodies_of read ++ body ∷ []) × (frames.rest_of (read ++ taken) ≡ [])
+whole_on read taken body none is =
+    let joined : frames.rest_of read ++ taken ≡ framed body = ap (λ (rest : List ℕ). rest ++ taken) none ∙ sym is in
+    let first = cut_framed body in (
+      bodies_of-append read taken ∙ ap (λ (bytes : List ℕ). frames.bodies_of read ++ frames.bodies_of bytes) joined ∙ ap (λ (bodies : List (List ℕ)). frames.bodies_of read ++ bodies) first.0,
+      rest_of-append read taken ∙ ap frames.rest_of joined ∙ first.1,
+    )
+
+pub reads_whole : {kind : Kind} {begin : Option (List ℕ)} {sent : Option (List ℕ)} {translator : Translator} (read taken body : List ℕ) → frames.rest_of read ≡ [] → framed body ≡ taken
+    → pending translator.cutter ≡ [] → Answers Print kind begin (units_of Print read ++ body ∷ []) translator.writer sent → Reads Print kind begin (read ++ taken) translator sent
+unfolding units_of rest_of
+reads_whole read taken body none is between answers =
+    let on = whole_on read taken body none is in
+    record { answers = answers_same (sym on.0) answers; begun = λ going. between ∙ sym on.1 }
+
+-- a line more, which gives what a unit gives
+pub reads_line : {kind : Kind} {begin : Option (List ℕ)} {sent : Option (List ℕ)} {translator : Translator} (read last unit : List ℕ) → IsOneLine last
+    → output_of Pack kind unit ≡ output_of Pack kind (rest_of Pack read ++ last)
+    → translator.line ≡ [] → Answers Pack kind begin (units_of Pack read ++ unit ∷ []) translator.writer sent → Reads Pack kind begin (read ++ last ++ 10 ∷ []) translator sent
+reads_line {kind} read last unit one gives empty answers = record {
+  answers = answers_same (sym (line_units read last one)) (answers_last (units_of Pack read) unit (rest_of Pack read ++ last) gives answers);
+  begun = λ going. empty ∙ ap (λ (l : List ℕ). take 256 l) (sym (line_rest read last));
 }
 
--- a byte of a line more
-pub reads_byte : {kind : Kind} {begin : Option (List ℕ)} {sent : Option (List ℕ)} {translator : Translator} (read line : List ℕ) (b : ℕ) → b == 10 ≡ false → line ≡ take 256 (rest_of Pack read)
-    → translator.line ≡ take 256 (line ++ b ∷ []) → Answers Pack kind begin (units_of Pack read) translator.writer sent → Reads Pack kind begin (read ++ b ∷ []) translator sent
-reads_byte read line b other is pushed answers = record {
-  answers = answers_same (sym (other_units read b other)) answers;
-  begun = λ going. pushed ∙ ap (λ (l : List ℕ). take 256 (l ++ b ∷ [])) is ∙ cut_more (rest_of Pack read) b ∙ ap (λ (l : List ℕ). take 256 l) (sym (other_rest read b other));
+-- of a line its begin was kept, and then bytes more
+pub gives_kept : (kind : Kind) (line rest last unit : List ℕ) → line ≡ take 256 rest → unit ≡ take 256 (line ++ last) → output_of Pack kind unit ≡ output_of Pack kind (rest ++ last)
+gives_kept kind line rest last unit is kept =
+    ap (output_of Pack kind) (kept ∙ ap (λ (l : List ℕ). take 256 (l ++ last)) is ∙ cut_more rest last) ∙ cut_output kind (rest ++ last)
+
+-- or nothing was kept of it
+pub gives_whole : (kind : Kind) (line rest last : List ℕ) → line ≡ take 256 rest → line ≡ [] → output_of Pack kind last ≡ output_of Pack kind (rest ++ last)
+gives_whole kind line rest last is empty = ap (λ (front : List ℕ). output_of Pack kind (front ++ last)) (sym (none_left line rest is empty)) where
+  none_left : (line rest : List ℕ) → line ≡ take 256 rest → line ≡ [] → rest ≡ []
+  none_left line [] is empty = refl
+  none_left line (b ∷ rest) is empty = absurd (omega (arith, ap length (sym is ∙ empty)))
+
+pub empty_is : (line : List ℕ) → (length line == 0) ≡ true → line ≡ []
+empty_is [] is = refl
+empty_is (b ∷ line) is = elim (eqb_tells (length (b ∷ line)) 0) [
+  | inl w ↦ absurd (omega (arith, w.1))
+  | inr w ↦ absurd (true≢false (sym is ∙ w.0))
+]
+
+-- bytes of a line more
+pub reads_more : {kind : Kind} {begin : Option (List ℕ)} {sent : Option (List ℕ)} {translator : Translator} (read line bytes : List ℕ) → IsOneLine bytes → line ≡ take 256 (rest_of Pack read)
+    → translator.line ≡ take 256 (line ++ bytes) → Answers Pack kind begin (units_of Pack read) translator.writer sent → Reads Pack kind begin (read ++ bytes) translator sent
+reads_more read line bytes one is kept answers = record {
+  answers = answers_same (sym (part_units read bytes one)) answers;
+  begun = λ going. kept ∙ ap (λ (l : List ℕ). take 256 (l ++ bytes)) is ∙ cut_more (rest_of Pack read) bytes ∙ ap (λ (l : List ℕ). take 256 l) (sym (part_rest read bytes one));
 }
 
 -- no line is left

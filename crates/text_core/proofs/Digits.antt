@@ -1,5 +1,5 @@
 -- The digits of a number, written and read.
-use Rattle.std.proofs.Common.{◌≡◌, ℕ, zero, suc, ◌+◌, ◌*◌, ◌/◌, ◌%◌, ◌^◌, ◌<◌, ◌≤◌, List, [], ◌∷◌, ◌++◌, refl, sym, ap, ◌∙◌, arith, append_assoc, append-nil}
+use Rattle.std.proofs.Common.{◌≡◌, ℕ, zero, suc, ◌+◌, ◌*◌, ◌/◌, ◌%◌, ◌^◌, ◌<◌, ◌≤◌, List, [], ◌∷◌, ◌++◌, refl, ap, ◌∙◌, arith}
 use Rattle.std.specs.Prelude.{decimal}
 use Rattle.std.specs.List.{fold}
 use Rattle.std.proofs.lemmas.Bool.Decides.{nat_tests}
@@ -9,15 +9,44 @@ use Rattle.session_core.specs.Dates.{digit}
 use Rattle.text_core.specs.Words.{last_digits}
 use Rattle.text_core.specs.Reading.{next_number, number_in}
 
--- no digit
-pub last_digits_none : (line : List ℕ) (n : ℕ) → line ≡ line ++ last_digits 0 n
-unfolding last_digits
-last_digits_none line n = sym (append-nil line)
+-- the digits of a number before the last k, by one division
+tens : (n : ℕ) → n / 10 / 10 ≡ n / 100
+tens n = omega arith
 
--- one digit more
-pub last_digits_more : (line : List ℕ) (j k n b : ℕ) → k ≡ suc j → b ≡ digit n → (line ++ last_digits j (n / 10)) ++ b ∷ [] ≡ line ++ last_digits k n
+hundreds : (n : ℕ) → n / 10 / 10 / 10 ≡ n / 1000
+hundreds n = ap (λ (k : ℕ). k / 10) (tens n) ∙ omega arith
+
+thousands : (n : ℕ) → n / 10 / 10 / 10 / 10 ≡ n / 10000
+thousands n = ap (λ (k : ℕ). k / 10) (hundreds n) ∙ omega arith
+
+to_5 : (n : ℕ) → n / 10 / 10 / 10 / 10 / 10 ≡ n / 100000
+to_5 n = ap (λ (k : ℕ). k / 10) (thousands n) ∙ omega arith
+
+to_6 : (n : ℕ) → n / 10 / 10 / 10 / 10 / 10 / 10 ≡ n / 1000000
+to_6 n = ap (λ (k : ℕ). k / 10) (to_5 n) ∙ omega arith
+
+to_7 : (n : ℕ) → n / 10 / 10 / 10 / 10 / 10 / 10 / 10 ≡ n / 10000000
+to_7 n = ap (λ (k : ℕ). k / 10) (to_6 n) ∙ omega arith
+
+to_8 : (n : ℕ) → n / 10 / 10 / 10 / 10 / 10 / 10 / 10 / 10 ≡ n / 100000000
+to_8 n = ap (λ (k : ℕ). k / 10) (to_7 n) ∙ omega arith
+
+-- the digits that are written at once
+pub two_digits : (n : ℕ) → last_digits 2 n ≡ digit (n / 10) ∷ digit n ∷ []
 unfolding last_digits
-last_digits_more line j k n b e d = rw (e, d) (append_assoc line (last_digits j (n / 10)) (digit n ∷ []))
+two_digits n = refl
+
+pub four_digits : (n : ℕ) → last_digits 4 n ≡ digit (n / 1000) ∷ digit (n / 100) ∷ digit (n / 10) ∷ digit n ∷ []
+unfolding last_digits
+four_digits n = λ i. digit (hundreds n i) ∷ digit (tens n i) ∷ digit (n / 10) ∷ digit n ∷ []
+
+pub nine_digits : (n : ℕ) → last_digits 9 n
+    ≡ digit (n / 100000000) ∷ digit (n / 10000000) ∷ digit (n / 1000000) ∷ digit (n / 100000) ∷ digit (n / 10000)
+    ∷ digit (n / 1000) ∷ digit (n / 100) ∷ digit (n / 10) ∷ digit n ∷ []
+unfolding last_digits
+nine_digits n = λ i.
+    digit (to_8 n i) ∷ digit (to_7 n i) ∷ digit (to_6 n i) ∷ digit (to_5 n i) ∷ digit (thousands n i)
+    ∷ digit (hundreds n i) ∷ digit (tens n i) ∷ digit (n / 10) ∷ digit n ∷ []
 
 -- a digit that is read behind a number
 pub next_digit : (m d b : ℕ) → d < 10 → b ≡ d + 48 → next_number m b ≡ m * 10 + d

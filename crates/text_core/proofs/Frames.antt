@@ -1,6 +1,7 @@
 -- Each published frame is found in its own line.
 use Rattle.std.proofs.Common.{◌≡◌, ℕ, ◌+◌, ◌%◌, ◌<◌, ◌≤◌, ◌^◌, Bool, true, false, List, [], ◌∷◌, ◌++◌, get_or, Option, Some, None, refl, sym, ap, subst, ◌∙◌, arith}
 use Rattle.std.specs.Prelude.{codes, decimal, nat_le, nat_eq, bytes_eq, ◌↔◌, IsTrue}
+use Rattle.std.specs.Str.{IsAscii}
 use Rattle.std.proofs.lemmas.Bool.Decides.{nat_tests}
 use Rattle.std.proofs.lemmas.Fmt.{decimal_by_steps}
 use Rattle.price_core.specs.declared.quote.Cause.{Cause}
@@ -17,7 +18,7 @@ use Rattle.text_core.specs.Lines.{line_of, line_of_frame, words_of_message, word
 use Rattle.text_core.specs.Reading.{word_at, moment_in, number_in, number8_in, number16_in, name_in, phase_in, cause_in, straddle_in, short_in, level_in, index_in, price_in, listed_of, state_of, band_of, straddle_of, collar_of, release_of, short_of, breaker_of, message_of, numbered_of, refused_of, frame_of}
 use Rattle.text_core.proofs.Fields.{moment_again, number_again, number8_again, number16_again, name_again, phase_again, cause_again, straddle_again, short_again, level_again, index_again, price_again}
 use Rattle.text_core.proofs.Plain.{plain, time_plain, decimal_plain, name_plain, phase_plain, cause_plain, straddle_plain, short_plain, level_plain, index_plain, price_plain}
-use Rattle.text_core.proofs.Words.{ArePlain, word_is, found}
+use Rattle.text_core.proofs.Words.{ArePlain, word_is, found, line_ascii}
 
 message_plain : (m : Message) → IsTyped m → ArePlain (words_of_message m)
 message_plain (Listed s n) h = (plain _ refl, (decimal_plain s (omega (arith, h)), (name_plain n, tt)))
@@ -158,6 +159,9 @@ frame_plain (Hello i m) h = (plain _ refl, (decimal_plain i h.0, (decimal_plain 
 frame_plain (Ack i) h = (plain _ refl, (decimal_plain i h, tt))
 frame_plain (Refused p c f) h = (plain _ refl, (decimal_plain p h.0, (decimal_plain c (omega (arith, h.1)), (decimal_plain f (omega (arith, h.2)), tt))))
 frame_plain (Numbered n x) h = numbered_plain n x.moment x.message h.0 h.2
+
+pub frame_ascii : (f : Frame) → HasTypes f → IsAscii (line_of_frame f)
+frame_ascii f h = line_ascii (words_of_frame f) (frame_plain f h)
 
 -- the number of a word of a line
 number_found : (n k : ℕ) (words : List (List ℕ)) → ArePlain words → get_or words k [] ≡ decimal n → n < 2 ^ 64 → number_in (word_at k (line_of words)) ≡ n

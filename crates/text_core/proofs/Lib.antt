@@ -4,6 +4,7 @@ pub mod Words
 pub mod Fields
 pub mod Records
 pub mod Frames
+pub mod Newlines
 pub mod Units
 pub mod Answering
 pub mod Reading

@@ -31,6 +31,7 @@ use Rattle.session_core.specs.declared.state.Phase.{Phase}
 use Rattle.session_core.specs.declared.state.Phase.TheVariants as phases
 use Rattle.wire_out.specs.declared.message.ShortKind.{ShortKind}
 use Rattle.wire_out.specs.declared.message.ShortKind.TheVariants as shorts
+use Rattle.text_core.proofs.Digits.{two_digits, four_digits, nine_digits}
 use Rattle.text_core.specs.Words.{last_digits, time_word, date_word, price_word, optional_price_word, index_word, hex_digit, flags_word, name_word, close_word, profile_word, tier_word, notice_word, unmatched_word, phase_word, cause_word, straddle_word, short_word, level_word}
 
 pub record IsPlain (word : List ℕ) : Type 0 where
@@ -43,7 +44,7 @@ pub both : (a b : Bool) → (a && b) ≡ true → (a ≡ true) × (b ≡ true)
 both true b e = (refl, e)
 both false b e = absurd cc
 
-visible_ascii : (bs : List ℕ) → list_all is_visible bs ≡ true → IsAscii bs
+pub visible_ascii : (bs : List ℕ) → list_all is_visible bs ≡ true → IsAscii bs
 visible_ascii [] h = IsAscii-nil
 visible_ascii (b ∷ bs) h =
     let parts = both (is_visible b) (list_all is_visible bs) h in
@@ -66,10 +67,10 @@ pub name_plain : (name : List ℕ) → IsPlain (name_word name)
 unfolding name_word
 name_plain name = subst IsPlain (sym (front_is name)) (plain _ (visible_front name))
 
--- a text that is read from plain bytes is they
-pub plain_text : {T E : Type 0} (now : T → List ℕ) (Q : E → Type 0) (r : Result T E) (d : T) (bytes : List ℕ) → IsPlain bytes → MatchResult r (λ s. (now s ≡ bytes) × IsUtf8 bytes) (λ e. (IsUtf8 bytes → ⊥) × Q e) → now (result_unwrap_or r d) ≡ bytes
-plain_text now Q (Ok s) d bytes h m = m.0
-plain_text now Q (Err e) d bytes h m = absurd (m.0 (IsUtf8-from_ascii bytes (visible_ascii bytes h.visible)))
+-- a text that is read from ASCII is it
+pub ascii_text : {T E : Type 0} (now : T → List ℕ) (Q : E → Type 0) (r : Result T E) (d : T) (bytes : List ℕ) → IsAscii bytes → MatchResult r (λ s. (now s ≡ bytes) × IsUtf8 bytes) (λ e. (IsUtf8 bytes → ⊥) × Q e) → now (result_unwrap_or r d) ≡ bytes
+ascii_text now Q (Ok s) d bytes h m = m.0
+ascii_text now Q (Err e) d bytes h m = absurd (m.0 (IsUtf8-from_ascii bytes h))
 
 pub plain_append : (a b : List ℕ) → IsPlain a → IsPlain b → IsPlain (a ++ b)
 plain_append a b first second = plain (a ++ b) (list_all-append is_visible a b ∙ rw (first.visible, second.visible) refl)
@@ -111,6 +112,27 @@ price_parts p = simp append_assoc refl
 pub index_parts : (v : ℕ) → index_word v ≡ decimal (v / 100) ++ 46 ∷ last_digits 2 (v % 100)
 unfolding index_word
 index_parts v = simp append_assoc refl
+
+-- words of several parts, digit by digit
+pub time_digits : (t : ℕ) → time_word t
+    ≡ digit (t / 3600000000000 / 10) ∷ digit (t / 3600000000000) ∷ 58 ∷ digit (t / 60000000000 % 60 / 10) ∷ digit (t / 60000000000 % 60) ∷ 58
+    ∷ digit (t / 1000000000 % 60 / 10) ∷ digit (t / 1000000000 % 60) ∷ 46 ∷ digit (t % 1000000000 / 100000000) ∷ digit (t % 1000000000 / 10000000)
+    ∷ digit (t % 1000000000 / 1000000) ∷ digit (t % 1000000000 / 100000) ∷ digit (t % 1000000000 / 10000) ∷ digit (t % 1000000000 / 1000)
+    ∷ digit (t % 1000000000 / 100) ∷ digit (t % 1000000000 / 10) ∷ digit (t % 1000000000) ∷ []
+time_digits t =
+    time_parts t
+    ∙ (λ i. two_digits (t / 3600000000000) i ++ 58 ∷ (two_digits (t / 60000000000 % 60) i ++ 58 ∷ (two_digits (t / 1000000000 % 60) i ++ 46 ∷ nine_digits (t % 1000000000) i)))
+
+pub date_digits : (d : Civil) → date_word d
+    ≡ digit (d.year / 1000) ∷ digit (d.year / 100) ∷ digit (d.year / 10) ∷ digit d.year ∷ 45 ∷ digit (d.month / 10) ∷ digit d.month ∷ 45 ∷ digit (d.day / 10) ∷ digit d.day ∷ []
+date_digits d = date_parts d ∙ (λ i. four_digits d.year i ++ 45 ∷ (two_digits d.month i ++ 45 ∷ two_digits d.day i))
+
+pub price_digits : (p : ℕ) → price_word p
+    ≡ decimal (p / 10000) ++ 46 ∷ digit (p % 10000 / 1000) ∷ digit (p % 10000 / 100) ∷ digit (p % 10000 / 10) ∷ digit (p % 10000) ∷ []
+price_digits p = price_parts p ∙ (λ i. decimal (p / 10000) ++ 46 ∷ four_digits (p % 10000) i)
+
+pub index_digits : (v : ℕ) → index_word v ≡ decimal (v / 100) ++ 46 ∷ digit (v % 100 / 10) ∷ digit (v % 100) ∷ []
+index_digits v = index_parts v ∙ (λ i. decimal (v / 100) ++ 46 ∷ two_digits (v % 100) i)
 
 -- a word, a mark and a plain rest
 joined_plain : (first : List ℕ) (mark : ℕ) (rest : List ℕ) → IsPlain first → IsPlain (mark ∷ []) → IsPlain rest → IsPlain (first ++ mark ∷ rest)

@@ -1,5 +1,6 @@
 -- Each record is found in its own line.
 use Rattle.std.proofs.Common.{◌≡◌, ℕ, Bool, true, false, List, Option, Some, None, refl, sym, ap, subst, ◌∙◌, arith}
+use Rattle.std.specs.Str.{IsAscii}
 use Rattle.std.specs.Prelude.{◌↔◌, IsTrue}
 use Rattle.price_core.specs.declared.quote.Tier.{Tier}
 use Rattle.price_core.specs.declared.quote.Unmatched.{Unmatched}
@@ -12,7 +13,7 @@ use Rattle.text_core.specs.Lines.{line_of_record, words_of_record, PrintsRecord}
 use Rattle.text_core.specs.Reading.{moment_in, date_in, close_in, profile_in, index_in, name_in, tier_in, leverage_in, optional_price_in, number16_in, number32_in, price_in, flags_in, notice_in, unmatched_in, day_of, listing_of, trade_of, cancel_of, quote_of, index_tick_of, clock_of, notice_of, indication_of, record_of}
 use Rattle.text_core.proofs.Fields.{moment_again, date_again, close_again, profile_again, index_again, name_again, tier_again, leverage_again, optional_again, number16_again, number32_again, price_again, flags_again, notice_again, unmatched_again}
 use Rattle.text_core.proofs.Plain.{plain, time_plain, date_plain, close_plain, profile_plain, index_plain, name_plain, tier_plain, decimal_plain, optional_plain, price_plain, flags_plain, notice_plain, unmatched_plain}
-use Rattle.text_core.proofs.Words.{ArePlain, word_is, found}
+use Rattle.text_core.proofs.Words.{ArePlain, word_is, found, line_ascii}
 
 words_plain : (x : Record) → HasTypes x → ArePlain (words_of_record x)
 words_plain (Day m d v) h = (plain _ refl, (time_plain m, (date_plain d.date, (close_plain d.close, (profile_plain d.profile, (index_plain v (omega (arith, h.2.most)), tt))))))
@@ -24,6 +25,9 @@ words_plain (IndexTick m v) h = (plain _ refl, (time_plain m, (index_plain v (om
 words_plain (Clock m) h = (plain _ refl, (time_plain m, tt))
 words_plain (Notice m s k) h = (plain _ refl, (time_plain m, (decimal_plain s (omega (arith, h.1)), (notice_plain k, tt))))
 words_plain (Indication m s p u) h = (plain _ refl, (time_plain m, (decimal_plain s (omega (arith, h.1)), (price_plain p (omega (arith, h.2.most)), (unmatched_plain u, tt)))))
+
+pub record_ascii : (x : Record) → HasTypes x → IsAscii (line_of_record x)
+record_ascii x h = line_ascii (words_of_record x) (words_plain x h)
 
 -- a record is found in its line
 abbrev IsFound : (List ℕ → Option Record) → Record → Type 0

@@ -1,8 +1,10 @@
 -- The units of a stream, and what is sent for them.
-use Rattle.std.proofs.Common.{◌≡◌, ◌⊎◌, inl, inr, ℕ, suc, ◌≤◌, ◌<◌, ◌==◌, cond, Bool, true, false, List, [], ◌∷◌, ◌++◌, length, take, refl, sym, ap, subst, ◌∙◌, length-append, arith, true≢false}
-use Rattle.std.specs.Prelude.{Option, Some, None, nat_lt, not, slice_index}
-use Rattle.std.specs.List.{concat}
-use Rattle.std.proofs.lemmas.List.{append-nil, take_all, take-append-le, length-take}
+use Rattle.std.proofs.Common.{◌≡◌, ◌⊎◌, inl, inr, ℕ, suc, ◌+◌, ◌-◌, ◌≤◌, ◌<◌, ◌==◌, Bool, true, false, List, [], ◌∷◌, ◌++◌, length, take, refl, sym, ap, subst, ◌∙◌, length-append, append_assoc, arith, true≢false}
+use Rattle.std.specs.Prelude.{Option, Some, None, nat_lt, not, min}
+use Rattle.std.specs.List.{concat, list_all}
+use Rattle.std.proofs.lemmas.List.{append-nil, take_all, take-append-le, length-take, take_min}
+use Rattle.std.proofs.Math.Nat.{min_comm}
+use Rattle.std.proofs.Math.Seq.{take-append-add}
 use Rattle.std.proofs.lemmas.List.Folds.{concat-append}
 use Rattle.std.proofs.lemmas.Bool.Decides.{leb_tells, eqb_tells}
 use Rattle.wire_in.proofs.Cuts.{bodies_of-append}
@@ -10,6 +12,8 @@ use Rattle.text_core.specs.declared.kind.Kind.{Kind}
 use Rattle.text_core.specs.declared.kind.Kind.TheVariants.{Records, Published}
 use Rattle.text_core.specs.declared.task.Task.{Task}
 use Rattle.text_core.specs.declared.task.Task.TheVariants.{Print, Pack}
+use Rattle.text_core.specs.InternalStreams.{IsOneLine}
+use Rattle.text_core.proofs.Plain.{both}
 use Rattle.text_core.specs.Streams.{lines_from, last_from, units_of, rest_of, before_bad, outputs, output_of, text_of}
 
 -- a test with what it tells
@@ -36,22 +40,47 @@ unfolding units_of
 units-append Print xs ys = (_, bodies_of-append xs ys)
 units-append Pack xs ys = (_, lines-append [] xs ys)
 
--- a byte more
-pub newline_units : (read : List ℕ) (b : ℕ) → b == 10 ≡ true → units_of Pack (read ++ b ∷ []) ≡ units_of Pack read ++ rest_of Pack read ∷ []
-unfolding units_of rest_of
-newline_units read b is = lines-append [] read (b ∷ []) ∙ ap (λ (t : Bool). lines_from [] read ++ cond t (last_from [] read ∷ []) []) is
+pub not_true : (b : Bool) → not b ≡ true → b ≡ false
+not_true true is = absurd (true≢false (sym is))
+not_true false is = refl
 
-pub newline_rest : (read : List ℕ) (b : ℕ) → b == 10 ≡ true → rest_of Pack (read ++ b ∷ []) ≡ []
-unfolding rest_of
-newline_rest read b is = last-append [] read (b ∷ []) ∙ ap (λ (t : Bool). cond t [] (last_from [] read ++ b ∷ [])) is
+-- bytes without a newline
+one_line : (b : ℕ) (bytes : List ℕ) → IsOneLine (b ∷ bytes) → (b == 10 ≡ false) × IsOneLine bytes
+one_line b bytes h = let parts = both (not (b == 10)) (list_all (λ b. not (b == 10)) bytes) h in (not_true (b == 10) parts.0, parts.1)
 
-pub other_units : (read : List ℕ) (b : ℕ) → b == 10 ≡ false → units_of Pack (read ++ b ∷ []) ≡ units_of Pack read
+no_lines : (begun bytes : List ℕ) → IsOneLine bytes → lines_from begun bytes ≡ []
+no_lines begun [] h = refl
+no_lines begun (b ∷ bytes) h = let parts = one_line b bytes h in rw parts.0 (no_lines (begun ++ b ∷ []) bytes parts.1)
+
+all_last : (begun bytes : List ℕ) → IsOneLine bytes → last_from begun bytes ≡ begun ++ bytes
+all_last begun [] h = sym (append-nil begun)
+all_last begun (b ∷ bytes) h =
+    let parts = one_line b bytes h in
+    rw parts.0 (all_last (begun ++ b ∷ []) bytes parts.1 ∙ append_assoc begun (b ∷ []) bytes)
+
+pub part_units : (read bytes : List ℕ) → IsOneLine bytes → units_of Pack (read ++ bytes) ≡ units_of Pack read
 unfolding units_of
-other_units read b is = lines-append [] read (b ∷ []) ∙ ap (λ (t : Bool). lines_from [] read ++ cond t (last_from [] read ∷ []) []) is ∙ append-nil (lines_from [] read)
+part_units read bytes h = lines-append [] read bytes ∙ ap (λ (l : List (List ℕ)). lines_from [] read ++ l) (no_lines (last_from [] read) bytes h) ∙ append-nil (lines_from [] read)
 
-pub other_rest : (read : List ℕ) (b : ℕ) → b == 10 ≡ false → rest_of Pack (read ++ b ∷ []) ≡ rest_of Pack read ++ b ∷ []
+pub part_rest : (read bytes : List ℕ) → IsOneLine bytes → rest_of Pack (read ++ bytes) ≡ rest_of Pack read ++ bytes
 unfolding rest_of
-other_rest read b is = last-append [] read (b ∷ []) ∙ ap (λ (t : Bool). cond t [] (last_from [] read ++ b ∷ [])) is
+part_rest read bytes h = last-append [] read bytes ∙ all_last (last_from [] read) bytes h
+
+-- and then one
+newline_units : (read : List ℕ) → units_of Pack (read ++ 10 ∷ []) ≡ units_of Pack read ++ rest_of Pack read ∷ []
+unfolding units_of rest_of
+newline_units read = lines-append [] read (10 ∷ [])
+
+newline_rest : (read : List ℕ) → rest_of Pack (read ++ 10 ∷ []) ≡ []
+unfolding rest_of
+newline_rest read = last-append [] read (10 ∷ [])
+
+pub line_units : (read bytes : List ℕ) → IsOneLine bytes → units_of Pack (read ++ bytes ++ 10 ∷ []) ≡ units_of Pack read ++ (rest_of Pack read ++ bytes) ∷ []
+line_units read bytes h =
+    newline_units (read ++ bytes) ∙ (λ i. part_units read bytes h i ++ part_rest read bytes h i ∷ [])
+
+pub line_rest : (read bytes : List ℕ) → rest_of Pack (read ++ bytes ++ 10 ∷ []) ≡ []
+line_rest read bytes = newline_rest (read ++ bytes)
 
 told : (o : Option (List ℕ)) → (o ≡ None) ⊎ ((x : List ℕ) × (o ≡ Some x))
 told None = inl refl
@@ -176,36 +205,27 @@ pub outputs_last : (give : List ℕ → Option (List ℕ)) (units : List (List �
 outputs_last give [] u v same = ap (λ (o : Option (List ℕ)). before_bad o []) same
 outputs_last give (x ∷ xs) u v same = ap (λ (l : List (List ℕ)). before_bad (give x) l) (outputs_last give xs u v same)
 
--- at most 256 bytes, and a byte more
-pub kept : (bytes : List ℕ) (b : ℕ) → length bytes < 256 → bytes ++ b ∷ [] ≡ take 256 (bytes ++ b ∷ [])
-kept bytes b few = sym (take_all 256 (bytes ++ b ∷ []) (omega (arith, few, length-append bytes (b ∷ []))))
-
-pub not_kept : (bytes : List ℕ) (b : ℕ) → length bytes ≤ 256 → 256 ≤ length bytes → bytes ≡ take 256 (bytes ++ b ∷ [])
-not_kept bytes b few many = sym (take-append-le 256 bytes (b ∷ []) many ∙ take_all 256 bytes few)
-
--- of a line that is begun, a byte more
-pub cut_more : (rest : List ℕ) (b : ℕ) → take 256 (take 256 rest ++ b ∷ []) ≡ take 256 (rest ++ b ∷ [])
-cut_more rest b = elim (leb_tells (length rest) 256) [
-  | inl few ↦ ap (λ (l : List ℕ). take 256 (l ++ b ∷ [])) (take_all 256 rest few.1)
+-- of a line that is begun, bytes more
+pub cut_more : (rest bytes : List ℕ) → take 256 (take 256 rest ++ bytes) ≡ take 256 (rest ++ bytes)
+cut_more rest bytes = elim (leb_tells (length rest) 256) [
+  | inl few ↦ ap (λ (l : List ℕ). take 256 (l ++ bytes)) (take_all 256 rest few.1)
   | inr many ↦
-      sym (not_kept (take 256 rest) b (omega (arith, length-take 256 rest)) (omega (arith, length-take 256 rest, many.1)))
-      ∙ sym (take-append-le 256 rest (b ∷ []) (omega (arith, many.1)))
+      take-append-le 256 (take 256 rest) bytes (omega (arith, length-take 256 rest, many.1))
+      ∙ take_all 256 (take 256 rest) (omega (arith, length-take 256 rest))
+      ∙ sym (take-append-le 256 rest bytes (omega (arith, many.1)))
 ]
 
-pub other_is : (b : ℕ) → (b ≡ 10 → ⊥) → b == 10 ≡ false
-other_is b other = elim (eqb_tells b 10) [ inl w ↦ absurd (other w.1) | inr w ↦ w.0 ]
-
-pub not_true : (b : Bool) → not b ≡ true → b ≡ false
-not_true true is = absurd (true≢false (sym is))
-not_true false is = refl
+-- the first of some bytes that have room
+pub keep_front : (held bytes : List ℕ) → length held ≤ 256 → held ++ take (min (length bytes) (256 - length held)) bytes ≡ take 256 (held ++ bytes)
+keep_front held bytes fits =
+    let full : length held + (256 - length held) ≡ 256 = omega (arith, fits) in
+    ap (λ (l : List ℕ). held ++ l) (ap (λ (n : ℕ). take n bytes) (min_comm (length bytes) (256 - length held)) ∙ take_min (256 - length held) bytes)
+    ∙ sym (take-append-add held bytes (256 - length held))
+    ∙ ap (λ (n : ℕ). take n (held ++ bytes)) full
 
 pub not_false : (b : Bool) → not b ≡ false → b ≡ true
 not_false true is = refl
 not_false false is = absurd (true≢false is)
-
-pub first_byte : (bytes : List ℕ) → 0 < length bytes → slice_index bytes 0 ∷ [] ≡ take 1 bytes
-first_byte [] some = absurd (omega (arith, some))
-first_byte (b ∷ bytes) some = refl
 
 -- more bytes give more text
 pub front_more : (task : Task) (kind : Kind) (xs ys all : List ℕ) → xs ++ ys ≡ all → IsFront (text_of task kind (units_of task xs)) (text_of task kind (units_of task all))

@@ -1,14 +1,17 @@
 -- The words of a line, one after the other.
-use Rattle.std.proofs.Common.{◌≡◌, ℕ, zero, suc, ◌+◌, Bool, true, List, [], ◌∷◌, ◌++◌, length, get_or, take, drop, Option, Some, refl, sym, ap, ◌∙◌, arith, append_assoc, append-nil, length-take-le, length-drop, ◌-◌}
+use Rattle.std.proofs.Common.{◌≡◌, ℕ, zero, suc, ◌+◌, Bool, true, List, [], ◌∷◌, ◌++◌, length, get_or, take, drop, Option, Some, refl, sym, ap, subst, ◌∙◌, arith, append_assoc, append-nil, length-take-le, length-drop, ◌-◌}
 use Rattle.std.specs.Prelude.{not, ◌==◌}
+use Rattle.std.specs.Str.{IsAscii}
+use Rattle.std.proofs.lemmas.Str.{IsAscii-append}
+use Rattle.std.proofs.lemmas.Str.Ascii.{IsAscii-nil, IsAscii-cons}
 use Rattle.std.specs.List.{list_all, prefix_len}
 use Rattle.std.proofs.lemmas.Bool.Decides.{nat_tests}
 use Rattle.std.proofs.lemmas.List.Sums.{prefix_len-le-length}
 use Rattle.std.proofs.Math.Seq.{take-append_seam, take-length, drop-append-add, drop-nil}
 use Rattle.wire_core.specs.Names.{is_visible}
 use Rattle.text_core.specs.Lines.{followed_by, line_of}
-use Rattle.text_core.specs.Reading.{word_len, word_at}
-use Rattle.text_core.proofs.Plain.{IsPlain, both}
+use Rattle.text_core.specs.Reading.{word_len, word_at, behind}
+use Rattle.text_core.proofs.Plain.{IsPlain, both, visible_ascii}
 
 pub word_first : (n : ℕ) (line : List ℕ) → n ≡ 0 → take (word_len line) line ≡ word_at n line
 unfolding word_at
@@ -17,6 +20,31 @@ word_first n line e = rw e refl
 pub word_next : (j n : ℕ) (line rest : List ℕ) → n ≡ suc j → rest ≡ drop (word_len line + 1) line → word_at j rest ≡ word_at n line
 unfolding word_at
 word_next j n line rest e d = rw (e, d) refl
+
+-- the words of a line from the second on, by what stands behind those before
+pub word_1 : (line : List ℕ) → word_at 1 line ≡ word_at 0 (behind line)
+unfolding word_at behind
+word_1 line = refl
+
+pub word_2 : (line : List ℕ) → word_at 2 line ≡ word_at 0 (behind (behind line))
+unfolding word_at behind
+word_2 line = refl
+
+pub word_3 : (line : List ℕ) → word_at 3 line ≡ word_at 0 (behind (behind (behind line)))
+unfolding word_at behind
+word_3 line = refl
+
+pub word_4 : (line : List ℕ) → word_at 4 line ≡ word_at 0 (behind (behind (behind (behind line))))
+unfolding word_at behind
+word_4 line = refl
+
+pub word_5 : (line : List ℕ) → word_at 5 line ≡ word_at 0 (behind (behind (behind (behind (behind line)))))
+unfolding word_at behind
+word_5 line = refl
+
+pub word_6 : (line : List ℕ) → word_at 6 line ≡ word_at 0 (behind (behind (behind (behind (behind (behind line))))))
+unfolding word_at behind
+word_6 line = refl
 
 pub rest_is : (k : ℕ) (line : List ℕ) → take (length line - k) (drop k line) ≡ drop k line
 rest_is k line = ap (λ n. take n (drop k line)) (sym (length-drop k line)) ∙ take-length (drop k line)
@@ -76,3 +104,13 @@ word_is n (word ∷ words) h = ap (word_at n) (followed_is word words) ∙ word_
 -- what is found in a word of a line
 pub found : {A : Type 0} (read : List ℕ → Option A) (v : A) (n : ℕ) (words : List (List ℕ)) → ArePlain words → read (get_or words n []) ≡ Some v → read (word_at n (line_of words)) ≡ Some v
 found read v n words h e = ap read (word_is n words h) ∙ e
+
+further_ascii : (words : List (List ℕ)) → ArePlain words → IsAscii (further words)
+further_ascii [] h = IsAscii-nil
+further_ascii (word ∷ words) h = IsAscii-cons 32 _ (omega arith) (IsAscii-append word (further words) (visible_ascii word h.0.visible) (further_ascii words h.1))
+
+-- a line of plain words is ASCII
+pub line_ascii : (words : List (List ℕ)) → ArePlain words → IsAscii (line_of words)
+line_ascii [] h = IsAscii-nil
+line_ascii (word ∷ words) h =
+    subst IsAscii (sym (followed_is word words)) (IsAscii-append word (further words) (visible_ascii word h.0.visible) (further_ascii words h.1))

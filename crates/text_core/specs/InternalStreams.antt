@@ -1,5 +1,6 @@
 -- A stream on its way: what was read of it, what was answered, and what is pending.
-use Rattle.std.specs.Prelude.{◌≡◌, ℕ, ◌+◌, ◌==◌, nat_le, nat_lt, if◌then◌else◌, false, Bool, List, ◌++◌, length, take, Option}
+use Rattle.std.specs.Prelude.{◌≡◌, ℕ, ◌+◌, ◌==◌, nat_le, nat_lt, if◌then◌else◌, true, false, not, Bool, List, ◌++◌, length, take, Option}
+use Rattle.std.specs.List.{list_all}
 use Rattle.host_core.specs.declared.status.Status.{Status}
 use Rattle.host_core.specs.declared.status.Status.TheVariants.{Done, Truncated, SessionFull, BadText}
 use Rattle.wire_in.specs.Cutting as frames
@@ -21,6 +22,10 @@ pub record Answers (task : Task) (kind : Kind) (begin : Option (List ℕ)) (unit
 abbrev pub Begins : Task → Translator → List ℕ → Type 0
 Begins Print translator rest = frames.pending translator.cutter ≡ rest
 Begins Pack translator rest = translator.line ≡ take 256 rest
+
+-- these bytes have no newline
+abbrev pub IsOneLine : List ℕ → Type 0
+IsOneLine bytes = list_all (λ b. not (b == 10)) bytes ≡ true
 
 -- these bytes were read, and their whole units answered, up to the first that is bad
 pub record Reads (task : Task) (kind : Kind) (begin : Option (List ℕ)) (read : List ℕ) (translator : Translator) (sent : Option (List ℕ)) : Type 0 where

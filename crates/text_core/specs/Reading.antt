@@ -46,6 +46,10 @@ unfoldable pub word_at : ℕ → List ℕ → List ℕ
 word_at zero line = take (word_len line) line
 word_at (suc n) line = word_at n (drop (word_len line + 1) line)
 
+-- what stands behind the first word of a line and the blank that ends it
+unfoldable pub behind : List ℕ → List ℕ
+behind line = drop (word_len line + 1) line
+
 -- a number with one character more, which counts where it is a digit
 abbrev pub next_number : ℕ → ℕ → ℕ
 next_number n byte = if is_ascii_digit byte then n * 10 + (byte - 48) else n

@@ -2,11 +2,14 @@
 
 ghost use Rattle.std.specs.Prelude.{◌≡◌, ◌↔◌, ◌≤◌, ◌-◌, ◌^◌, IsTrue, min, length};
 ghost use Rattle.wire_core.specs.Names.{is_name};
-ghost use Rattle.text_core.specs.Reading.{word_len, word_at, next_number, number_in, number8_in, number16_in, number32_in, moment_in, price_in, optional_price_in, index_in, date_in, leverage_in, name_in, hex_value, flags_in};
+ghost use Rattle.text_core.specs.Reading.{word_len, word_at, behind, next_number, number_in, number8_in, number16_in, number32_in, moment_in, price_in, optional_price_in, index_in, date_in, leverage_in, name_in, hex_value, flags_in};
 
 use price_core::{Index, Leverage, Price};
 use session_core::{Date, Moment};
 use wire_core::name_at;
+
+/// Ten times a number below this, and a digit more, has 64 bits.
+const SAFE: u64 = 1_000_000_000_000_000_000;
 
 /// How long the first word of a line is.
 fn word_len(line: &[u8]) -> usize
@@ -28,15 +31,29 @@ pub fn word(line: &[u8], n: u8) -> &[u8]
     word(&line[behind..], n - 1)
 }
 
+/// The first word of a line, and what stands behind the blank that ends it.
+#[tactic(auto, unfolding(crate::specs::Reading::word_at, crate::specs::Reading::behind))]
+pub fn split(line: &[u8]) -> (&[u8], &[u8])
+    ensures word { result.0.now ≡ word_at 0 line.now }
+    ensures rest { result.1.now ≡ behind line.now }
+{
+    let len = word_len(line);
+    let end = (len + 1).min(line.len());
+    (&line[..len], &line[end..])
+}
+
 /// A number with one character more.
 fn next_number(n: u64, byte: u8) -> u64
     ensures { result ≡ min (next_number n byte) (2 ^ 64 - 1) }
 {
-    if byte.is_ascii_digit() {
-        n.saturating_mul(10).saturating_add(u64::from(byte - b'0'))
-    } else {
-        n
+    if !byte.is_ascii_digit() {
+        return n;
     }
+    let digit = u64::from(byte - b'0');
+    if n < SAFE {
+        return n * 10 + digit;
+    }
+    n.saturating_mul(10).saturating_add(digit)
 }
 
 /// The number that the digits of a word give, all else left out; the greatest of 64 bits where it is greater.

@@ -1,6 +1,6 @@
 //! The lines of published frames.
 
-ghost use Rattle.std.specs.Prelude.{◌≡◌, ◌≤◌, ◌++◌, ◌∷◌, IsTrue, IfOk, decimal, length};
+ghost use Rattle.std.specs.Prelude.{◌≡◌, ◌≤◌, ◌++◌, ◌∷◌, [], IsTrue, IfOk, decimal, length};
 ghost use Rattle.std.specs.String.{string_bytes};
 ghost use Rattle.session_core.specs.Moments.{IsMoment};
 ghost use Rattle.wire_core.specs.Names.{is_name};
@@ -17,168 +17,208 @@ use session_core::{Level, Moment, Phase};
 use std::alloc::Global;
 use wire_out::{Frame, Message, ShortKind};
 
-/// The begin of a numbered message's line.
-fn numbered(number: u64, moment: Moment) -> Line
+/// Writes the begin of a numbered message's line.
+fn begin_numbered(line: &mut Line, number: u64, moment: Moment)
+    requires { line.old ≡ [] }
     ensures moment { IsMoment moment }
-    ensures text { result ≡ decimal number ++ 32 ∷ time_word moment }
-    ensures short { length result ≤ 45 }
+    ensures text { line.new ≡ decimal number ++ 32 ∷ time_word moment }
+    ensures short { length line.new ≤ 45 }
 {
-    Line::of_number(number).time(moment)
+    line.begin_number(number);
+    line.time(moment);
 }
 
-fn listed_line(line: Line, symbol: u16, name: [u8; 8]) -> Line
-    requires room { length line ≤ 45 }
+fn write_listed(line: &mut Line, symbol: u16, name: [u8; 8])
+    requires room { length line.old ≤ 45 }
     requires name { IsTrue (is_name name) }
     ensures types { IsTyped (messages.Listed symbol name) }
-    ensures text { result ≡ followed_by line (words_of_message (messages.Listed symbol name)) }
-    ensures short { length result ≤ 240 }
+    ensures text { line.new ≡ followed_by line.old (words_of_message (messages.Listed symbol name)) }
+    ensures short { length line.new ≤ 240 }
 {
-    line.word("listed").number(u64::from(symbol)).name(&name)
+    line.word("listed");
+    line.number(u64::from(symbol));
+    line.name(&name);
 }
 
-fn state_line(line: Line, symbol: u16, phase: Phase) -> Line
-    requires { length line ≤ 45 }
+fn write_state(line: &mut Line, symbol: u16, phase: Phase)
+    requires { length line.old ≤ 45 }
     ensures types { IsTyped (messages.State symbol phase) }
-    ensures text { result ≡ followed_by line (words_of_message (messages.State symbol phase)) }
-    ensures short { length result ≤ 240 }
+    ensures text { line.new ≡ followed_by line.old (words_of_message (messages.State symbol phase)) }
+    ensures short { length line.new ≤ 240 }
 {
-    line.word("state")
-        .number(u64::from(symbol))
-        .word(phase_word(phase))
+    line.word("state");
+    line.number(u64::from(symbol));
+    line.word(phase_word(phase));
 }
 
-fn band_line(
-    line: Line,
+fn write_band(
+    line: &mut Line,
     symbol: u16,
     cause: Cause,
     reference: Price,
     lower: Price,
     upper: Price,
-) -> Line
-    requires { length line ≤ 45 }
+)
+    requires { length line.old ≤ 45 }
     ensures types { IsTyped (messages.Band symbol cause reference lower upper) }
-    ensures text { result ≡ followed_by line (words_of_message (messages.Band symbol cause reference lower upper)) }
-    ensures short { length result ≤ 240 }
+    ensures text { line.new ≡ followed_by line.old (words_of_message (messages.Band symbol cause reference lower upper)) }
+    ensures short { length line.new ≤ 240 }
 {
-    line.word("band")
-        .number(u64::from(symbol))
-        .word(cause_word(cause))
-        .price(reference)
-        .price(lower)
-        .price(upper)
+    line.word("band");
+    line.number(u64::from(symbol));
+    line.word(cause_word(cause));
+    line.price(reference);
+    line.price(lower);
+    line.price(upper);
 }
 
-fn straddle_line(line: Line, symbol: u16, on: bool) -> Line
-    requires { length line ≤ 45 }
+fn write_straddle(line: &mut Line, symbol: u16, on: bool)
+    requires { length line.old ≤ 45 }
     ensures types { IsTyped (messages.Straddle symbol on) }
-    ensures text { result ≡ followed_by line (words_of_message (messages.Straddle symbol on)) }
-    ensures short { length result ≤ 240 }
+    ensures text { line.new ≡ followed_by line.old (words_of_message (messages.Straddle symbol on)) }
+    ensures short { length line.new ≤ 240 }
 {
-    line.word("straddle")
-        .number(u64::from(symbol))
-        .word(straddle_word(on))
+    line.word("straddle");
+    line.number(u64::from(symbol));
+    line.word(straddle_word(on));
 }
 
-fn collar_line(line: Line, symbol: u16, round: u16, lower: Price, upper: Price) -> Line
-    requires { length line ≤ 45 }
+fn write_collar(line: &mut Line, symbol: u16, round: u16, lower: Price, upper: Price)
+    requires { length line.old ≤ 45 }
     ensures types { IsTyped (messages.Collar symbol round lower upper) }
-    ensures text { result ≡ followed_by line (words_of_message (messages.Collar symbol round lower upper)) }
-    ensures short { length result ≤ 240 }
+    ensures text { line.new ≡ followed_by line.old (words_of_message (messages.Collar symbol round lower upper)) }
+    ensures short { length line.new ≤ 240 }
 {
-    line.word("collar")
-        .number(u64::from(symbol))
-        .number(u64::from(round))
-        .price(lower)
-        .price(upper)
+    line.word("collar");
+    line.number(u64::from(symbol));
+    line.number(u64::from(round));
+    line.price(lower);
+    line.price(upper);
 }
 
-fn release_line(line: Line, symbol: u16, price: Price) -> Line
-    requires { length line ≤ 45 }
+fn write_release(line: &mut Line, symbol: u16, price: Price)
+    requires { length line.old ≤ 45 }
     ensures types { IsTyped (messages.Release symbol price) }
-    ensures text { result ≡ followed_by line (words_of_message (messages.Release symbol price)) }
-    ensures short { length result ≤ 240 }
+    ensures text { line.new ≡ followed_by line.old (words_of_message (messages.Release symbol price)) }
+    ensures short { length line.new ≤ 240 }
 {
-    line.word("release").number(u64::from(symbol)).price(price)
+    line.word("release");
+    line.number(u64::from(symbol));
+    line.price(price);
 }
 
-fn short_line(line: Line, symbol: u16, kind: ShortKind) -> Line
-    requires { length line ≤ 45 }
+fn write_short(line: &mut Line, symbol: u16, kind: ShortKind)
+    requires { length line.old ≤ 45 }
     ensures types { IsTyped (messages.Short symbol kind) }
-    ensures text { result ≡ followed_by line (words_of_message (messages.Short symbol kind)) }
-    ensures short { length result ≤ 240 }
+    ensures text { line.new ≡ followed_by line.old (words_of_message (messages.Short symbol kind)) }
+    ensures short { length line.new ≤ 240 }
 {
-    line.word("short")
-        .number(u64::from(symbol))
-        .word(short_word(kind))
+    line.word("short");
+    line.number(u64::from(symbol));
+    line.word(short_word(kind));
 }
 
-fn breaker_line(line: Line, level: Level, index: Index) -> Line
-    requires { length line ≤ 45 }
+fn write_breaker(line: &mut Line, level: Level, index: Index)
+    requires { length line.old ≤ 45 }
     ensures types { IsTyped (messages.Breaker level index) }
-    ensures text { result ≡ followed_by line (words_of_message (messages.Breaker level index)) }
-    ensures short { length result ≤ 240 }
+    ensures text { line.new ≡ followed_by line.old (words_of_message (messages.Breaker level index)) }
+    ensures short { length line.new ≤ 240 }
 {
-    line.word("breaker").word(level_word(level)).index(index)
+    line.word("breaker");
+    line.word(level_word(level));
+    line.index(index);
 }
 
-fn market_resume_line(line: Line) -> Line
-    requires { length line ≤ 45 }
+fn write_market_resume(line: &mut Line)
+    requires { length line.old ≤ 45 }
     ensures types { IsTyped messages.MarketResume }
-    ensures text { result ≡ followed_by line (words_of_message messages.MarketResume) }
-    ensures short { length result ≤ 240 }
+    ensures text { line.new ≡ followed_by line.old (words_of_message messages.MarketResume) }
+    ensures short { length line.new ≤ 240 }
 {
-    line.word("marketresume")
+    line.word("marketresume");
 }
 
-/// The line with the words of a message behind it.
-fn message_line(line: Line, message: Message) -> Line
-    requires room { length line ≤ 45 }
+/// Appends the words of a message.
+fn write_message(line: &mut Line, message: Message)
+    requires room { length line.old ≤ 45 }
     requires ranges { IsSayable message }
     ensures types { IsTyped message }
-    ensures text { result ≡ followed_by line (words_of_message message) }
-    ensures short { length result ≤ 240 }
+    ensures text { line.new ≡ followed_by line.old (words_of_message message) }
+    ensures short { length line.new ≤ 240 }
 {
     match message {
-        Message::Listed { symbol, name } => listed_line(line, symbol, name),
-        Message::State { symbol, phase } => state_line(line, symbol, phase),
+        Message::Listed { symbol, name } => write_listed(line, symbol, name),
+        Message::State { symbol, phase } => write_state(line, symbol, phase),
         Message::Band {
             symbol,
             cause,
             reference,
             lower,
             upper,
-        } => band_line(line, symbol, cause, reference, lower, upper),
-        Message::Straddle { symbol, on } => straddle_line(line, symbol, on),
+        } => write_band(line, symbol, cause, reference, lower, upper),
+        Message::Straddle { symbol, on } => write_straddle(line, symbol, on),
         Message::Collar {
             symbol,
             round,
             lower,
             upper,
-        } => collar_line(line, symbol, round, lower, upper),
-        Message::Release { symbol, price } => release_line(line, symbol, price),
-        Message::Short { symbol, kind } => short_line(line, symbol, kind),
-        Message::Breaker { level, index } => breaker_line(line, level, index),
-        Message::MarketResume => market_resume_line(line),
+        } => write_collar(line, symbol, round, lower, upper),
+        Message::Release { symbol, price } => write_release(line, symbol, price),
+        Message::Short { symbol, kind } => write_short(line, symbol, kind),
+        Message::Breaker { level, index } => write_breaker(line, level, index),
+        Message::MarketResume => write_market_resume(line),
     }
 }
 
-/// The line of a frame that is in its ranges.
-pub fn frame_line(f: &Frame) -> Line
-    requires { InRange f.now }
+fn write_hello(line: &mut Line, inputs: u64, messages: u64)
+    requires empty { line.old ≡ [] }
+    ensures types { HasTypes (frames.Hello inputs messages) }
+    ensures text { line.new ≡ line_of_frame (frames.Hello inputs messages) }
+    ensures short { length line.new ≤ 240 }
+{
+    line.begin("hello");
+    line.number(inputs);
+    line.number(messages);
+}
+
+fn write_ack(line: &mut Line, input: u64)
+    requires empty { line.old ≡ [] }
+    ensures types { HasTypes (frames.Ack input) }
+    ensures text { line.new ≡ line_of_frame (frames.Ack input) }
+    ensures short { length line.new ≤ 240 }
+{
+    line.begin("ack");
+    line.number(input);
+}
+
+fn write_refused(line: &mut Line, place: u64, code: u8, field: u8)
+    requires empty { line.old ≡ [] }
+    ensures types { HasTypes (frames.Refused place code field) }
+    ensures text { line.new ≡ line_of_frame (frames.Refused place code field) }
+    ensures short { length line.new ≤ 240 }
+{
+    line.begin("refused");
+    line.number(place);
+    line.number(u64::from(code));
+    line.number(u64::from(field));
+}
+
+/// Writes the line of a frame that is in its ranges.
+pub fn write_frame(line: &mut Line, f: &Frame)
+    requires empty { line.old ≡ [] }
+    requires ranges { InRange f.now }
     ensures types { HasTypes f.now }
-    ensures text { result ≡ line_of_frame f.now }
-    ensures short { length result ≤ 240 }
+    ensures text { line.new ≡ line_of_frame f.now }
+    ensures short { length line.new ≤ 240 }
 {
     match *f {
-        Frame::Hello { inputs, messages } => Line::of("hello").number(inputs).number(messages),
+        Frame::Hello { inputs, messages } => write_hello(line, inputs, messages),
         Frame::Numbered { number, stamped } => {
-            message_line(numbered(number, stamped.moment), stamped.message)
+            begin_numbered(line, number, stamped.moment);
+            write_message(line, stamped.message);
         }
-        Frame::Ack { input } => Line::of("ack").number(input),
-        Frame::Refused { place, code, field } => Line::of("refused")
-            .number(place)
-            .number(u64::from(code))
-            .number(u64::from(field)),
+        Frame::Ack { input } => write_ack(line, input),
+        Frame::Refused { place, code, field } => write_refused(line, place, code, field),
     }
 }
 
@@ -188,6 +228,7 @@ pub fn print_frame(alloc: Global, f: &Frame) -> Result<String, NoMemory>
     ensures text { IfOk result (λ line. string_bytes line ≡ line_of_frame f.now) }
     ensures prints { IfOk result (λ line. PrintsFrame (string_bytes line) f.now) }
 {
-    let line = frame_line(f);
+    let mut line = Line::new();
+    write_frame(&mut line, f);
     Ok(String::from_str(alloc, line.as_str())?)
 }

@@ -1,16 +1,17 @@
 //! From a line to its published frame.
 
-ghost use Rattle.std.specs.Prelude.{◌≡◌, ◌↔◌, ◌<◌, ◌&&◌, IsTrue, IfOk, Ok};
+ghost use Rattle.std.specs.Prelude.{◌≡◌, ◌↔◌, ◌<◌, ◌&&◌, bytes_eq, IsTrue, IfOk, Ok};
 ghost use Rattle.std.specs.Result.{result_ok};
 ghost use Rattle.wire_out.specs.Codes.{is_code, is_field};
-ghost use Rattle.wire_out.specs.Spelling.{InRange, IsSayable};
+ghost use Rattle.wire_out.specs.Spelling.{HasTypes, InRange, IsSayable};
 ghost use Rattle.wire_out.specs.declared.message.Frame.{Frame};
-ghost use Rattle.text_core.specs.Lines.{PrintsFrame};
+ghost use Rattle.text_core.specs.Lines.{line_of_frame, PrintsFrame};
 ghost use Rattle.text_core.specs.Reading.{listed_of, state_of, band_of, straddle_of, collar_of, release_of, short_of, breaker_of, message_of, numbered_of, refused_of, frame_of, is_sayable, is_frame_in_range, is_line_of_frame, frame_in};
 
 use crate::error::BadLine;
 use crate::field_reading::{index, is_name, moment, name, number, number8, number16, price, word};
-use crate::frame_printing::frame_line;
+use crate::frame_printing::write_frame;
+use crate::line::Line;
 use crate::word_reading::{cause, is, level, phase, short_kind, straddle};
 use wire_out::{Frame, Message, Stamped};
 
@@ -213,12 +214,23 @@ fn is_in_range(f: &Frame) -> bool
     }
 }
 
+/// Whether a line is that of a frame in its ranges.
+fn is_line_of(line: &[u8], f: &Frame) -> bool
+    requires { InRange f.now }
+    ensures value { result ≡ bytes_eq line.now (line_of_frame f.now) }
+    ensures types { HasTypes f.now }
+{
+    let mut printed = Line::new();
+    write_frame(&mut printed, f);
+    line == printed.as_slice()
+}
+
 /// Whether a line prints a frame.
 fn prints(line: &[u8], f: &Frame) -> bool
     ensures value { result ≡ is_line_of_frame line.now f.now }
     ensures tells { IsTrue result ↔ PrintsFrame line.now f.now }
 {
-    is_in_range(f) && is(line, frame_line(f).as_str())
+    is_in_range(f) && is_line_of(line, f)
 }
 
 /// The published frame that a line prints, without its newline; an error exactly where it prints none.

@@ -11,7 +11,6 @@ mod line;
 mod output;
 mod record_printing;
 mod record_reading;
-mod short;
 mod stream;
 mod task;
 #[cfg(test)]

@@ -1,31 +1,38 @@
 //! From a line to its record.
 
-ghost use Rattle.std.specs.Prelude.{◌≡◌, ◌↔◌, IsTrue, IfOk, Ok};
+ghost use Rattle.std.specs.Prelude.{◌≡◌, ◌↔◌, bytes_eq, IsTrue, IfOk, Ok};
 ghost use Rattle.std.specs.Result.{result_ok};
-ghost use Rattle.wire_in.specs.Spelling.{InRange};
+ghost use Rattle.wire_in.specs.Spelling.{HasTypes, InRange};
 ghost use Rattle.wire_in.specs.declared.record.Record.{Record};
-ghost use Rattle.text_core.specs.Lines.{PrintsRecord};
+ghost use Rattle.text_core.specs.Lines.{line_of_record, PrintsRecord};
 ghost use Rattle.text_core.specs.Reading.{day_of, listing_of, trade_of, cancel_of, quote_of, index_tick_of, clock_of, notice_of, indication_of, record_of, is_in_range, is_line_of, record_in};
 
 use crate::error::BadLine;
 use crate::field_reading::{
     date, flags, index, is_name, leverage, moment, name, number16, number32, optional_price, price,
-    word,
+    split, word,
 };
-use crate::record_printing::record_line;
+use crate::line::Line;
+use crate::record_printing::write_record;
 use crate::word_reading::{close, is, notice_kind, profile, tier, unmatched};
 use session_core::Day;
 use wire_in::Record;
 
-#[tactic(auto, unfolding(crate::specs::Reading::day_of))]
+#[tactic(auto, unfolding(crate::specs::Reading::day_of), using(crate::proofs::Words::word_1, crate::proofs::Words::word_2, crate::proofs::Words::word_3, crate::proofs::Words::word_4, crate::proofs::Words::word_5))]
 fn day(line: &[u8]) -> Option<Record>
     ensures { result ≡ day_of line.now }
 {
-    let moment = moment(word(line, 1))?;
-    let date = date(word(line, 2))?;
-    let close = close(word(line, 3))?;
-    let profile = profile(word(line, 4))?;
-    let index_close = index(word(line, 5))?;
+    let (_, rest) = split(line);
+    let (word, rest) = split(rest);
+    let moment = moment(word)?;
+    let (word, rest) = split(rest);
+    let date = date(word)?;
+    let (word, rest) = split(rest);
+    let close = close(word)?;
+    let (word, rest) = split(rest);
+    let profile = profile(word)?;
+    let (word, _) = split(rest);
+    let index_close = index(word)?;
     let day = Day {
         date,
         close,
@@ -38,15 +45,21 @@ fn day(line: &[u8]) -> Option<Record>
     })
 }
 
-#[tactic(auto, unfolding(crate::specs::Reading::listing_of))]
+#[tactic(auto, unfolding(crate::specs::Reading::listing_of), using(crate::proofs::Words::word_1, crate::proofs::Words::word_2, crate::proofs::Words::word_3, crate::proofs::Words::word_4, crate::proofs::Words::word_5))]
 fn listing(line: &[u8]) -> Option<Record>
     ensures { result ≡ listing_of line.now }
 {
-    let moment = moment(word(line, 1))?;
-    let name = name(word(line, 2))?;
-    let tier = tier(word(line, 3))?;
-    let leverage = leverage(word(line, 4))?;
-    let close = optional_price(word(line, 5))?;
+    let (_, rest) = split(line);
+    let (word, rest) = split(rest);
+    let moment = moment(word)?;
+    let (word, rest) = split(rest);
+    let name = name(word)?;
+    let (word, rest) = split(rest);
+    let tier = tier(word)?;
+    let (word, rest) = split(rest);
+    let leverage = leverage(word)?;
+    let (word, _) = split(rest);
+    let close = optional_price(word)?;
     Some(Record::Listing {
         moment,
         name,
@@ -56,16 +69,23 @@ fn listing(line: &[u8]) -> Option<Record>
     })
 }
 
-#[tactic(auto, unfolding(crate::specs::Reading::trade_of))]
+#[tactic(auto, unfolding(crate::specs::Reading::trade_of), using(crate::proofs::Words::word_1, crate::proofs::Words::word_2, crate::proofs::Words::word_3, crate::proofs::Words::word_4, crate::proofs::Words::word_5, crate::proofs::Words::word_6))]
 fn trade(line: &[u8]) -> Option<Record>
     ensures { result ≡ trade_of line.now }
 {
-    let moment = moment(word(line, 1))?;
-    let symbol = number16(word(line, 2))?;
-    let number = number32(word(line, 3))?;
-    let price = price(word(line, 4))?;
-    let size = number32(word(line, 5))?;
-    let flags = flags(word(line, 6))?;
+    let (_, rest) = split(line);
+    let (word, rest) = split(rest);
+    let moment = moment(word)?;
+    let (word, rest) = split(rest);
+    let symbol = number16(word)?;
+    let (word, rest) = split(rest);
+    let number = number32(word)?;
+    let (word, rest) = split(rest);
+    let price = price(word)?;
+    let (word, rest) = split(rest);
+    let size = number32(word)?;
+    let (word, _) = split(rest);
+    let flags = flags(word)?;
     Some(Record::Trade {
         moment,
         symbol,
@@ -76,13 +96,17 @@ fn trade(line: &[u8]) -> Option<Record>
     })
 }
 
-#[tactic(auto, unfolding(crate::specs::Reading::cancel_of))]
+#[tactic(auto, unfolding(crate::specs::Reading::cancel_of), using(crate::proofs::Words::word_1, crate::proofs::Words::word_2, crate::proofs::Words::word_3))]
 fn cancel(line: &[u8]) -> Option<Record>
     ensures { result ≡ cancel_of line.now }
 {
-    let moment = moment(word(line, 1))?;
-    let symbol = number16(word(line, 2))?;
-    let number = number32(word(line, 3))?;
+    let (_, rest) = split(line);
+    let (word, rest) = split(rest);
+    let moment = moment(word)?;
+    let (word, rest) = split(rest);
+    let symbol = number16(word)?;
+    let (word, _) = split(rest);
+    let number = number32(word)?;
     Some(Record::Cancel {
         moment,
         symbol,
@@ -90,16 +114,23 @@ fn cancel(line: &[u8]) -> Option<Record>
     })
 }
 
-#[tactic(auto, unfolding(crate::specs::Reading::quote_of))]
+#[tactic(auto, unfolding(crate::specs::Reading::quote_of), using(crate::proofs::Words::word_1, crate::proofs::Words::word_2, crate::proofs::Words::word_3, crate::proofs::Words::word_4, crate::proofs::Words::word_5, crate::proofs::Words::word_6))]
 fn quote(line: &[u8]) -> Option<Record>
     ensures { result ≡ quote_of line.now }
 {
-    let moment = moment(word(line, 1))?;
-    let symbol = number16(word(line, 2))?;
-    let bid = optional_price(word(line, 3))?;
-    let offer = optional_price(word(line, 4))?;
-    let bid_size = number32(word(line, 5))?;
-    let offer_size = number32(word(line, 6))?;
+    let (_, rest) = split(line);
+    let (word, rest) = split(rest);
+    let moment = moment(word)?;
+    let (word, rest) = split(rest);
+    let symbol = number16(word)?;
+    let (word, rest) = split(rest);
+    let bid = optional_price(word)?;
+    let (word, rest) = split(rest);
+    let offer = optional_price(word)?;
+    let (word, rest) = split(rest);
+    let bid_size = number32(word)?;
+    let (word, _) = split(rest);
+    let offer_size = number32(word)?;
     Some(Record::Quote {
         moment,
         symbol,
@@ -110,30 +141,39 @@ fn quote(line: &[u8]) -> Option<Record>
     })
 }
 
-#[tactic(auto, unfolding(crate::specs::Reading::index_tick_of))]
+#[tactic(auto, unfolding(crate::specs::Reading::index_tick_of), using(crate::proofs::Words::word_1, crate::proofs::Words::word_2))]
 fn index_tick(line: &[u8]) -> Option<Record>
     ensures { result ≡ index_tick_of line.now }
 {
-    let moment = moment(word(line, 1))?;
-    let value = index(word(line, 2))?;
+    let (_, rest) = split(line);
+    let (word, rest) = split(rest);
+    let moment = moment(word)?;
+    let (word, _) = split(rest);
+    let value = index(word)?;
     Some(Record::IndexTick { moment, value })
 }
 
-#[tactic(auto, unfolding(crate::specs::Reading::clock_of))]
+#[tactic(auto, unfolding(crate::specs::Reading::clock_of), using(crate::proofs::Words::word_1))]
 fn clock(line: &[u8]) -> Option<Record>
     ensures { result ≡ clock_of line.now }
 {
-    let moment = moment(word(line, 1))?;
+    let (_, rest) = split(line);
+    let (word, _) = split(rest);
+    let moment = moment(word)?;
     Some(Record::Clock { moment })
 }
 
-#[tactic(auto, unfolding(crate::specs::Reading::notice_of))]
+#[tactic(auto, unfolding(crate::specs::Reading::notice_of), using(crate::proofs::Words::word_1, crate::proofs::Words::word_2, crate::proofs::Words::word_3))]
 fn notice(line: &[u8]) -> Option<Record>
     ensures { result ≡ notice_of line.now }
 {
-    let moment = moment(word(line, 1))?;
-    let symbol = number16(word(line, 2))?;
-    let kind = notice_kind(word(line, 3))?;
+    let (_, rest) = split(line);
+    let (word, rest) = split(rest);
+    let moment = moment(word)?;
+    let (word, rest) = split(rest);
+    let symbol = number16(word)?;
+    let (word, _) = split(rest);
+    let kind = notice_kind(word)?;
     Some(Record::Notice {
         moment,
         symbol,
@@ -141,14 +181,19 @@ fn notice(line: &[u8]) -> Option<Record>
     })
 }
 
-#[tactic(auto, unfolding(crate::specs::Reading::indication_of))]
+#[tactic(auto, unfolding(crate::specs::Reading::indication_of), using(crate::proofs::Words::word_1, crate::proofs::Words::word_2, crate::proofs::Words::word_3, crate::proofs::Words::word_4))]
 fn indication(line: &[u8]) -> Option<Record>
     ensures { result ≡ indication_of line.now }
 {
-    let moment = moment(word(line, 1))?;
-    let symbol = number16(word(line, 2))?;
-    let price = price(word(line, 3))?;
-    let unmatched = unmatched(word(line, 4))?;
+    let (_, rest) = split(line);
+    let (word, rest) = split(rest);
+    let moment = moment(word)?;
+    let (word, rest) = split(rest);
+    let symbol = number16(word)?;
+    let (word, rest) = split(rest);
+    let price = price(word)?;
+    let (word, _) = split(rest);
+    let unmatched = unmatched(word)?;
     Some(Record::Indication {
         moment,
         symbol,
@@ -198,12 +243,23 @@ fn is_in_range(x: &Record) -> bool
     }
 }
 
+/// Whether a line is that of a record in its ranges.
+fn is_line_of(line: &[u8], x: &Record) -> bool
+    requires { InRange x.now }
+    ensures value { result ≡ bytes_eq line.now (line_of_record x.now) }
+    ensures types { HasTypes x.now }
+{
+    let mut printed = Line::new();
+    write_record(&mut printed, x);
+    line == printed.as_slice()
+}
+
 /// Whether a line prints a record.
 fn prints(line: &[u8], x: &Record) -> bool
     ensures value { result ≡ is_line_of line.now x.now }
     ensures tells { IsTrue result ↔ PrintsRecord line.now x.now }
 {
-    is_in_range(x) && is(line, record_line(x).as_str())
+    is_in_range(x) && is_line_of(line, x)
 }
 
 /// The record that a line prints, without its newline; an error exactly where it prints none.

@@ -1,22 +1,24 @@
 //! A stream on its way: from pieces of the input to what is sent.
 
-ghost use Rattle.std.specs.Prelude.{◌≡◌, ◌⊎◌, ◌+◌, ◌<◌, ◌≤◌, ◌^◌, ◌++◌, ◌∷◌, [], ℕ, List, Option, length, take, true, false, OnOk, IfOk, IfErr};
+ghost use Rattle.std.specs.Prelude.{◌≡◌, ◌⊎◌, ◌+◌, ◌<◌, ◌≤◌, ◌^◌, ◌++◌, ◌∷◌, [], ℕ, List, Option, None, length, take, true, false, IsSome, OnOk, IfOk, IfSome, IfErr};
 ghost use Rattle.std.specs.Io.KnownBytes.{append_known};
 ghost use Rattle.host_core.specs.Outside.{Elapses};
 ghost use Rattle.host_core.specs.Frames.{OnlySends};
 ghost use Rattle.host_core.specs.Faults.{Causes};
+ghost use Rattle.wire_core.specs.Frames.{framed};
 ghost use Rattle.wire_in.specs.Cutting.{pending, bodies_of, rest_of};
 ghost use Rattle.text_core.specs.declared.task.Task.TheVariants as tasks;
 ghost use Rattle.stream_core.specs.Pending.{SendsPrefix};
 ghost use Rattle.text_core.specs.Streams.{units_of, text_of, last_unit};
 ghost use Rattle.text_core.specs.Streams as streams;
-ghost use Rattle.text_core.specs.InternalStreams.{Answers, Reads};
+ghost use Rattle.text_core.specs.InternalStreams.{Answers, Reads, IsOneLine};
 
 use crate::kind::Kind;
-use crate::short::Short;
+use crate::line::Line;
 use crate::task::Task;
 use crate::writer::Writer;
 use host_core::{Fault, Host};
+use memchr::memchr;
 use stream_core::Outbox;
 use wire_in::Cutter;
 
@@ -25,8 +27,33 @@ use wire_in::Cutter;
 #[derive(Drop)]
 pub struct Translator {
     pub cutter: Cutter,
-    pub line: Short,
+    pub line: Line,
     pub writer: Writer,
+}
+
+/// The body of a frame that stands whole at the front of a piece, where none was begun before. It is printed where it
+/// lies.
+fn whole_frame<'a>(cutter: &Cutter, piece: &'a [u8]) -> Option<&'a [u8]>
+    ensures between { IsSome result → pending cutter.now ≡ [] }
+    ensures front { IfSome result (λ body. framed body.now ≡ take (length body.now + 1) piece.now) }
+    ensures within { IfSome result (λ body. length body.now < length piece.now) }
+    ensures short { IfSome result (λ body. length body.now ≤ 255) }
+{
+    if cutter.inside() {
+        return None;
+    }
+    let (len, rest) = piece.split_first()?;
+    rest.get(..usize::from(*len))
+}
+
+/// How long the line is that a newline ends first in a piece, without it.
+fn line_len(piece: &[u8]) -> Option<usize>
+    ensures within { IfSome result (λ n. n < length piece.now) }
+    ensures line { IfSome result (λ n. IsOneLine (take n piece.now)) }
+    ensures ended { IfSome result (λ n. take (n + 1) piece.now ≡ take n piece.now ++ 10 ∷ []) }
+    ensures none { result ≡ None → IsOneLine piece.now }
+{
+    memchr(b'\n', piece)
 }
 
 impl Translator {
@@ -36,7 +63,7 @@ impl Translator {
     {
         Translator {
             cutter: Cutter::new(),
-            line: Short::new(),
+            line: Line::new(),
             writer: Writer::new(outbox),
         }
     }
@@ -62,6 +89,10 @@ impl Translator {
         ensures causes { Causes result (H.outside host.old) (H.outside host.new) }
         ensures fault { IfErr result (λ fault. fault ≡ Fault.Send) }
     {
+        if let Some(body) = whole_frame(&self.cutter, piece) {
+            self.writer.answer(Task::Print, kind, host, body)?;
+            return Ok(body.len() + 1);
+        }
         let cut = self.cutter.take(piece);
         if !cut.whole {
             return Ok(cut.used);
@@ -71,12 +102,13 @@ impl Translator {
         Ok(cut.used)
     }
 
-    /// Takes a byte of a text, and packs the line that it ends, if it ends one.
-    fn take_byte<H: Host>(&mut self, kind: Kind, host: &mut H, byte: u8) -> Result<(), Fault>
+    /// Packs the line that a newline ends, whose last bytes are these.
+    fn end_line<H: Host>(&mut self, kind: Kind, host: &mut H, last: &[u8]) -> Result<(), Fault>
         requires open { self.old.writer.bad ≡ false }
         requires few { self.old.writer.number < 2 ^ 42 }
+        requires line { IsOneLine last.now }
         ensures reads { (begin : Option (List ℕ)) (read : List ℕ) → Reads tasks.Pack kind begin read self.old (H.outside host.old).sent
-            → OnOk result (Reads tasks.Pack kind begin (read ++ byte ∷ []) self.new (H.outside host.new).sent) }
+            → OnOk result (Reads tasks.Pack kind begin (read ++ last.now ++ 10 ∷ []) self.new (H.outside host.new).sent) }
         ensures moments { (begin : Option (List ℕ)) (read : List ℕ) → Reads tasks.Pack kind begin read self.old (H.outside host.old).sent
             → Elapses (H.outside host.old) (H.outside host.new) (SendsPrefix begin (text_of tasks.Pack kind (units_of tasks.Pack read)) (H.outside host.old)) }
         ensures few { OnOk result (self.new.writer.number ≤ self.old.writer.number + 1) }
@@ -84,30 +116,38 @@ impl Translator {
         ensures causes { Causes result (H.outside host.old) (H.outside host.new) }
         ensures fault { IfErr result (λ fault. fault ≡ Fault.Send) }
     {
-        if byte == b'\n' {
-            return self.end_line(kind, host);
+        if self.line.is_empty() {
+            return self.writer.answer(Task::Pack, kind, host, last);
         }
-        self.line.keep(byte);
-        Ok(())
-    }
-
-    /// Packs the line that a newline ends.
-    fn end_line<H: Host>(&mut self, kind: Kind, host: &mut H) -> Result<(), Fault>
-        requires open { self.old.writer.bad ≡ false }
-        requires few { self.old.writer.number < 2 ^ 42 }
-        ensures reads { (begin : Option (List ℕ)) (read : List ℕ) → Reads tasks.Pack kind begin read self.old (H.outside host.old).sent
-            → OnOk result (Reads tasks.Pack kind begin (read ++ 10 ∷ []) self.new (H.outside host.new).sent) }
-        ensures moments { (begin : Option (List ℕ)) (read : List ℕ) → Reads tasks.Pack kind begin read self.old (H.outside host.old).sent
-            → Elapses (H.outside host.old) (H.outside host.new) (SendsPrefix begin (text_of tasks.Pack kind (units_of tasks.Pack read)) (H.outside host.old)) }
-        ensures few { OnOk result (self.new.writer.number ≤ self.old.writer.number + 1) }
-        ensures keeps { OnlySends (H.outside host.old) (H.outside host.new) }
-        ensures causes { Causes result (H.outside host.old) (H.outside host.new) }
-        ensures fault { IfErr result (λ fault. fault ≡ Fault.Send) }
-    {
+        self.line.keep(last);
         self.writer
             .answer(Task::Pack, kind, host, self.line.as_slice())?;
         self.line.clear();
         Ok(())
+    }
+
+    /// Takes bytes up to the end of a line or of the piece, and packs the line if it is whole. Answers how many bytes it
+    /// took. A line that lies whole in the piece is packed where it lies.
+    fn take_line<H: Host>(&mut self, kind: Kind, host: &mut H, piece: &[u8]) -> Result<usize, Fault>
+        requires open { self.old.writer.bad ≡ false }
+        requires few { self.old.writer.number < 2 ^ 42 }
+        requires some { 0 < length piece.now }
+        ensures reads { (begin : Option (List ℕ)) (read : List ℕ) → Reads tasks.Pack kind begin read self.old (H.outside host.old).sent
+            → IfOk result (λ n. Reads tasks.Pack kind begin (read ++ take n piece.now) self.new (H.outside host.new).sent) }
+        ensures moments { (begin : Option (List ℕ)) (read : List ℕ) → Reads tasks.Pack kind begin read self.old (H.outside host.old).sent
+            → Elapses (H.outside host.old) (H.outside host.new) (SendsPrefix begin (text_of tasks.Pack kind (units_of tasks.Pack read)) (H.outside host.old)) }
+        ensures used { IfOk result (λ n. (0 < n) × (n ≤ length piece.now)) }
+        ensures few { OnOk result (self.new.writer.number ≤ self.old.writer.number + 1) }
+        ensures keeps { OnlySends (H.outside host.old) (H.outside host.new) }
+        ensures causes { Causes result (H.outside host.old) (H.outside host.new) }
+        ensures fault { IfErr result (λ fault. fault ≡ Fault.Send) }
+    {
+        let Some(len) = line_len(piece) else {
+            self.line.keep(piece);
+            return Ok(piece.len());
+        };
+        self.end_line(kind, host, &piece[..len])?;
+        Ok(len + 1)
     }
 
     /// Takes some bytes of a piece, and answers the unit that they end, if they end one. Answers how many it took.
@@ -133,10 +173,7 @@ impl Translator {
     {
         match task {
             Task::Print => self.take_frame(kind, host, piece),
-            Task::Pack => {
-                self.take_byte(kind, host, piece[0])?;
-                Ok(1)
-            }
+            Task::Pack => self.take_line(kind, host, piece),
         }
     }
 
@@ -180,7 +217,7 @@ impl Translator {
         ensures causes { Causes result (H.outside host.old) (H.outside host.new) }
         ensures fault { IfErr result (λ fault. fault ≡ Fault.Send) }
     {
-        if self.line.as_slice().is_empty() {
+        if self.line.is_empty() {
             return Ok(());
         }
         self.writer

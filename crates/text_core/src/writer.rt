@@ -10,7 +10,8 @@ ghost use Rattle.text_core.specs.Streams.{text_of};
 ghost use Rattle.text_core.specs.InternalStreams.{Answers};
 
 use crate::kind::Kind;
-use crate::output::output_for;
+use crate::line::Line;
+use crate::output::write_output;
 use crate::task::Task;
 use host_core::{Fault, Host};
 use stream_core::Outbox;
@@ -55,10 +56,11 @@ impl Writer {
         ensures causes { Causes result (H.outside host.old) (H.outside host.new) }
         ensures fault { IfErr result (λ fault. fault ≡ Fault.Send) }
     {
-        let Some(output) = output_for(task, kind, unit) else {
+        let mut output = Line::new();
+        if !write_output(&mut output, task, kind, unit) {
             self.bad = true;
             return Ok(());
-        };
+        }
         self.outbox.append_bytes(host, output.as_slice())?;
         self.number += 1;
         Ok(())

@@ -1,9 +1,27 @@
-use Rattle.std.proofs.Common.{refl, append_assoc}
-use Rattle.text_core.specs.Words.{time_word}
+use Rattle.std.proofs.Common.{refl}
+use Rattle.text_core.proofs.Plain.{time_digits}
 use Rattle.text_core.proofs.line.Line.time.Goals as goal
 
 pub returns-clause-text : goal.returns-clause-text
-unfolding time_word
 returns-clause-text c =
-    rw (c.digits-4.ensures.text, c.and-4.ensures.text, c.digits-3.ensures.text, c.and-3.ensures.text, c.digits-2.ensures.text, c.and-2.ensures.text, c.digits.ensures.text, c.and.ensures.text, c.nanos-nanos.ensures.value)
-    (simp append_assoc refl)
+    rw (
+      c.append.ensures.text,
+      c.digit.ensures,
+      c.digit-2.ensures,
+      c.digit-3.ensures,
+      c.digit-4.ensures,
+      c.digit-5.ensures,
+      c.digit-6.ensures,
+      c.digit-7.ensures,
+      c.digit-8.ensures,
+      c.digit-9.ensures,
+      c.digit-10.ensures,
+      c.digit-11.ensures,
+      c.digit-12.ensures,
+      c.digit-13.ensures,
+      c.digit-14.ensures,
+      c.digit-15.ensures,
+      c.nanos-nanos.ensures.value,
+      time_digits c.args.moment,
+    )
+    refl

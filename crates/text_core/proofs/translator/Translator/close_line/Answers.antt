@@ -12,10 +12,10 @@ returns-then-is_empty-clause-moments g c = λ begin read reads. sends_none (g.H.
 
 pub returns-clause-answers : goal.returns-clause-answers
 returns-clause-answers g c = λ begin read reads.
-    let some : 0 < length c.as_slice-2.result.now =
-    grind (arith, nat_tests, c.is_empty.ensures, c.if-is_empty.false, ap length c.as_slice.ensures.value, ap length c.as_slice-2.ensures.value) in
+    let some : 0 < length c.as_slice.result.now =
+    grind (arith, nat_tests, c.is_empty.ensures, c.if-is_empty.false, ap length c.as_slice.ensures.value) in
     on_ok c.answer.result (c.answer.ensures.answers begin _ reads.answers)
-    (λ answers. last_line (units_of Pack read) c.as_slice-2.result.now (rest_of Pack read) (c.as_slice-2.ensures.value ∙ reads.begun c.requires.open) some answers)
+    (λ answers. last_line (units_of Pack read) c.as_slice.result.now (rest_of Pack read) (c.as_slice.ensures.value ∙ reads.begun c.requires.open) some answers)
 
 pub returns-clause-moments : goal.returns-clause-moments
 returns-clause-moments g c = λ begin read reads. c.answer.ensures.moments begin _ reads.answers
