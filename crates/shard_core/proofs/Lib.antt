@@ -1,2 +1,11 @@
 pub mod Loads
 pub mod InOrder
+pub mod Parts
+pub mod Merging
+pub mod Markets
+pub mod Blocks
+pub mod Turning
+pub mod Gathered
+pub mod Working
+pub mod Opening
+pub mod Taking

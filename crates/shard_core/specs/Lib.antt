@@ -1,3 +1,6 @@
 pub mod Shares
 pub mod Front
 pub mod Merged
+pub mod Parts
+pub mod Block
+pub mod Turns

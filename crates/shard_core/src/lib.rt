@@ -1,12 +1,17 @@
-//! What is done in parts: ranges of ids of about the same load, and the messages of several parts in one order.
+//! What is done in parts: ranges of ids of about the same load, one market over several ranges, and the messages of several
+//! parts in one order.
 #![tactic(auto)]
 
 mod order;
+mod part;
 mod ranges;
+mod shards;
 mod tagged;
 #[cfg(test)]
 mod tests;
+mod turns;
 
 pub use order::merge;
 pub use ranges::cut;
+pub use shards::Shards;
 pub use tagged::Tagged;

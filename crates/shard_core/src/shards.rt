@@ -1,0 +1,134 @@
+ghost use Rattle.std.specs.Prelude.{◌≡◌, ℕ, ◌<◌, ◌≤◌, ◌++◌, [], true, List, IfOk, OnOk, OnErr, is_ok, length};
+ghost use Rattle.wire_in.specs.declared.record.Record.{Record};
+ghost use Rattle.shard_core.specs.Block.{AreAdmissible, Represents, followed, given};
+ghost use Rattle.shard_core.specs.Turns.{AreEmpty};
+
+use crate::order::merge;
+use crate::part::work_all;
+use crate::tagged::Tagged;
+use crate::turns::{Turn, is_begun, lead_all};
+use market_core::{Lead, Section};
+use price_core::NoMemory;
+use std::alloc::Global;
+use std::marker::Model;
+use wire_in::Record;
+use wire_out::Stamped;
+
+/// One market in parts: the market's part, and sections of symbols whose ranges of ids lie one behind the other. New names
+/// belong to the last part. The room that a block needs is kept for the next one.
+#[derive(Drop)]
+pub struct Shards {
+    alloc: Global,
+    lead: Lead,
+    parts: Vec<Section>,
+    working: bool,
+    turns: Vec<Turn>,
+    said: Vec<Stamped>,
+    market: Vec<Tagged>,
+    told: Vec<Vec<Tagged>>,
+}
+
+impl Model for Shards {
+    ghost use Rattle.std.specs.Prelude.{◌≡◌, ◌<◌, ◌≤◌, length};
+    ghost use Rattle.shard_core.specs.Block.{ShardsState};
+    ghost use Rattle.shard_core.specs.Turns.{AreFew};
+
+    ghost Value = { ShardsState };
+
+    ghost view = { λ shards. record { lead = shards.lead; parts = shards.parts.items; working = shards.working } };
+
+    ghost invariant = { λ shards. (0 < length shards.parts.items) × (length shards.parts.items ≤ 64) × (length shards.told.items ≡ length shards.parts.items) × AreFew shards.parts.items };
+}
+
+/// So many sections with no symbols.
+fn sections(alloc: Global, count: u32) -> Result<Vec<Section>, NoMemory>
+    ensures { IfOk result (λ parts. AreEmpty count parts.items) }
+{
+    let mut parts = Vec::with_capacity(alloc, count as usize)?;
+    for _index in 0..count {
+        let part = Section::new(alloc)?;
+        parts.push_reserved(part);
+    }
+    Ok(parts)
+}
+
+/// So many lists of no messages.
+fn lists(alloc: Global, count: u32) -> Result<Vec<Vec<Tagged>>, NoMemory>
+    ensures { IfOk result (λ lists. length lists.items ≡ count) }
+{
+    let mut lists = Vec::with_capacity(alloc, count as usize)?;
+    for _index in 0..count {
+        lists.push_reserved(Vec::new(alloc));
+    }
+    Ok(lists)
+}
+
+impl Shards {
+    /// A market of no records, in so many parts, from 1 to 64.
+    pub fn new(alloc: Global, workers: u32) -> Result<Shards, NoMemory>
+        requires workers { (0 < workers) × (workers ≤ 64) }
+        ensures stands { IfOk result (λ shards. Represents shards []) }
+        ensures parts { IfOk result (λ shards. length shards.parts ≡ workers) }
+        ensures working { IfOk result (λ shards. shards.working ≡ true) }
+    {
+        let lead = Lead::new(alloc)?;
+        let parts = sections(alloc, workers)?;
+        let told = lists(alloc, workers)?;
+        Ok(Shards {
+            alloc,
+            lead,
+            parts,
+            working: true,
+            turns: Vec::new(alloc),
+            said: Vec::new(alloc),
+            market: Vec::new(alloc),
+            told,
+        })
+    }
+
+    /// Whether no block has failed. A market of which a block failed gives nothing more.
+    pub fn working(&self) -> bool
+        ensures { result ≡ self.now.working }
+    {
+        self.working
+    }
+
+    /// Appends what one market gives for records that are admissible, one after the other, after those before: each
+    /// message with the place of its record in the block, from 0. At most 65,536 records, and no block before has failed.
+    /// An error leaves the list as it was, and nothing works from then on. Records before any day, which admission refuses,
+    /// are passed over.
+    pub fn block(&mut self, xs: &[Record], out: &mut Vec<Tagged>) -> Result<(), NoMemory>
+        requires working { self.old.working ≡ true }
+        requires few { length xs.now ≤ 65536 }
+        ensures given { (capacity : ℕ) (applied : List Record) → Represents self.old applied → AreAdmissible capacity applied xs.now
+            → OnOk result (out.new.items ≡ out.old.items ++ given applied xs.now) }
+        ensures stands { (capacity : ℕ) (applied : List Record) → Represents self.old applied → AreAdmissible capacity applied xs.now
+            → OnOk result (Represents self.new (followed applied xs.now)) }
+        ensures err { OnErr result (out.new.items ≡ out.old.items) }
+        ensures working { self.new.working ≡ is_ok result }
+        ensures parts { length self.new.parts ≡ length self.old.parts }
+    {
+        if !is_begun(xs, &self.lead) {
+            return Ok(());
+        }
+        self.working = false;
+        lead_all(
+            &mut self.lead,
+            xs,
+            &mut self.said,
+            &mut self.turns,
+            &mut self.market,
+        )?;
+        work_all(
+            self.alloc,
+            &mut self.parts,
+            xs,
+            &self.turns,
+            &mut self.said,
+            &mut self.told,
+        )?;
+        merge(&self.market, &self.told, out)?;
+        self.working = true;
+        Ok(())
+    }
+}

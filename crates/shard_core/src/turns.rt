@@ -1,0 +1,139 @@
+// What the market's part notes of a block, before its symbols are evaluated.
+ghost use Rattle.std.specs.Prelude.{◌≡◌, ◌+◌, ◌<◌, ◌≤◌, ◌++◌, ◌∷◌, [], true, false, IfOk, OnOk, IsSome, length, vec_len, vec_capacity};
+ghost use Rattle.wire_in.specs.Records.{is_day, moment_of};
+ghost use Rattle.market_core.specs.Leads.{led, rulings};
+ghost use Rattle.market_core.specs.Ruled.{stamped};
+ghost use Rattle.shard_core.specs.Block.{tagged};
+ghost use Rattle.shard_core.specs.Turns.{Leads, LeadsTo, is_begun, note_of, noted, target_of};
+
+use crate::tagged::Tagged;
+use market_core::Lead;
+use price_core::NoMemory;
+use symbol_core::MarketView;
+use wire_in::Record;
+use wire_out::Stamped;
+
+/// Whom a record is for: each symbol, the symbol of an id, or the one that a new name gets.
+#[derive(Clone, Copy, Debug, PartialEq, Eq)]
+pub enum Target {
+    Each,
+    One(u16),
+    New(u16),
+}
+
+/// What symbols need to know of a record: what the market is to them then, and whom it is for.
+#[derive(Clone, Copy, Debug)]
+pub struct Turn {
+    pub view: MarketView,
+    pub target: Target,
+}
+
+/// Appends a message to a list that has room for it.
+fn append(out: &mut Vec<Tagged>, message: Tagged)
+    requires { vec_len out.old + 1 ≤ vec_capacity out.old }
+    ensures items { out.new.items ≡ out.old.items ++ message ∷ [] }
+    ensures room { vec_capacity out.old ≤ vec_capacity out.new }
+    ensures len { vec_len out.new ≡ vec_len out.old + 1 }
+{
+    out.extend_from_slice(&[message]).unwrap();
+}
+
+/// Appends messages of one input to a list that has room for them.
+fn tag_all(said: &[Stamped], input: u32, out: &mut Vec<Tagged>)
+    requires { vec_len out.old + length said.now ≤ vec_capacity out.old }
+    ensures items { out.new.items ≡ out.old.items ++ tagged input said.now }
+{
+    for message in said {
+        append(
+            out,
+            Tagged {
+                input,
+                stamped: *message,
+            },
+        );
+    }
+}
+
+/// Appends messages of one input.
+pub fn tag(said: &[Stamped], input: u32, out: &mut Vec<Tagged>) -> Result<(), NoMemory>
+    ensures { OnOk result (out.new.items ≡ out.old.items ++ tagged input said.now) }
+{
+    out.reserve(said.len())?;
+    tag_all(said, input, out);
+    Ok(())
+}
+
+/// Whom a record is for that is led next.
+fn target_of(x: &Record, lead: &Lead) -> Target
+    ensures { result ≡ target_of x.now lead.now.directory }
+{
+    match *x {
+        Record::Listing { name, .. } => match lead.id(&name) {
+            Some(id) => Target::One(id),
+            None => Target::New(lead.names() as u16),
+        },
+        Record::Day { .. } | Record::Clock { .. } | Record::IndexTick { .. } => Target::Each,
+        Record::Trade { symbol, .. }
+        | Record::Cancel { symbol, .. }
+        | Record::Quote { symbol, .. }
+        | Record::Notice { symbol, .. }
+        | Record::Indication { symbol, .. } => Target::One(symbol),
+    }
+}
+
+/// Whether a day has begun, or the first of these records begins one.
+pub fn is_begun(xs: &[Record], lead: &Lead) -> bool
+    ensures { result ≡ is_begun xs.now lead.now.today }
+{
+    match xs.first() {
+        Some(x) => x.is_day() || lead.view().is_some(),
+        None => true,
+    }
+}
+
+/// Leads a record, and notes what symbols need to know of it. The list has the market's messages at this record alone.
+fn lead_one(lead: &mut Lead, x: &Record, said: &mut Vec<Stamped>) -> Result<Turn, NoMemory>
+    requires day { is_day x.now ≡ false → IsSome lead.old.today }
+    ensures turn { IfOk result (λ turn. Leads (note_of x.now turn) lead.old) }
+    ensures led { OnOk result (lead.new ≡ led x.now lead.old) }
+    ensures begun { OnOk result (IsSome lead.new.today) }
+    ensures said { OnOk result (said.new.items ≡ stamped (moment_of x.now) (rulings x.now lead.old.today)) }
+{
+    said.clear();
+    let target = target_of(x, lead);
+    let view = lead.lead(x, said)?;
+    Ok(Turn { view, target })
+}
+
+/// Adds a turn behind the others.
+fn push(turns: &mut Vec<Turn>, turn: Turn) -> Result<(), NoMemory>
+    ensures items { OnOk result (turns.new.items ≡ turns.old.items ++ turn ∷ []) }
+{
+    turns.reserve(1)?;
+    turns.push_reserved(turn);
+    Ok(())
+}
+
+/// Leads the records of a block, on a day that has begun or that the first of them begins: notes what symbols need to know of each,
+/// and what the market says at each.
+pub fn lead_all(
+    lead: &mut Lead,
+    xs: &[Record],
+    said: &mut Vec<Stamped>,
+    turns: &mut Vec<Turn>,
+    market: &mut Vec<Tagged>,
+) -> Result<(), NoMemory>
+    requires day { is_begun xs.now lead.old.today ≡ true }
+    requires few { length xs.now ≤ 65536 }
+    ensures leads { OnOk result (LeadsTo (noted xs.now turns.new.items) lead.old lead.new market.new.items) }
+    ensures count { OnOk result (length turns.new.items ≡ length xs.now) }
+{
+    turns.clear();
+    market.clear();
+    for input in 0..xs.len() {
+        let turn = lead_one(lead, &xs[input], said)?;
+        tag(said, input as u32, market)?;
+        push(turns, turn)?;
+    }
+    Ok(())
+}
