@@ -1,20 +1,22 @@
 -- A window represents one more call.
-use Rattle.std.proofs.Common.{◌≡◌, ℕ, ◌≤◌, List, [], ◌∷◌, filter, sym, ap, ◌∙◌, subst}
+use Rattle.std.proofs.Common.{◌≡◌, ◌≤◌, ℕ, List, [], ◌∷◌, ◌++◌, filter, sym, ap, ◌∙◌}
+use Rattle.std.proofs.lemmas.List.Elements.{filter-append}
+use Rattle.window_core.specs.declared.window.Deal.{Deal}
 use Rattle.window_core.specs.Deals.{live, stays}
-use Rattle.window_core.specs.Calls.{Call, Advance, Cancel, moment_in, deals_in}
+use Rattle.window_core.specs.Calls.{Call, Advance, Add, Cancel, moment_in, deals_in}
 use Rattle.window_core.specs.WindowState.{WindowState, Represents}
 use Rattle.window_core.proofs.Deals.{live-live, live-cancelled}
 
-pub represents-advanced : (held next : WindowState) (t : ℕ) (calls : List Call) → held.moment ≤ t → next.moment ≡ t → next.deals ≡ live t held.deals → Represents held calls
+pub represents-advanced : (held next : WindowState) (t : ℕ) (calls : List Call) → moment_in calls ≤ t → next.deals ≡ live t held.deals → Represents held calls
     → Represents next (Advance t ∷ calls)
-represents-advanced held next t calls later is items s = record {
-  moment = is;
-  deals = items ∙ ap (live t) s.deals ∙ live-live (moment_in calls) t (subst (λ (n : ℕ). n ≤ t) s.moment later) (deals_in [] calls);
+represents-advanced held next t calls later items s = record {
+  timely = (later, s.timely);
+  deals = items ∙ ap (live t) s.deals ∙ live-live (moment_in calls) t later (deals_in [] calls);
 }
 
-pub represents-cancelled : (held next : WindowState) (number : ℕ) (calls : List Call) → next.moment ≡ held.moment → next.deals ≡ filter (stays number) held.deals → Represents held calls
+pub represents-cancelled : (held next : WindowState) (number : ℕ) (calls : List Call) → next.deals ≡ filter (stays number) held.deals → Represents held calls
     → Represents next (Cancel number ∷ calls)
-represents-cancelled held next number calls is items s = record {
-  moment = is ∙ s.moment;
+represents-cancelled held next number calls items s = record {
+  timely = s.timely;
   deals = items ∙ ap (filter (stays number)) s.deals ∙ sym (live-cancelled (moment_in calls) number calls);
 }

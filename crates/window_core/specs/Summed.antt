@@ -1,13 +1,8 @@
--- Deals with the sum of their prices.
+-- Deals with the sum of their prices. Private words: no public clause cites them.
 use Rattle.std.specs.Prelude.{◌≡◌, ℕ, ◌≤◌, Bool, true, List, [], ◌∷◌, length}
 use Rattle.price_core.specs.Ranges.{IsPrice}
 use Rattle.window_core.specs.declared.window.Deal.{Deal}
 use Rattle.window_core.specs.Tallies.{Tallies}
-
--- the deals, and how many can be added before room is taken again
-pub record SummedState : Type 0 where
-  pub deals : List Deal
-  pub spare : ℕ
 
 -- none of the deals is before a moment
 abbrev pub AllFrom : ℕ → List Deal → Type 0

@@ -1,26 +1,22 @@
 -- What a window holds.
-use Rattle.std.specs.Prelude.{◌≡◌, ℕ, ◌≤◌, List, [], All}
-use Rattle.std.specs.List.Sorted.{IsNonDecreasingBy}
+use Rattle.std.specs.Prelude.{◌≡◌, ℕ, ◌≤◌, List, [], ◌∷◌}
 use Rattle.window_core.specs.declared.window.Deal.{Deal}
-use Rattle.window_core.specs.Calls.{Call, moment_in, window}
+use Rattle.window_core.specs.Calls.{Call, Advance, Add, Cancel, Restart, moment_in, window}
 
--- the moment, the deals, the oldest first, and how many can be added before room is taken again
+-- the deals, the oldest first, and how many can be added before room is taken again
 pub record WindowState : Type 0 where
-  pub moment : ℕ
   pub deals : List Deal
   pub spare : ℕ
 
--- nothing is held, and the moment is 0
-pub record IsEmpty (held : WindowState) : Type 0 where
-  pub moment : held.moment ≡ 0
-  pub deals : held.deals ≡ []
-
--- deals stand in the order of their moments, none of which is after t
-pub record IsOrdered (t : ℕ) (deals : List Deal) : Type 0 where
-  pub rises : IsNonDecreasingBy (λ d. d.moment) deals
-  pub past : All (λ d. d.moment ≤ t) deals
+-- no advance goes back, and each deal has the moment at which it was added
+abbrev pub AreTimely : List Call → Type 0
+AreTimely [] = Unit {0}
+AreTimely (Advance t ∷ earlier) = (moment_in earlier ≤ t) × AreTimely earlier
+AreTimely (Add d ∷ earlier) = (d.moment ≡ moment_in earlier) × AreTimely earlier
+AreTimely (Cancel number ∷ earlier) = AreTimely earlier
+AreTimely (Restart ∷ earlier) = AreTimely earlier
 
 -- a window represents the calls so far
 pub record Represents (held : WindowState) (calls : List Call) : Type 0 where
-  pub moment : held.moment ≡ moment_in calls
+  pub timely : AreTimely calls
   pub deals : held.deals ≡ window calls

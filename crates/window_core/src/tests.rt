@@ -1,4 +1,4 @@
-ghost use Rattle.std.specs.Prelude.{◌≡◌, ◌+◌, ◌≤◌, ◌<◌, IfOk, OnOk};
+ghost use Rattle.std.specs.Prelude.{◌≡◌, ◌+◌, ◌<◌, IfOk};
 
 use super::*;
 use price_core::Price;
@@ -18,10 +18,7 @@ fn price(units: u64) -> Result<Option<Price>, Fail> {
     Ok(Some(Price::new(units)?))
 }
 
-fn trade(window: &mut Window, t: Moment, number: u32, units: u64) -> Result<(), Fail>
-    requires { window.old.moment ≤ t }
-    ensures { OnOk result (window.new.moment ≡ t) }
-{
+fn trade(window: &mut Window, t: Moment, number: u32, units: u64) -> Result<(), Fail> {
     window.advance(t);
     window.reserve()?;
     window.add(Deal {
@@ -102,17 +99,32 @@ fn deal(nanos: u64, number: u32) -> Result<Deal, Fail>
 }
 
 #[test]
-fn after_a_clear_earlier_deals_are_in_order(rt: HostRuntime) -> Result<(), Fail> {
-    let mut deals = SummedDeals::new(rt.alloc())?;
-    deals.reserve(1)?;
-    deals.push(deal(600_000_000_000, 1)?);
-    deals.clear();
-    assert_eq!(rt; deals.live_until(), u64::MAX);
-    deals.reserve(1)?;
-    deals.push(deal(0, 1)?);
-    assert!(rt; deals.are_live(after(299_999_999_999)?));
-    assert!(rt; !deals.are_live(after(300_000_000_000)?));
-    assert_eq!(rt; deals.live_until(), 34_500_000_000_000);
+fn after_a_restart_earlier_deals_are_in_order(rt: HostRuntime) -> Result<(), Fail> {
+    let mut window = Window::new(rt.alloc())?;
+    window.reserve()?;
+    window.add(deal(600_000_000_000, 1)?);
+    window.restart();
+    assert_eq!(rt; window.live_until(), u64::MAX);
+    window.reserve()?;
+    window.add(deal(0, 1)?);
+    assert!(rt; window.are_live(after(299_999_999_999)?));
+    assert!(rt; !window.are_live(after(300_000_000_000)?));
+    assert_eq!(rt; window.live_until(), 34_500_000_000_000);
+    Ok(())
+}
+
+#[test]
+fn deals_out_of_order_leave_when_they_are_five_minutes_old(rt: HostRuntime) -> Result<(), Fail> {
+    let mut window = Window::new(rt.alloc())?;
+    for (nanos, number) in [(60_000_000_000, 1), (0, 2)] {
+        window.reserve()?;
+        window.add(deal(nanos, number)?);
+    }
+    assert!(rt; !window.are_live(after(60_000_000_000)?));
+    window.advance(after(300_000_000_000)?);
+    assert_eq!(rt; window.oldest(), Some(after(60_000_000_000)?));
+    window.advance(after(360_000_000_000)?);
+    assert_eq!(rt; window.oldest(), None);
     Ok(())
 }
 

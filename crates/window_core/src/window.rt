@@ -1,14 +1,17 @@
-ghost use Rattle.std.specs.Prelude.{◌≡◌, ◌==◌, ◌+◌, ◌*◌, ◌≤◌, ◌<◌, ◌++◌, ◌∷◌, ◌^◌, [], false, None, Some, List, OnOk, IfOk, IsOk, filter, if◌then◌else◌, length, option_map, option_to_list, slice_get, sum_by, vec_len, vec_capacity};
+ghost use Rattle.std.specs.Prelude.{◌≡◌, ℕ, true, false, ◌+◌, ◌≤◌, ◌<◌, ◌++◌, ◌∷◌, [], List, IsOk, IfOk, OnOk, filter, option_map, option_to_list, slice_get};
 ghost use Rattle.std.specs.Option.{option_map_or};
 ghost use Rattle.price_core.specs.Moves.{moved_one_percent};
-ghost use Rattle.price_core.specs.Rounding.{mean};
-ghost use Rattle.window_core.specs.Deals.{is_live, live, stays, mean_of, least_moment};
-ghost use Rattle.window_core.specs.Calls.{Call, Advance, Add, Cancel, Restart, window};
+ghost use Rattle.window_core.specs.Calls.{Call, Advance, Add, Cancel, Restart, moment_in, window};
+ghost use Rattle.window_core.specs.Deals.{is_live, is_numbered, least_moment, live, mean_of, stays};
+ghost use Rattle.window_core.specs.Tallies.{Tallies};
+ghost use Rattle.window_core.specs.WindowState.{Represents};
 
-use crate::summed::SummedDeals;
-use price_core::{NoMemory, Price, mean};
+use crate::queue::{first, keep_live, later, push_deal, remove, stays_ordered, total_of};
+use crate::tally::Tally;
+use price_core::{NoMemory, Price};
 use session_core::{FIVE_MINUTES, Moment, midnight};
 use std::alloc::Global;
+use std::collections::VecDeque;
 use std::marker::Model;
 
 /// A trade that counts for the mean: its moment, its number, by which it can be cancelled, and its price in
@@ -21,8 +24,6 @@ pub struct Deal {
 }
 
 impl Deal {
-    ghost use Rattle.window_core.specs.Deals.{is_live};
-
     /// Whether the deal is less than five minutes old.
     pub(crate) fn is_live(&self, t: Moment) -> bool
         ensures { result ≡ is_live t self.now }
@@ -31,224 +32,249 @@ impl Deal {
     }
 }
 
-/// The sum of the prices of deals, and their number.
-#[derive(Clone, Copy, Debug)]
-pub(crate) struct Tally {
-    pub(crate) sum: u128,
-    pub(crate) count: u64,
-}
-
-impl Tally {
-    ghost use Rattle.window_core.specs.Deals.{is_numbered, live};
-    ghost use Rattle.window_core.specs.Tallies.{Tallies};
-
-    /// Of the deals that are less than five minutes old.
-    pub(crate) fn of(t: Moment, deals: &[Deal]) -> Tally
-        ensures tallies { Tallies result.sum result.count (live t deals.now) }
-        ensures few { result.count ≤ length deals.now }
-    {
-        let mut sum: u128 = 0;
-        let mut count: u64 = 0;
-        for deal in deals {
-            if deal.is_live(t) {
-                sum += u128::from(deal.price.units());
-                count += 1;
-            }
-        }
-        Tally { sum, count }
-    }
-
-    /// Of one deal, where there is one and it is less than five minutes old.
-    pub(crate) fn of_one(t: Moment, deal: &Option<Deal>) -> Tally
-        ensures tallies { Tallies result.sum result.count (live t (option_to_list deal.now)) }
-        ensures few { result.count ≤ 1 }
-    {
-        match deal {
-            Some(deal) if deal.is_live(t) => Tally {
-                sum: u128::from(deal.price.units()),
-                count: 1,
-            },
-            _ => Tally { sum: 0, count: 0 },
-        }
-    }
-
-    /// Of the deals of a number.
-    pub(crate) fn of_number(number: u32, deals: &[Deal]) -> Tally
-        ensures tallies { Tallies result.sum result.count (filter (is_numbered number) deals.now) }
-        ensures few { result.count ≤ length deals.now }
-    {
-        let mut sum: u128 = 0;
-        let mut count: u64 = 0;
-        for deal in deals {
-            if deal.number == number {
-                sum += u128::from(deal.price.units());
-                count += 1;
-            }
-        }
-        Tally { sum, count }
-    }
-
-    /// The sum and the number of both.
-    pub(crate) fn and(&self, other: &Tally) -> Tally
-        requires sum { self.now.sum + other.now.sum < 2 ^ 128 }
-        requires count { self.now.count + other.now.count < 2 ^ 64 }
-        ensures sum { result.sum ≡ self.now.sum + other.now.sum }
-        ensures count { result.count ≡ self.now.count + other.now.count }
-    {
-        Tally {
-            sum: self.sum + other.sum,
-            count: self.count + other.count,
-        }
-    }
-
-    pub(crate) fn mean(&self) -> Option<Price>
-        requires least { self.now.count ≤ self.now.sum }
-        requires most { self.now.sum ≤ 99999999999 * self.now.count }
-        ensures { result ≡ (if self.now.count == 0 then None else Some (mean self.now.sum self.now.count)) }
-    {
-        if self.count == 0 {
-            return None;
-        }
-        Some(mean(self.sum, self.count))
-    }
-
-    /// Whether the mean is at least one per cent away from a reference price (LULD Plan, Section V). It compares sums,
-    /// since a division by the number of deals is slow.
-    pub(crate) fn has_moved(&self, reference: Price) -> bool
-        requires least { self.now.count ≤ self.now.sum }
-        requires most { self.now.sum ≤ 99999999999 * self.now.count }
-        ensures { result ≡ option_map_or (λ m. moved_one_percent m reference) (if self.now.count == 0 then None else Some (mean self.now.sum self.now.count)) false }
-    {
-        if self.count == 0 {
-            return false;
-        }
-        let price = reference.units();
-        let hundredth = (price + 99) / 100;
-        let sum = 2 * self.sum + u128::from(self.count);
-        doubled(price + hundredth, self.count) <= sum
-            || sum < doubled(price - hundredth + 1, self.count)
-    }
-}
-
-/// Twice the sum of so many equal prices.
-fn doubled(price: u64, count: u64) -> u128
-    requires { price < 2 ^ 40 }
-    ensures { result ≡ price * (2 * count) }
-{
-    u128::from(price) * (2 * u128::from(count))
-}
-
-/// The mean of the prices of these deals and one more that are less than five minutes old, in ten-thousandths of a dollar,
-/// rounded half up; None exactly where there are none (LULD Plan, Section V).
-pub fn live_mean(t: Moment, deals: &[Deal], last: &Option<Deal>) -> Option<Price>
-    ensures { result ≡ mean_of (live t (deals.now ++ option_to_list last.now)) }
-{
-    let earlier = Tally::of(t, deals);
-    let last = Tally::of_one(t, last);
-    earlier.and(&last).mean()
-}
-
-/// The deals of the last five minutes (LULD Plan, Section V).
+/// The deals of the last five minutes (LULD Plan, Section V), and beside them the sum of their prices, a moment that none of
+/// them is after, and whether they are known to be in order.
 #[derive(Debug, Drop)]
 pub struct Window {
-    moment: Moment,
-    deals: SummedDeals,
+    items: VecDeque<Deal>,
+    sum: u128,
+    newest: Moment,
+    is_ordered: bool,
 }
 
 impl Model for Window {
-    ghost use Rattle.window_core.specs.WindowState.{WindowState, IsOrdered};
+    ghost use Rattle.std.specs.Prelude.{◌-◌};
+    ghost use Rattle.std.specs.VecDeque.{deque_len, deque_capacity};
+    ghost use Rattle.window_core.specs.WindowState.{WindowState};
+    ghost use Rattle.window_core.specs.Summed.{IsSummed};
 
     ghost Value = { WindowState };
 
-    ghost view = { λ w. record { moment = w.moment; deals = w.deals.deals; spare = w.deals.spare } };
+    ghost view = { λ w. record { deals = w.items.items; spare = deque_capacity w.items - deque_len w.items } };
 
-    ghost invariant = { λ w. IsOrdered w.moment w.deals.deals };
+    ghost invariant = { λ w. IsSummed w.sum w.newest w.is_ordered w.items.items };
 }
 
 impl Window {
-    ghost use Rattle.window_core.specs.WindowState.{IsEmpty, Represents};
-
-    /// A window without deals, at moment 0.
+    /// A window without deals. It takes no memory yet.
     pub fn new(alloc: Global) -> Result<Window, NoMemory>
-        ensures empty { IfOk result IsEmpty }
+        ensures succeeds { IsOk result }
+        ensures empty { IfOk result (λ w. w.deals ≡ []) }
         ensures stands { IfOk result (λ w. Represents w []) }
     {
         Ok(Window {
-            moment: midnight(),
-            deals: SummedDeals::new(alloc)?,
+            items: VecDeque::new(alloc),
+            sum: 0,
+            newest: midnight(),
+            is_ordered: true,
         })
-    }
-
-    /// Takes a later moment. Deals that are five minutes old leave.
-    pub fn advance(&mut self, t: Moment)
-        requires { self.old.moment ≤ t }
-        ensures moment { self.new.moment ≡ t }
-        ensures deals { self.new.deals ≡ live t self.old.deals }
-        ensures spare { self.old.spare ≤ self.new.spare }
-        ensures stands { (calls : List Call) → Represents self.old calls → Represents self.new (Advance t ∷ calls) }
-    {
-        self.moment = t;
-        self.deals.keep_live(t);
     }
 
     /// Takes room for one more deal. An error leaves the window as it was.
     pub fn reserve(&mut self) -> Result<(), NoMemory>
         ensures ok { OnOk result (1 ≤ self.new.spare) }
         ensures succeeds { 1 ≤ self.old.spare → IsOk result }
-        ensures moment { self.new.moment ≡ self.old.moment }
         ensures deals { self.new.deals ≡ self.old.deals }
         ensures spare { self.old.spare ≤ self.new.spare }
         ensures stands { (calls : List Call) → Represents self.old calls → Represents self.new calls }
     {
-        self.deals.reserve(1)
+        match self.items.reserve(1) {
+            Ok(()) => Ok(()),
+            Err(_) => Err(NoMemory),
+        }
     }
 
-    /// Adds a deal of the window's moment, in room that was taken before.
+    /// Adds a deal, in room that was taken before.
     pub fn add(&mut self, d: Deal)
-        requires spare { 1 ≤ self.old.spare }
-        requires now { d.moment ≡ self.old.moment }
-        ensures moment { self.new.moment ≡ self.old.moment }
+        requires { 1 ≤ self.old.spare }
         ensures deals { self.new.deals ≡ self.old.deals ++ d ∷ [] }
         ensures spare { self.old.spare ≤ self.new.spare + 1 }
-        ensures stands { (calls : List Call) → Represents self.old calls → Represents self.new (Add d ∷ calls) }
+        ensures stands { (calls : List Call) → d.moment ≡ moment_in calls → Represents self.old calls → Represents self.new (Add d ∷ calls) }
     {
-        self.deals.push(d);
+        self.sum += u128::from(d.price.units());
+        self.is_ordered = stays_ordered(self.is_ordered, self.newest, &d);
+        self.newest = later(self.newest, d.moment);
+        push_deal(d, &mut self.items);
     }
 
-    /// Removes each deal of that number.
+    /// Whether each deal is known to be less than five minutes old: the first of them is, and they are in order. It takes
+    /// two comparisons, however many deals there are.
+    pub fn are_live(&self, t: Moment) -> bool
+        ensures { result ≡ true → live t self.now.deals ≡ self.now.deals }
+    {
+        if !self.is_ordered {
+            return false;
+        }
+        match first(&self.items) {
+            Some(deal) => deal.is_live(t),
+            None => true,
+        }
+    }
+
+    /// Until when each deal is known to be less than five minutes old, in nanoseconds of the day: by the first of them, where
+    /// they are in order; there is no end without deals.
+    pub fn live_until(&self) -> u64
+        ensures { (u : ℕ) → u < result → live u self.now.deals ≡ self.now.deals }
+    {
+        if !self.is_ordered {
+            return 0;
+        }
+        match first(&self.items) {
+            Some(deal) => deal.moment.nanos() + FIVE_MINUTES,
+            None => u64::MAX,
+        }
+    }
+
+    /// Removes the first deal where it is five minutes old, and says whether it did.
+    fn drop_first(&mut self, t: Moment) -> bool
+        ensures live { live t self.new.deals ≡ live t self.old.deals }
+        ensures spare { self.old.spare ≤ self.new.spare }
+    {
+        match first(&self.items) {
+            Some(deal) if !deal.is_live(t) => {
+                self.sum -= u128::from(deal.price.units());
+                let _ = self.items.pop_front();
+                true
+            }
+            _ => false,
+        }
+    }
+
+    /// Looks at each deal, and removes those that are five minutes old.
+    fn keep_live_of_all(&mut self, t: Moment)
+        ensures deals { self.new.deals ≡ live t self.old.deals }
+        ensures spare { self.old.spare ≤ self.new.spare }
+    {
+        keep_live(t, &mut self.items);
+        self.sum = total_of(&self.items);
+    }
+
+    /// Takes a later moment: deals that are five minutes old leave. While deals are in order it looks at those and one more,
+    /// however many there are.
+    pub fn advance(&mut self, t: Moment)
+        ensures deals { self.new.deals ≡ live t self.old.deals }
+        ensures spare { self.old.spare ≤ self.new.spare }
+        ensures stands { (calls : List Call) → moment_in calls ≤ t → Represents self.old calls → Represents self.new (Advance t ∷ calls) }
+    {
+        if self.are_live(t) {
+            return;
+        }
+        for _ in 0..self.items.len() {
+            if !self.drop_first(t) {
+                break;
+            }
+        }
+        if !self.are_live(t) {
+            self.keep_live_of_all(t);
+        }
+    }
+
+    fn tally_number(&self, number: u32) -> Tally
+        ensures tallies { Tallies result.sum result.count (filter (is_numbered number) self.now.deals) }
+    {
+        let (front, back) = self.items.as_slices();
+        Tally::of_number(number, front).and(&Tally::of_number(number, back))
+    }
+
+    /// Removes each deal of a number. It moves deals only where there is one of them.
     pub fn cancel(&mut self, number: u32)
-        ensures moment { self.new.moment ≡ self.old.moment }
         ensures deals { self.new.deals ≡ filter (stays number) self.old.deals }
         ensures spare { self.old.spare ≤ self.new.spare }
         ensures stands { (calls : List Call) → Represents self.old calls → Represents self.new (Cancel number ∷ calls) }
     {
-        self.deals.remove(number);
+        let removed = self.tally_number(number);
+        if removed.count == 0 {
+            return;
+        }
+        remove(number, &mut self.items);
+        self.sum -= removed.sum;
     }
 
-    /// Removes all deals and goes back to moment 0, so that a new run or a new day can begin.
+    /// Removes all deals, so that a new run or a new day can begin.
     pub fn restart(&mut self)
-        ensures empty { IsEmpty self.new }
+        ensures deals { self.new.deals ≡ [] }
         ensures spare { self.old.spare ≤ self.new.spare }
         ensures stands { (calls : List Call) → Represents self.old calls → Represents self.new (Restart ∷ calls) }
     {
-        self.deals.clear();
-        self.moment = midnight();
+        self.items.clear();
+        self.sum = 0;
+        self.newest = midnight();
+        self.is_ordered = true;
     }
 
-    /// The mean of the prices in ten-thousandths of a dollar, rounded half up; None exactly where no deal is less than
-    /// five minutes old (LULD Plan, Section V).
+    /// The moment of the first deal, which is the least moment of those that the mean counts. None exactly where the mean is
+    /// None.
+    pub fn oldest(&self) -> Option<Moment>
+        ensures value { result ≡ option_map (λ d. d.moment) (slice_get self.now.deals 0) }
+        ensures answer { (calls : List Call) → Represents self.now calls → result ≡ least_moment (window calls) }
+    {
+        first(&self.items).map(|deal| deal.moment)
+    }
+
+    fn tally(&self) -> Tally
+        ensures tallies { Tallies result.sum result.count self.now.deals }
+        ensures few { result.count < 18446744073709551615 }
+    {
+        Tally {
+            sum: self.sum,
+            count: self.items.len() as u64,
+        }
+    }
+
+    /// Looks at each deal.
+    fn tally_each(&self, t: Moment) -> Tally
+        ensures tallies { Tallies result.sum result.count (live t self.now.deals) }
+        ensures few { result.count < 18446744073709551615 }
+    {
+        let (front, back) = self.items.as_slices();
+        Tally::of(t, front).and(&Tally::of(t, back))
+    }
+
+    fn tally_live(&self, t: Moment) -> Tally
+        ensures tallies { Tallies result.sum result.count (live t self.now.deals) }
+        ensures few { result.count < 18446744073709551615 }
+    {
+        if self.are_live(t) {
+            self.tally()
+        } else {
+            self.tally_each(t)
+        }
+    }
+
+    /// The mean of the prices in ten-thousandths of a dollar, rounded half up; None exactly where there are no deals
+    /// (LULD Plan, Section V).
     pub fn mean(&self) -> Option<Price>
         ensures value { result ≡ mean_of self.now.deals }
         ensures answer { (calls : List Call) → Represents self.now calls → result ≡ mean_of (window calls) }
     {
-        self.deals.mean()
+        self.tally().mean()
     }
 
-    /// The least moment of the deals that the mean counts, None exactly where the mean is None.
-    pub fn oldest(&self) -> Option<Moment>
-        ensures value { result ≡ least_moment self.now.deals }
-        ensures answer { (calls : List Call) → Represents self.now calls → result ≡ least_moment (window calls) }
+    /// The mean of the prices of these deals and one more that are less than five minutes old, in ten-thousandths of a
+    /// dollar, rounded half up; None exactly where there are none (LULD Plan, Section V). While no deal is five minutes
+    /// old, it takes a few comparisons, however many deals there are.
+    pub fn mean_with(&self, t: Moment, last: &Option<Deal>) -> Option<Price>
+        ensures { result ≡ mean_of (live t (self.now.deals ++ option_to_list last.now)) }
     {
-        self.deals.first_moment()
+        let earlier = self.tally_live(t);
+        let last = Tally::of_one(t, last);
+        earlier.and(&last).mean()
+    }
+
+    /// Whether the mean of the prices is at least one per cent away from a reference price (LULD Plan, Section V); it is
+    /// not where there are no deals.
+    pub fn mean_has_moved(&self, reference: Price) -> bool
+        ensures { result ≡ option_map_or (λ m. moved_one_percent m reference) (mean_of self.now.deals) false }
+    {
+        self.tally().has_moved(reference)
+    }
+
+    /// The same of these deals and one more that are less than five minutes old.
+    pub fn mean_has_moved_with(&self, t: Moment, last: &Option<Deal>, reference: Price) -> bool
+        ensures { result ≡ option_map_or (λ m. moved_one_percent m reference) (mean_of (live t (self.now.deals ++ option_to_list last.now))) false }
+    {
+        let earlier = self.tally_live(t);
+        let last = Tally::of_one(t, last);
+        earlier.and(&last).has_moved(reference)
     }
 }

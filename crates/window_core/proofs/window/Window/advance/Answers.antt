@@ -1,14 +1,21 @@
-use Rattle.std.proofs.Common.{◌≤◌, refl, sym, ap, ◌∙◌, subst}
-use Rattle.window_core.specs.Deals.{is_live, live}
-use Rattle.window_core.specs.WindowState.{WindowState}
-use Rattle.window_core.proofs.Order.{IsOrdered-filter}
+use Rattle.std.proofs.Common.{rules, sym}
 use Rattle.window_core.proofs.RepresentsCalls.{represents-advanced}
 use Rattle.window_core.proofs.window.Window.advance.Goals as goal
 
-pub invariant_of-self : goal.invariant_of-self
-invariant_of-self c =
-    rw c.keep_live.ensures.deals (IsOrdered-filter _ c.args.t (is_live c.args.t) _ (subst (λ (held : WindowState). held.moment ≤ c.args.t) (sym c.self.view_is) c.requires) c.self.invariant)
+pub returns-then-are_live-clause-stands : goal.returns-then-are_live-clause-stands
+returns-then-are_live-clause-stands c = λ calls later stands.
+    represents-advanced c.args.self.now c.args.self.now c.args.t calls later (sym (c.are_live.ensures c.if-are_live.true)) stands
 
-pub returns-clause-stands : goal.returns-clause-stands
-returns-clause-stands c = λ calls stands.
-    represents-advanced c.args.self.now _ c.args.t calls c.requires refl (c.keep_live.ensures.deals ∙ ap (λ (held : WindowState). live c.args.t held.deals) c.self.view_is) stands
+pub returns-then-not-are_live-clause-deals : goal.returns-then-not-are_live-clause-deals
+returns-then-not-are_live-clause-deals c = search rules
+
+pub returns-then-not-are_live-clause-stands : goal.returns-then-not-are_live-clause-stands
+returns-then-not-are_live-clause-stands c = λ calls later stands.
+    represents-advanced c.args.self.now _ c.args.t calls later (returns-then-not-are_live-clause-deals c) stands
+
+pub returns-else-not-are_live-clause-deals : goal.returns-else-not-are_live-clause-deals
+returns-else-not-are_live-clause-deals c = search rules
+
+pub returns-else-not-are_live-clause-stands : goal.returns-else-not-are_live-clause-stands
+returns-else-not-are_live-clause-stands c = λ calls later stands.
+    represents-advanced c.args.self.now _ c.args.t calls later (returns-else-not-are_live-clause-deals c) stands

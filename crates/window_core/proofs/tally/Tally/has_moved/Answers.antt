@@ -1,7 +1,7 @@
 use Rattle.std.proofs.Common.{◌+◌, ◌*◌, ◌∙◌, arith}
 use Rattle.std.specs.Prelude.{◌-◌, ◌/◌, ◌||◌, nat_le, nat_lt}
 use Rattle.window_core.proofs.Moves.{has_moved-gives, or_first, or_second}
-use Rattle.window_core.proofs.window.Tally.has_moved.Goals as goal
+use Rattle.window_core.proofs.tally.Tally.has_moved.Goals as goal
 
 pub returns-then-doubled-sum : goal.returns-then-doubled-sum
 returns-then-doubled-sum c =

@@ -1,7 +1,7 @@
 use Rattle.std.proofs.Common.{subst, ◌∙◌}
 use Rattle.price_core.specs.Ranges.{IsPrice}
 use Rattle.window_core.proofs.Sums.{summed_push}
-use Rattle.window_core.proofs.summed.SummedDeals.push.Goals as goal
+use Rattle.window_core.proofs.window.Window.add.Goals as goal
 
 pub invariant_of-self : goal.invariant_of-self
 invariant_of-self c =

@@ -1,6 +1,6 @@
 use Rattle.std.proofs.Common.{◌≤◌, ℕ, sym, subst, ◌∙◌}
 use Rattle.window_core.proofs.Sums.{first_priced, summed_rest}
-use Rattle.window_core.proofs.summed.SummedDeals.drop_first.Goals as goal
+use Rattle.window_core.proofs.window.Window.drop_first.Goals as goal
 
 pub overflow_sub-self : goal.overflow_sub-self
 overflow_sub-self c =

@@ -1,6 +1,6 @@
 use Rattle.window_core.specs.Deals.{is_live}
 use Rattle.window_core.proofs.Sums.{summed_some}
-use Rattle.window_core.proofs.summed.SummedDeals.keep_live_of_all.Goals as goal
+use Rattle.window_core.proofs.window.Window.keep_live_of_all.Goals as goal
 
 pub invariant_of-self : goal.invariant_of-self
 invariant_of-self c =

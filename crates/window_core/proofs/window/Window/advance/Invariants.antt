@@ -1,6 +1,6 @@
 use Rattle.std.proofs.Common.{◌≡◌, ◌≤◌}
 use Rattle.window_core.specs.Deals.{live}
-use Rattle.window_core.proofs.summed.SummedDeals.keep_live.Given as goal
+use Rattle.window_core.proofs.window.Window.advance.Given as goal
 
 -- those that were removed were five minutes old
 abbrev pub invariant-loop : goal.invariant-loop

@@ -1,5 +1,5 @@
 use Rattle.std.proofs.Common.{◌≡◌, ◌*◌, ◌≤◌, take, sum_by}
-use Rattle.window_core.proofs.summed.total.Given as goal
+use Rattle.window_core.proofs.queue.total.Given as goal
 
 abbrev pub invariant-loop-deal : goal.invariant-loop-deal
 invariant-loop-deal l =

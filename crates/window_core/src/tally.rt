@@ -1,0 +1,124 @@
+ghost use Rattle.std.specs.Prelude.{◌≡◌, ◌==◌, ◌+◌, ◌*◌, ◌≤◌, ◌<◌, ◌++◌, ◌^◌, None, Some, false, filter, if◌then◌else◌, length, option_to_list};
+ghost use Rattle.std.specs.Option.{option_map_or};
+ghost use Rattle.price_core.specs.Moves.{moved_one_percent};
+ghost use Rattle.price_core.specs.Rounding.{mean};
+ghost use Rattle.window_core.specs.Deals.{is_numbered, live, mean_of};
+ghost use Rattle.window_core.specs.Tallies.{Tallies};
+
+use crate::window::Deal;
+use price_core::{Price, mean};
+use session_core::Moment;
+
+/// The sum of the prices of deals, and their number.
+#[derive(Clone, Copy, Debug)]
+pub(crate) struct Tally {
+    pub(crate) sum: u128,
+    pub(crate) count: u64,
+}
+
+impl Tally {
+    /// Of the deals that are less than five minutes old.
+    pub(crate) fn of(t: Moment, deals: &[Deal]) -> Tally
+        ensures tallies { Tallies result.sum result.count (live t deals.now) }
+        ensures few { result.count ≤ length deals.now }
+    {
+        let mut sum: u128 = 0;
+        let mut count: u64 = 0;
+        for deal in deals {
+            if deal.is_live(t) {
+                sum += u128::from(deal.price.units());
+                count += 1;
+            }
+        }
+        Tally { sum, count }
+    }
+
+    /// Of one deal, where there is one and it is less than five minutes old.
+    pub(crate) fn of_one(t: Moment, deal: &Option<Deal>) -> Tally
+        ensures tallies { Tallies result.sum result.count (live t (option_to_list deal.now)) }
+        ensures few { result.count ≤ 1 }
+    {
+        match deal {
+            Some(deal) if deal.is_live(t) => Tally {
+                sum: u128::from(deal.price.units()),
+                count: 1,
+            },
+            _ => Tally { sum: 0, count: 0 },
+        }
+    }
+
+    /// Of the deals of a number.
+    pub(crate) fn of_number(number: u32, deals: &[Deal]) -> Tally
+        ensures tallies { Tallies result.sum result.count (filter (is_numbered number) deals.now) }
+        ensures few { result.count ≤ length deals.now }
+    {
+        let mut sum: u128 = 0;
+        let mut count: u64 = 0;
+        for deal in deals {
+            if deal.number == number {
+                sum += u128::from(deal.price.units());
+                count += 1;
+            }
+        }
+        Tally { sum, count }
+    }
+
+    /// The sum and the number of both.
+    pub(crate) fn and(&self, other: &Tally) -> Tally
+        requires sum { self.now.sum + other.now.sum < 2 ^ 128 }
+        requires count { self.now.count + other.now.count < 2 ^ 64 }
+        ensures sum { result.sum ≡ self.now.sum + other.now.sum }
+        ensures count { result.count ≡ self.now.count + other.now.count }
+    {
+        Tally {
+            sum: self.sum + other.sum,
+            count: self.count + other.count,
+        }
+    }
+
+    pub(crate) fn mean(&self) -> Option<Price>
+        requires least { self.now.count ≤ self.now.sum }
+        requires most { self.now.sum ≤ 99999999999 * self.now.count }
+        ensures { result ≡ (if self.now.count == 0 then None else Some (mean self.now.sum self.now.count)) }
+    {
+        if self.count == 0 {
+            return None;
+        }
+        Some(mean(self.sum, self.count))
+    }
+
+    /// Whether the mean is at least one per cent away from a reference price (LULD Plan, Section V). It compares sums,
+    /// since a division by the number of deals is slow.
+    pub(crate) fn has_moved(&self, reference: Price) -> bool
+        requires least { self.now.count ≤ self.now.sum }
+        requires most { self.now.sum ≤ 99999999999 * self.now.count }
+        ensures { result ≡ option_map_or (λ m. moved_one_percent m reference) (if self.now.count == 0 then None else Some (mean self.now.sum self.now.count)) false }
+    {
+        if self.count == 0 {
+            return false;
+        }
+        let price = reference.units();
+        let hundredth = (price + 99) / 100;
+        let sum = 2 * self.sum + u128::from(self.count);
+        doubled(price + hundredth, self.count) <= sum
+            || sum < doubled(price - hundredth + 1, self.count)
+    }
+}
+
+/// Twice the sum of so many equal prices.
+fn doubled(price: u64, count: u64) -> u128
+    requires { price < 2 ^ 40 }
+    ensures { result ≡ price * (2 * count) }
+{
+    u128::from(price) * (2 * u128::from(count))
+}
+
+/// The mean of the prices of these deals and one more that are less than five minutes old, in ten-thousandths of a dollar,
+/// rounded half up; None exactly where there are none (LULD Plan, Section V).
+pub fn live_mean(t: Moment, deals: &[Deal], last: &Option<Deal>) -> Option<Price>
+    ensures { result ≡ mean_of (live t (deals.now ++ option_to_list last.now)) }
+{
+    let earlier = Tally::of(t, deals);
+    let last = Tally::of_one(t, last);
+    earlier.and(&last).mean()
+}
