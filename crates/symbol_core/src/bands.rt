@@ -21,7 +21,7 @@ use price_core::{Bands, Cause, Price, moved_one_percent};
 use refprice_core::{Adoption, Priced, because, forced, is_in_opening_period};
 use rulebook::{Banded, Terms};
 use session_core::{Day, Moment};
-use window_core::{SummedDeals, live_mean};
+use window_core::{Window, live_mean};
 use wire_out::Message;
 
 /// The bands that a reference price gives at a moment of the day.
@@ -41,7 +41,7 @@ fn differs(a: &Bands, b: &Bands) -> bool
 
 impl Kept {
     /// The mean of the window, with the open step's own deal.
-    fn mean(&self, t: Moment, deals: &SummedDeals) -> Option<Price>
+    fn mean(&self, t: Moment, deals: &Window) -> Option<Price>
         ensures { result ≡ mean_of (live t (window self.now deals.now.deals)) }
     {
         let last = if self.begun.is_some() {
@@ -91,7 +91,7 @@ impl Kept {
         }
     }
 
-    fn first_price(&self, step: &Step, deals: &SummedDeals) -> Option<Price>
+    fn first_price(&self, step: &Step, deals: &Window) -> Option<Price>
         ensures { result ≡ pricing.first_price self.now step.now (mean_of (live step.now.moment (window self.now deals.now.deals))) }
     {
         if self.released.is_some() {
@@ -115,7 +115,7 @@ impl Kept {
     }
 
     /// Whether the mean of the window, with the open step's own deal, is at least one per cent away from a reference price.
-    fn mean_has_moved(&self, t: Moment, deals: &SummedDeals, reference: Price) -> bool
+    fn mean_has_moved(&self, t: Moment, deals: &Window, reference: Price) -> bool
         ensures { result ≡ option_map_or (λ m. moved_one_percent m reference) (mean_of (live t (window self.now deals.now.deals))) false }
     {
         let last = if self.begun.is_some() {
@@ -133,7 +133,7 @@ impl Kept {
         }
     }
 
-    fn moved_price(&self, step: &Step, deals: &SummedDeals, b: &Banded) -> Option<Price>
+    fn moved_price(&self, step: &Step, deals: &Window, b: &Banded) -> Option<Price>
         ensures { result ≡ prices.moved_price (pricing.adoption self.now b.now) step.now.moment (mean_of (live step.now.moment (window self.now deals.now.deals))) }
     {
         let adoption = self.adoption(b);
@@ -148,7 +148,7 @@ impl Kept {
 }
 
 impl Kept {
-    fn later_price(&self, step: &Step, deals: &SummedDeals) -> Option<Priced>
+    fn later_price(&self, step: &Step, deals: &Window) -> Option<Priced>
         ensures { result ≡ pricing.later_price self.now step.now (mean_of (live step.now.moment (window self.now deals.now.deals))) self.now.band }
     {
         match self.band {
@@ -158,7 +158,7 @@ impl Kept {
     }
 
     /// A new reference price, where there is one.
-    pub fn reference(&self, step: &Step, deals: &SummedDeals) -> Option<Priced>
+    pub fn reference(&self, step: &Step, deals: &Window) -> Option<Priced>
         ensures { result ≡ pricing.reference self.now step.now (mean_of (live step.now.moment (window self.now deals.now.deals))) }
     {
         if !is_trading(self.phase) {
@@ -217,7 +217,7 @@ impl Kept {
         }
     }
 
-    fn banding(&mut self, step: &Step, deals: &SummedDeals, out: &mut Vec<Message>)
+    fn banding(&mut self, step: &Step, deals: &Window, out: &mut Vec<Message>)
         requires { vec_len out.old + 1 ≤ vec_capacity out.old }
         ensures says { Says (pricing.banding (mean_of (live step.now.moment (window self.old deals.now.deals))) self.old step.now) step.now self.old self.new out.old.items out.new.items }
         ensures room { vec_capacity out.old ≤ vec_capacity out.new }
@@ -230,7 +230,7 @@ impl Kept {
     }
 
     /// Bands, with a new reference price or where the time of day changes them.
-    pub fn publish_band(&mut self, step: &Step, deals: &SummedDeals, out: &mut Vec<Message>)
+    pub fn publish_band(&mut self, step: &Step, deals: &Window, out: &mut Vec<Message>)
         requires goes_on { is_done self.old.phase ≡ false }
         requires room { vec_len out.old + 1 ≤ vec_capacity out.old }
         ensures obeys { ObeysWith deals.now.deals rules.publish_band step.now self.old self.new out.old.items out.new.items }

@@ -4,12 +4,12 @@ ghost use Rattle.symbol_core.specs.Stands.{ObeysAll};
 
 use crate::kept::{Kept, Step};
 use pause_core::is_done;
-use window_core::SummedDeals;
+use window_core::Window;
 use wire_out::Message;
 
 impl Kept {
     /// The rules of the symbol, in order. The others read that it isn't closed, which those that turn its phase tell.
-    pub fn obey(&mut self, step: &Step, deals: &SummedDeals, out: &mut Vec<Message>)
+    pub fn obey(&mut self, step: &Step, deals: &Window, out: &mut Vec<Message>)
         requires { vec_len out.old + 13 ≤ vec_capacity out.old }
         ensures obeys { ObeysAll deals.now.deals symbol_rules step.now self.old self.new out.old.items out.new.items }
         ensures room { vec_capacity out.old ≤ vec_capacity out.new }

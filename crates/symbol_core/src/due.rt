@@ -27,7 +27,7 @@ use session_core::{
     Day, END_OF_FIRST_15_MINUTES, FIFTEEN_SECONDS, FIVE_MINUTES, Moment, Phase, SESSION_OPEN,
     THIRTY_SECONDS, TWENTY_FIVE_MINUTES, close_moment,
 };
-use window_core::SummedDeals;
+use window_core::Window;
 
 /// From when on and until when ticks of one market bring a stock nothing.
 #[derive(Clone, Copy, Debug)]
@@ -257,7 +257,7 @@ impl Kept {
     }
 
     /// With bands: 30 seconds after the last reference price, and then where a deal leaves the mean.
-    fn moves_from(&self, t: Moment, last: &Banded, deals: &SummedDeals) -> u64
+    fn moves_from(&self, t: Moment, last: &Banded, deals: &Window) -> u64
         ensures { IsRested self.now → self.now.band ≡ Some last.now → PricesFrom self.now deals.now.deals t result }
     {
         let adoption = self.adoption(last);
@@ -270,13 +270,13 @@ impl Kept {
         }
     }
 
-    fn prices_from(&self, t: Moment, deals: &SummedDeals) -> u64
+    fn prices_from(&self, t: Moment, deals: &Window) -> u64
         ensures { IsRested self.now → PricesFrom self.now deals.now.deals t result }
     {
         if !is_trading(self.phase) {
             return u64::MAX;
         }
-        if deals.first_moment().is_none() {
+        if deals.oldest().is_none() {
             return u64::MAX;
         }
         match &self.band {
@@ -320,7 +320,7 @@ impl Kept {
 
     /// Whether no rule says anything at the step of a record that comes often, where time brings nothing but perhaps a new
     /// reference price.
-    pub fn is_quiet(&self, step: &Step, deals: &SummedDeals) -> bool
+    pub fn is_quiet(&self, step: &Step, deals: &Window) -> bool
         ensures settled { result ≡ true → IsSettled self.now step.now.stopped }
         ensures prices { result ≡ true → reference self.now step.now (mean_of (live step.now.moment (window self.now deals.now.deals))) ≡ None }
         ensures restricts { result ≡ true → self.now.restricts ≡ false }
@@ -330,7 +330,7 @@ impl Kept {
 
     /// When the symbol is next due after a step, where only time can bring something, and before a moment only a new
     /// reference price.
-    pub fn due_within(&self, step: &Step, deals: &SummedDeals, waits: u64) -> Due
+    pub fn due_within(&self, step: &Step, deals: &Window, waits: u64) -> Due
         ensures { IsRested self.now → IsSettled self.now step.now.stopped → Waits self.now step.now.day step.now.stopped step.now.moment waits → IsDue (Some result) self.now deals.now.deals }
     {
         let prices = self.prices_from(step.moment, deals);
@@ -338,7 +338,7 @@ impl Kept {
     }
 
     /// When the symbol is next due after a step. None where a rule says something at the next tick, whenever that comes.
-    pub fn due(&self, step: &Step, deals: &SummedDeals) -> Option<Due>
+    pub fn due(&self, step: &Step, deals: &Window) -> Option<Due>
         ensures { IsRested self.now → IsDue result self.now deals.now.deals }
     {
         if self.is_out() {

@@ -19,7 +19,7 @@ use price_core::{NoMemory, Quotation};
 use session_core::{Day, Moment, Phase};
 use std::alloc::Global;
 use std::marker::Model;
-use window_core::SummedDeals;
+use window_core::Window;
 use wire_in::Record;
 use wire_out::Message;
 
@@ -37,7 +37,7 @@ pub const MOST_OF_SYMBOL: usize = 16;
 #[derive(Debug, Drop)]
 pub struct Symbol {
     kept: Kept,
-    deals: SummedDeals,
+    deals: Window,
     due: Option<Due>,
 }
 
@@ -71,14 +71,15 @@ fn step_of(x: &Record, market: &MarketView) -> Step
     }
 }
 
-/// The room that the step's deal takes.
-fn room_needed(id: u16, step: &Step) -> usize
-    ensures deal { result ≡ length (option_to_list (deal_of step.now.day id step.now.input)) }
-    ensures none { traded_price step.now.day id step.now.input ≡ None → result ≡ 0 }
+/// Takes room for the step's deal, where it has one.
+fn reserve_for(id: u16, step: &Step, deals: &mut Window) -> Result<(), NoMemory>
+    ensures ok { OnOk result (length (option_to_list (deal_of step.now.day id step.now.input)) ≤ deals.new.spare) }
+    ensures succeeds { traded_price step.now.day id step.now.input ≡ None → IsOk result }
+    ensures deals { deals.new.deals ≡ deals.old.deals }
 {
     match traded_price(id, step) {
-        Some(_) => 1,
-        None => 0,
+        Some(_) => deals.reserve(),
+        None => Ok(()),
     }
 }
 
@@ -95,7 +96,7 @@ impl Symbol {
     {
         Ok(Symbol {
             kept: Kept::renewed(id, false),
-            deals: SummedDeals::new(alloc)?,
+            deals: Window::new(alloc)?,
             due: None,
         })
     }
@@ -134,7 +135,7 @@ impl Symbol {
         let renewed = Kept::renewed(self.kept.id, self.kept.short.next_day());
         self.due = Some(Due::without_end(x.moment(), market));
         self.kept = renewed;
-        self.deals.clear();
+        self.deals.restart();
     }
 
     /// Whether the record is a clock or an index tick on a day on which the symbol isn't listed.
@@ -171,7 +172,7 @@ impl Symbol {
         ensures kept { self.new.kept ≡ self.old.kept }
         ensures deals { self.new.deals ≡ live t self.old.deals }
     {
-        self.deals.keep_live(t);
+        self.deals.advance(t);
         self.due = Some(due);
     }
 
@@ -200,7 +201,7 @@ impl Symbol {
         ensures { self.new ≡ quoted self.old t passed.now.quote }
     {
         self.kept.quote = Some(passed.quote);
-        self.deals.keep_live(t);
+        self.deals.advance(t);
         self.due = Some(passed.due);
     }
 
@@ -261,7 +262,7 @@ impl Symbol {
             Ok(()) => {}
             Err(_) => return Err(NoMemory),
         }
-        self.deals.reserve(room_needed(self.kept.id, &step))?;
+        reserve_for(self.kept.id, &step, &mut self.deals)?;
         let waits = self.kept.waits_by(&step, &self.due);
         self.due = take_step(&mut self.kept, &mut self.deals, &step, waits, out);
         Ok(())
@@ -272,7 +273,7 @@ impl Symbol {
 /// them one by one that this is nothing.
 fn speak(
     k: &mut Kept,
-    deals: &SummedDeals,
+    deals: &Window,
     step: &Step,
     waits: Option<u64>,
     out: &mut Vec<Message>,
@@ -295,7 +296,7 @@ fn speak(
 /// When the stock is next due after a step, where it is known or isn't that no rule said anything.
 fn due_after(
     k: &Kept,
-    deals: &SummedDeals,
+    deals: &Window,
     step: &Step,
     waits: Option<u64>,
     is_quiet: bool,
@@ -314,7 +315,7 @@ fn due_after(
 /// Takes a record in that is no day, and obeys the rules. The answer is when the stock is next due.
 fn take_step(
     k: &mut Kept,
-    deals: &mut SummedDeals,
+    deals: &mut Window,
     step: &Step,
     waits: Option<u64>,
     out: &mut Vec<Message>,
@@ -329,7 +330,7 @@ fn take_step(
     ensures due { IsDue result k.new deals.new.deals }
 {
     drop_cancelled(k.id, &step.input, deals);
-    deals.keep_live(step.moment);
+    deals.advance(step.moment);
     k.take(step);
     let deal = k.deal;
     let is_quiet = speak(k, deals, step, waits, out);

@@ -11,7 +11,7 @@ use crate::says::midnight;
 use reopen_core::{Auction, Indication};
 use session_core::{Moment, Phase};
 use short_core::Short;
-use window_core::{Deal, SummedDeals};
+use window_core::{Deal, Window};
 use wire_in::Record;
 
 impl Kept {
@@ -92,43 +92,43 @@ fn heard(indication: Option<Indication>, auction: Option<Auction>) -> Option<Auc
 }
 
 /// A cancel takes its deals away.
-pub fn drop_cancelled(id: u16, x: &Record, deals: &mut SummedDeals)
+pub fn drop_cancelled(id: u16, x: &Record, deals: &mut Window)
     ensures items { deals.new.deals ≡ filter (leaves id x.now) deals.old.deals }
     ensures spare { deals.old.spare ≤ deals.new.spare }
 {
     if let Some(number) = cancelled_by(id, x) {
-        deals.remove(number);
+        deals.cancel(number);
     }
 }
 
 /// A new window keeps none of the deals before it.
-fn begin_window(k: &Kept, deals: &mut SummedDeals)
+fn begin_window(k: &Kept, deals: &mut Window)
     ensures items { deals.new.deals ≡ (if k.now.is_fresh then [] else deals.old.deals) }
     ensures spare { deals.old.spare ≤ deals.new.spare }
 {
     if k.is_fresh {
-        deals.clear();
+        deals.restart();
     }
 }
 
 /// Adds the step's deal, where it counts.
-fn add_deal(k: &Kept, deal: &Option<Deal>, deals: &mut SummedDeals)
+fn add_deal(k: &Kept, deal: &Option<Deal>, deals: &mut Window)
     requires { length (option_to_list deal.now) ≤ deals.old.spare }
     ensures { deals.new.deals ≡ deals.old.deals ++ (if is_some k.now.begun then option_to_list deal.now else []) }
 {
     match deal {
-        Some(deal) if k.begun.is_some() => deals.push(*deal),
+        Some(deal) if k.begun.is_some() => deals.add(*deal),
         _ => {}
     }
 }
 
 /// The deals of the window that are less than five minutes old become the kept ones.
-pub fn keep_deals(k: &Kept, t: Moment, deal: &Option<Deal>, deals: &mut SummedDeals)
+pub fn keep_deals(k: &Kept, t: Moment, deal: &Option<Deal>, deals: &mut Window)
     requires { length (option_to_list deal.now) ≤ deals.old.spare }
     ensures same { SameLive t deals.new.deals ((if k.now.is_fresh then [] else deals.old.deals) ++ (if is_some k.now.begun then option_to_list deal.now else [])) }
     ensures recent { live t (option_to_list deal.now) ≡ option_to_list deal.now → live t deals.new.deals ≡ deals.new.deals }
 {
     begin_window(k, deals);
-    deals.keep_live(t);
+    deals.advance(t);
     add_deal(k, deal, deals);
 }

@@ -32,8 +32,8 @@ pub returns : goal.returns
 returns c =
     let spoken = c.speak-is_quiet.ensures.speaks in
     record {
-      steps = step-evaluates c.args.step.now c.args.k.now spoken.said c.speak-is_quiet.new.k c.take.new.self c.forget_step.new.self c.args.deals.now.deals c.drop_cancelled.new.deals.deals c.keep_live.new.self.deals c.keep_live.new.self.deals c.keep_deals.new.deals.deals c.args.out.now.items spoken.between c.speak-is_quiet.new.out.items
-          c.drop_cancelled.ensures.items c.keep_live.ensures.deals refl c.take.ensures spoken.announces spoken.obeys c.keep_deals.ensures.same c.forget_step.ensures;
+      steps = step-evaluates c.args.step.now c.args.k.now spoken.said c.speak-is_quiet.new.k c.take.new.self c.forget_step.new.self c.args.deals.now.deals c.drop_cancelled.new.deals.deals c.advance.new.self.deals c.advance.new.self.deals c.keep_deals.new.deals.deals c.args.out.now.items spoken.between c.speak-is_quiet.new.out.items
+          c.drop_cancelled.ensures.items c.advance.ensures.deals refl c.take.ensures spoken.announces spoken.obeys c.keep_deals.ensures.same c.forget_step.ensures;
       few = omega arith;
       capacity = omega arith;
       recent = λ now. c.keep_deals.ensures.recent (live-taken c.args.step.now c.args.k.now c.take.new.self c.take.ensures now);

@@ -10,7 +10,7 @@ returns-then-not-is_trading c = λ rested. prices-never c.args.self.now c.args.d
 pub returns-then-is_none : goal.returns-then-is_none
 returns-then-is_none c = λ rested.
     prices-empty c.args.self.now c.args.deals.now.deals c.args.t 18446744073709551615 rested
-    (sym c.first_moment.ensures ∙ none_of c.first_moment.result (c.is_none.ensures ∙ ap not c.if-is_none.true))
+    (sym c.oldest.ensures.value ∙ none_of c.oldest.result (c.is_none.ensures ∙ ap not c.if-is_none.true))
 
 pub returns-in-Some : goal.returns-in-Some
 returns-in-Some c = λ rested. c.moves_from.ensures rested c.in-Some.is
