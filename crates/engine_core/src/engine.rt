@@ -4,7 +4,7 @@ ghost use Rattle.std.specs.Prelude.{◌≡◌, ◌+◌, ◌*◌, ◌<◌, ◌≤
 ghost use Rattle.wire_in.specs.declared.record.Record.{Record};
 ghost use Rattle.wire_in.specs.Spelling.{InRange};
 ghost use Rattle.rulebook.specs.Admission.{verdict};
-ghost use Rattle.rulebook.specs.Sent.{judged};
+ghost use Rattle.rulebook.specs.Sent.{admitted};
 ghost use Rattle.rulebook.specs.Book.{newest_messages};
 ghost use Rattle.market_core.specs.AdmissionState as admissions;
 ghost use Rattle.market_core.specs.AdmissionState.{refusal_of};
@@ -16,7 +16,7 @@ use crate::round::Outcome;
 use market_core::{Admission, Market, most_messages_of};
 use price_core::NoMemory;
 use std::alloc::Global;
-use wire_in::{Record, decode};
+use wire_in::Record;
 use wire_out::Stamped;
 
 /// The accepted records as admission and the market have them, the messages of the record that was evaluated last, and
@@ -30,20 +30,18 @@ pub struct Engine {
     pub published: u64,
 }
 
-/// The record of a body that is accepted next, or the first refusal that applies.
-pub fn judge(admission: &Admission, body: &[u8]) -> Outcome
-    requires { length body.now ≤ 255 }
-    ensures exact { (held : List Record) → admissions.Represents admission.now held → result ≡ judged admission.now.capacity held body.now }
-    ensures admissible { IfOk result (λ x. refusal_of admission.now x ≡ None) }
-    ensures range { IfOk result InRange }
+/// Puts the first refusal that applies in the place of a record that isn't accepted next. What was decoded of a body is so
+/// judged where it lies.
+pub fn judge(admission: &Admission, outcome: &mut Outcome)
+    ensures exact { (held : List Record) → admissions.Represents admission.now held → outcome.new ≡ admitted admission.now.capacity held outcome.old }
+    ensures admissible { IfOk outcome.new (λ x. refusal_of admission.now x ≡ None) }
+    ensures range { IfOk outcome.old InRange → IfOk outcome.new InRange }
 {
-    let outcome = decode(body);
-    if let Ok(x) = &outcome {
+    if let Ok(x) = outcome {
         if let Some(refusal) = admission.verdict(x) {
-            return Err(refusal);
+            *outcome = Err(refusal);
         }
     }
-    outcome
 }
 
 /// Empties a list of messages, and at a Listing takes room for those of one stock more.
@@ -92,6 +90,7 @@ impl Engine {
     }
 
     /// Admits a record that is admissible after the accepted ones. It waits to be evaluated.
+    #[inline(always)]
     pub fn admit(&mut self, x: &Record)
         requires { refusal_of self.old.admission x.now ≡ None }
         ensures represents { (capacity : ℕ) (accepted evaluated : List Record) → Represents self.old capacity accepted evaluated

@@ -26,7 +26,7 @@ use crate::round::{Outcome, Round};
 use host_core::{Fault, Host};
 use journal_core::BATCH_MAX;
 use stream_core::Outbox;
-use wire_in::Cutter;
+use wire_in::{Cutter, decode};
 
 /// What is kept from piece to piece: the frame begun, the accepted records' engine, the frames that were judged and wait to
 /// be answered, what waits to be sent, and how many frames were answered.
@@ -81,7 +81,8 @@ fn judge_next(engine: &mut Engine, round: &mut Round, body: &[u8])
     ensures rest { engine.new ≡ record engine.old { admission = engine.new.admission } }
     ensures capacity { engine.new.admission.capacity ≡ engine.old.admission.capacity }
 {
-    let outcome = judge(&engine.admission, body);
+    let mut outcome = decode(body);
+    judge(&engine.admission, &mut outcome);
     admit(engine, &outcome);
     round.push(&outcome);
 }

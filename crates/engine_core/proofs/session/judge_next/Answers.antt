@@ -1,6 +1,6 @@
-use Rattle.std.proofs.Common.{◌≡◌, ℕ, List, length, ap, ◌∙◌, length-append, arith}
+use Rattle.std.proofs.Common.{◌≡◌, List, length, ap, ◌∙◌, length-append, arith}
 use Rattle.std.specs.Prelude.{vec_capacity}
-use Rattle.rulebook.specs.Sent.{judged}
+use Rattle.rulebook.specs.Sent.{admitted, judged}
 use Rattle.engine_core.specs.declared.engine.Engine.{Engine}
 use Rattle.engine_core.specs.Rounds.{Outcome, records_in}
 use Rattle.engine_core.specs.Sessions.{held_after}
@@ -12,8 +12,9 @@ pub returns-clause-waits : goal.returns-clause-waits
 returns-clause-waits c = λ start answered all number waits.
     let held = held_after start all in
     let body = c.args.body.now in
-    let is : c.judge-outcome.result ≡ judged start.capacity held body =
-    c.judge-outcome.ensures.exact held waits.engine_is.admission ∙ ap (λ (n : ℕ). judged n held body) waits.engine_is.within in
+    let is : c.judge.new.outcome ≡ judged start.capacity held body =
+    c.judge.ensures.exact held waits.engine_is.admission
+    ∙ (λ i. admitted (waits.engine_is.within i) held (c.decode-outcome.ensures.exact i)) in
     waits_more waits body _ _ _ is c.push.ensures (c.admit.ensures.represents start.capacity held _ waits.engine_is)
 
 pub returns-clause-sound : goal.returns-clause-sound
