@@ -2,6 +2,18 @@
 
 use text_core::Kind;
 
+/// The most records that a journal takes.
+pub const LIMIT_MAX: u64 = 2_000_000_000;
+
+/// The most bytes that one run reads.
+pub const BYTES_MAX: u64 = 1_099_511_627_776;
+
+/// The most symbols of a generated day.
+pub const SYMBOLS_MAX: u64 = 16_384;
+
+/// The most records of a generated day behind its listings.
+pub const RECORDS_MAX: u64 = 100_000_000;
+
 /// What the words of a process ask for.
 #[derive(Clone, Copy, Debug, PartialEq, Eq)]
 pub enum Command {

@@ -5,6 +5,7 @@ ghost use Rattle.clap.specs.Words.{App, Rule, app_of, rule_of, new_app, with_rul
 ghost use Rattle.clap.specs.declared.builder.command.Command.TheViews.{out-Command as fields_of};
 ghost use Rattle.words_core.specs.Line.{number_option, with_default, bytes_option, kind_option, summary_option, format_line, serve_line, replay_line, status_line, text_line, seed_option, symbols_option, records_option, generate_line, program, with_sessions, halts_line};
 
+use crate::command::{BYTES_MAX, LIMIT_MAX, RECORDS_MAX, SYMBOLS_MAX};
 use clap::builder::ValueParser;
 use clap::{Arg, ArgAction, Command};
 use std::alloc::{AllocError, Global};
@@ -29,7 +30,7 @@ fn bytes_option<'a>(alloc: Global) -> Arg<'a>
         alloc,
         "bytes",
         1,
-        1_099_511_627_776,
+        BYTES_MAX,
         "How many bytes of the input are read at most, from 1 to 1099511627776",
     )
     .default_value("1099511627776")
@@ -81,7 +82,7 @@ fn format_line<'a>(alloc: Global) -> Result<Command<'a>, AllocError>
         alloc,
         "limit",
         1,
-        2_000_000_000,
+        LIMIT_MAX,
         "How many records the journal takes, from 1 to 2000000000",
     )
     .default_value("100000000");
@@ -165,7 +166,7 @@ fn symbols_option<'a>(alloc: Global) -> Arg<'a>
         alloc,
         "symbols",
         1,
-        16_384,
+        SYMBOLS_MAX,
         "How many symbols are listed, from 1 to 16384",
     )
     .default_value("500")
@@ -179,8 +180,8 @@ fn records_option<'a>(alloc: Global) -> Arg<'a>
         alloc,
         "records",
         0,
-        100_000_000,
-        "How many records follow the listings, from 0 to 100000000",
+        RECORDS_MAX,
+        "How many records follow the listings, from 0 to 100000000; up to 23400 of them are clocks",
     )
     .default_value("400000")
 }
@@ -214,7 +215,7 @@ fn program<'a>(alloc: Global) -> Result<Command<'a>, AllocError>
     command(
         alloc,
         "halts",
-        "Trading halts of US equities over a live input and a journal",
+        "Trading halts of US equities over a live input and a journal, whose path may be - for none",
     )
     .no_binary_name(true)
     .version(VERSION)

@@ -4,21 +4,9 @@ ghost use Rattle.std.specs.Prelude.{◌≡◌, IfSome, false};
 ghost use Rattle.words_core.specs.Plain.{no_options, with_limit, with_from, with_bytes, with_kind, with_seed, with_symbols, with_records, with_option, with_summary, command_with, IsWithin};
 ghost use Rattle.words_core.specs.Commands.{IsInRange};
 
-use crate::command::{Command, Verb, kind_of};
+use crate::command::{BYTES_MAX, Command, LIMIT_MAX, RECORDS_MAX, SYMBOLS_MAX, Verb, kind_of};
 use crate::number::number_in;
 use text_core::Kind;
-
-/// The most records that a journal takes.
-const LIMIT_MAX: u64 = 2_000_000_000;
-
-/// The most bytes that one run reads.
-const BYTES_MAX: u64 = 1_099_511_627_776;
-
-/// The most symbols of a generated day.
-const SYMBOLS_MAX: u64 = 16_384;
-
-/// The most records of a generated day behind its listings.
-const RECORDS_MAX: u64 = 100_000_000;
 
 /// The options that were given so far, with their values.
 #[derive(Clone, Copy, Debug, PartialEq, Eq)]

@@ -5,13 +5,10 @@ ghost use Rattle.clap.specs.Words.{found_of, first_of, rows_of, subcommand_rows_
 ghost use Rattle.words_core.specs.Commands.{IsInRange};
 ghost use Rattle.words_core.specs.Asked.{number_of, number_if_given, bytes_in, kind_in, is_given, command_from, command_found};
 
-use crate::command::{Command, Verb, kind_of};
+use crate::command::{BYTES_MAX, Command, LIMIT_MAX, RECORDS_MAX, SYMBOLS_MAX, Verb, kind_of};
 use crate::number::numeral_in;
 use clap::ArgMatches;
 use text_core::Kind;
-
-/// The most bytes that one run reads.
-const BYTES_MAX: u64 = 1_099_511_627_776;
 
 /// The first value of an option, as text.
 fn text_of<'a>(found: &ArgMatches<'a>, id: &str) -> Option<&'a str>
@@ -66,7 +63,7 @@ fn format_of(found: &ArgMatches<'_>) -> Option<Command>
     ensures exact { result ≡ command_from Verb.Format (rows_of (found_of found.now)) }
     ensures range { IfSome result IsInRange }
 {
-    let limit = number_of(found, "limit", 1, 2_000_000_000)?;
+    let limit = number_of(found, "limit", 1, LIMIT_MAX)?;
     Some(Command::Format { limit })
 }
 
@@ -92,8 +89,8 @@ fn generate_of(found: &ArgMatches<'_>) -> Option<Command>
     ensures range { IfSome result IsInRange }
 {
     let seed = number_of(found, "seed", 0, u64::MAX)?;
-    let symbols = number_of(found, "symbols", 1, 16_384)?;
-    let records = number_of(found, "records", 0, 100_000_000)?;
+    let symbols = number_of(found, "symbols", 1, SYMBOLS_MAX)?;
+    let records = number_of(found, "records", 0, RECORDS_MAX)?;
     Some(Command::Generate {
         seed,
         symbols: symbols as u32,
