@@ -3,6 +3,7 @@ mod batches;
 mod bytes;
 mod ends;
 mod generated;
+mod grouped;
 mod holdings;
 mod morning;
 mod process;

@@ -50,19 +50,40 @@ fn acknowledged<R: AllocGlobal>(rt: &R, sent: &[u8]) -> Result<usize, Fail> {
     Ok(count)
 }
 
+/// How a day is served: the most frames of a batch, and the most bytes of a read.
+#[derive(Clone, Copy)]
+struct Way<'a> {
+    batch: &'a str,
+    read: u32,
+}
+
+/// Each frame on its own, and all frames as one batch.
+const WAYS: [Way<'static>; 2] = [
+    Way {
+        batch: "1",
+        read: 20,
+    },
+    Way {
+        batch: "64",
+        read: 4_096,
+    },
+];
+
 /// Serves a fall up to a stop at one of its calls, and starts again over what the stop leaves. Answers whether the run was
 /// stopped.
 fn stopped<Rt: Abort + AllocGlobal + Threads + Sync>(
     rt: &Rt,
     disk: &[u8],
+    way: Way<'_>,
     nth: u64,
     pick: Pick,
 ) -> Result<bool, Fail> {
     let whole = first(rt, 3)?;
     let mut host = MemoryHost::new(rt.alloc(), &whole.input, disk)?;
-    host.pieces(20, 7);
+    host.pieces(way.read, 7);
     host.stop_at(nth.max(1));
-    let status = run(rt, rt.alloc(), &["serve"], &mut host);
+    let words = ["serve", "--batch", way.batch];
+    let status = run(rt, rt.alloc(), &words, &mut host);
     assert!(rt; whole.served.starts_with(host.sent()), "stopped at {nth}");
     let left = host.crash(pick, b"")?;
     let held = held(rt, left.disk())?;
@@ -74,21 +95,24 @@ fn stopped<Rt: Abort + AllocGlobal + Threads + Sync>(
 /// Stops a fall at each of its calls.
 fn stopped_everywhere<Rt: Abort + AllocGlobal + Threads + Sync>(
     rt: &Rt,
+    way: Way<'_>,
     pick: Pick,
 ) -> Result<(), Fail> {
     let disk = fresh(rt)?;
     for nth in 1..64u64 {
-        stopped(rt, &disk, nth, pick)?;
+        stopped(rt, &disk, way, nth, pick)?;
     }
-    assert!(rt; stopped(rt, &disk, 20, pick)?);
-    assert!(rt; !stopped(rt, &disk, 64, pick)?);
+    assert!(rt; stopped(rt, &disk, way, 10, pick)?);
+    assert!(rt; !stopped(rt, &disk, way, 64, pick)?);
     Ok(())
 }
 
 #[test]
 fn what_was_acknowledged_is_held_after_any_stop(rt: HostRuntime) -> Result<(), Fail> {
     for pick in [Pick::Old, Pick::New, Pick::Bytes(0), Pick::Bytes(0x55)] {
-        stopped_everywhere(&rt, pick)?;
+        for way in WAYS {
+            stopped_everywhere(&rt, way, pick)?;
+        }
     }
     Ok(())
 }
@@ -105,15 +129,17 @@ fn fault_of(call: Call) -> Status {
 /// Each call of a kind fails in turn, and a run over the disk that it leaves gives the rest.
 fn failed_in_turn<Rt: Abort + AllocGlobal + Threads + Sync>(
     rt: &Rt,
+    way: Way<'_>,
     call: Call,
 ) -> Result<(), Fail> {
     let disk = fresh(rt)?;
     let whole = first(rt, 3)?;
+    let words = ["serve", "--batch", way.batch];
     for nth in 1..16u64 {
         let mut host = MemoryHost::new(rt.alloc(), &whole.input, &disk)?;
-        host.pieces(20, 7);
+        host.pieces(way.read, 7);
         host.fail(call, nth)?;
-        let status = run(rt, rt.alloc(), &["serve"], &mut host);
+        let status = run(rt, rt.alloc(), &words, &mut host);
         assert!(rt; status == Status::Done || status == fault_of(call));
         assert!(rt; nth > 1 || status != Status::Done);
         assert!(rt; whole.served.starts_with(host.sent()));
@@ -133,7 +159,9 @@ fn each_failing_call_ends_a_run_and_the_next_goes_on(rt: HostRuntime) -> Result<
         Call::Write,
         Call::Sync,
     ] {
-        failed_in_turn(&rt, call)?;
+        for way in WAYS {
+            failed_in_turn(&rt, way, call)?;
+        }
     }
     Ok(())
 }
@@ -146,8 +174,9 @@ fn a_run_after_a_failed_sync_goes_on(rt: HostRuntime) -> Result<(), Fail> {
     for nth in [1u64, 2, 3, 5] {
         let mut host = MemoryHost::new(alloc, &input, &disk)?;
         host.fail(Call::Sync, nth)?;
-        assert_eq!(rt; run(&rt, alloc, &["serve"], &mut host), Status::DiskFault);
-        assert_eq!(rt; run(&rt, alloc, &["serve"], &mut host), Status::Done);
+        let words = ["serve", "--batch", "1"];
+        assert_eq!(rt; run(&rt, alloc, &words, &mut host), Status::DiskFault);
+        assert_eq!(rt; run(&rt, alloc, &words, &mut host), Status::Done);
     }
     Ok(())
 }

@@ -1,0 +1,137 @@
+// Batches of several frames: what stands in the journal, what is sent, and what a later session makes of it.
+use super::{fall, fresh, made, run, runs};
+use host_core::Status;
+use memory_host::MemoryHost;
+use std::alloc::Global;
+use std::process::Abort;
+use std::test::Fail;
+use std::thread::Threads;
+use test_days::lines::{at, bytes, refused, tick};
+use test_days::{Session, worked_days};
+use wire_in::Refusal;
+
+/// The sizes of batches that are tried.
+const SIZES: [&str; 4] = ["1", "2", "63", "64"];
+
+/// A journal of the capacity 3 that holds these batches, each with the last byte of its length.
+fn journal_of(alloc: Global, batches: &[(u8, &[u8])]) -> Result<Vec<u8>, Fail> {
+    let mut disk = Vec::new(alloc);
+    disk.extend_from_slice(b"HALTJNL1\0\0\0\0\0\0\0\x03")?;
+    for (len, frames) in batches {
+        disk.extend_from_slice(b"\x01\0\0\0")?;
+        disk.push(*len)?;
+        disk.extend_from_slice(frames)?;
+    }
+    disk.push(0)?;
+    Ok(disk)
+}
+
+#[test]
+fn two_frames_and_then_one_make_two_batches(rt: HostRuntime) -> Result<(), Fail> {
+    let empty = made(&rt, &["format", "--limit", "3"])?;
+    let day = Session::of(rt.alloc(), &fall())?;
+    let words = ["serve", "--batch", "2"];
+    let disk = runs(&rt, &words, &empty, &day.input, &day.served, Status::Done)?;
+    let (two, one) = day.input.split_at(34);
+    assert!(rt; disk == journal_of(rt.alloc(), &[(34, two), (14, one)])?);
+    Ok(())
+}
+
+#[test]
+fn a_batch_ends_with_what_one_read_gave(rt: HostRuntime) -> Result<(), Fail> {
+    let empty = made(&rt, &["format", "--limit", "3"])?;
+    let day = Session::of(rt.alloc(), &fall())?;
+    let mut host = MemoryHost::new(rt.alloc(), &day.input, &empty)?;
+    host.pieces(20, 7);
+    assert_eq!(rt; run(&rt, rt.alloc(), &["serve"], &mut host), Status::Done);
+    assert!(rt; host.sent() == day.served.as_slice());
+    let (first, later) = day.input.split_at(20);
+    let (second, third) = later.split_at(14);
+    let batches = [(20, first), (14, second), (14, third)];
+    assert!(rt; host.disk() == journal_of(rt.alloc(), &batches)?.as_slice());
+    Ok(())
+}
+
+#[test]
+fn a_batch_leaves_out_what_is_refused(rt: HostRuntime) -> Result<(), Fail> {
+    let empty = made(&rt, &["format", "--limit", "3"])?;
+    let [day, first, second, breaker] = fall();
+    let t = at(10, 0, 0);
+    let lines = [
+        bytes(b"\x0a"),
+        refused(Refusal::UnknownType),
+        day,
+        first,
+        tick(at(9, 0, 0), 400_000),
+        refused(Refusal::OutOfOrder),
+        second,
+        breaker,
+        tick(t, 400_000),
+        refused(Refusal::JournalFull),
+    ];
+    let session = Session::of(rt.alloc(), &lines)?;
+    let kept = Session::of(rt.alloc(), &fall())?;
+    let disk = runs(
+        &rt,
+        &["serve"],
+        &empty,
+        &session.input,
+        &session.served,
+        Status::Done,
+    )?;
+    assert!(rt; disk == journal_of(rt.alloc(), &[(48, &kept.input)])?);
+    Ok(())
+}
+
+/// A day that is served in batches of a size is answered as it is told, and sent again from each message on.
+fn expect_size<Rt: Abort + AllocGlobal + Threads + Sync>(
+    rt: &Rt,
+    disk: &[u8],
+    size: &str,
+    day: &Session,
+) -> Result<(), Fail> {
+    let words = ["serve", "--batch", size];
+    let held = runs(rt, &words, disk, &day.input, &day.served, Status::Done)?;
+    let mut host = MemoryHost::new(rt.alloc(), b"", &held)?;
+    let status = run(rt, rt.alloc(), &["serve", "--from", "1"], &mut host);
+    assert_eq!(rt; status, Status::Done);
+    assert!(rt; host.sent().starts_with(&day.replayed));
+    let mut later = MemoryHost::new(rt.alloc(), b"", &held)?;
+    let status = run(rt, rt.alloc(), &["serve", "--from", "3"], &mut later);
+    assert_eq!(rt; status, Status::Done);
+    assert!(rt; host.sent().ends_with(later.sent()));
+    Ok(())
+}
+
+#[test]
+fn each_size_of_batch_gets_the_same_answers(rt: HostRuntime) -> Result<(), Fail> {
+    let disk = fresh(&rt)?;
+    let days = worked_days(rt.alloc())?;
+    for day in days.iter().take(8) {
+        let session = Session::of(rt.alloc(), &day.lines)?;
+        for size in SIZES {
+            expect_size(&rt, &disk, size, &session)?;
+        }
+    }
+    Ok(())
+}
+
+#[test]
+fn sessions_with_batches_of_different_sizes_go_on_from_one_another(
+    rt: HostRuntime,
+) -> Result<(), Fail> {
+    let alloc = rt.alloc();
+    let whole = fall();
+    for (first, then) in [("1", "64"), ("64", "1"), ("2", "63")] {
+        let disk = fresh(&rt)?;
+        let day = Session::of(alloc, &whole[..2])?;
+        let words = ["serve", "--batch", first];
+        let disk = runs(&rt, &words, &disk, &day.input, &day.served, Status::Done)?;
+        let rest = Session::over(alloc, 2, 0, &whole[2..])?;
+        let words = ["serve", "--batch", then];
+        let disk = runs(&rt, &words, &disk, &rest.input, &rest.served, Status::Done)?;
+        let held = Session::over(alloc, 3, 1, &[])?.served;
+        runs(&rt, &["serve"], &disk, b"", &held, Status::Done)?;
+    }
+    Ok(())
+}
