@@ -67,7 +67,9 @@ fn obey<Rt: Threads + Sync, H: Host>(
 {
     match command {
         Command::Format { limit } => format_journal(host, limit),
-        Command::Serve { from, bytes } => serve(rt, alloc, host, &ServeOptions { from, bytes }),
+        Command::Serve { from, batch, bytes } => {
+            serve(rt, alloc, host, &ServeOptions { from, batch, bytes })
+        }
         Command::Replay { bytes } => replay(rt, alloc, host, &ReplayOptions { bytes }),
         Command::Status => report(alloc, host),
         Command::Print { kind } => print_stream(alloc, host, kind),

@@ -40,7 +40,7 @@ is_given (Some word) = bytes_eq word (codes "true")
 abbrev pub command_from : Verb → List Row → Option Command
 command_from Format rows = option_map (λ limit. commands.Format limit) (number_of 1 2000000000 (codes "limit") rows)
 command_from Serve rows =
-    option_and_then (λ from. option_map (λ bytes. commands.Serve from bytes) (bytes_in rows))
+    option_and_then (λ from. option_and_then (λ batch. option_map (λ bytes. commands.Serve from batch bytes) (bytes_in rows)) (number_of 1 64 (codes "batch") rows))
     (number_if_given 1 18446744073709551615 (first_of (codes "from") rows))
 command_from Replay rows = option_map (λ bytes. commands.Replay bytes) (bytes_in rows)
 command_from Status rows = Some commands.Status

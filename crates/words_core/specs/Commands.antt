@@ -30,7 +30,7 @@ kind_of word =
 -- the numbers of a command are in their ranges
 abbrev pub IsInRange : Command → Type 0
 IsInRange (commands.Format limit) = (1 ≤ limit) × (limit ≤ 2000000000)
-IsInRange (commands.Serve from bytes) = IfSome from (λ n. 1 ≤ n) × (1 ≤ bytes) × (bytes ≤ 1099511627776)
+IsInRange (commands.Serve from batch bytes) = IfSome from (λ n. 1 ≤ n) × (1 ≤ batch) × (batch ≤ 64) × (1 ≤ bytes) × (bytes ≤ 1099511627776)
 IsInRange (commands.Replay bytes) = (1 ≤ bytes) × (bytes ≤ 1099511627776)
 IsInRange commands.Status = Unit {0}
 IsInRange (commands.Print kind) = Unit {0}

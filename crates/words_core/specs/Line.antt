@@ -19,6 +19,9 @@ number_option name least most = valued name (Unsigned least most)
 abbrev pub with_default : Text → Rule → Rule
 with_default value rule = record rule { defaults = value ∷ [] }
 
+abbrev pub batch_option : Rule
+batch_option = with_default (codes "64") (number_option (codes "batch") 1 64)
+
 abbrev pub bytes_option : Rule
 bytes_option = with_default (codes "1099511627776") (number_option (codes "bytes") 1 1099511627776)
 
@@ -34,7 +37,7 @@ abbrev pub format_line : App
 format_line = with_rule (new_app (codes "format")) (with_default (codes "100000000") (number_option (codes "limit") 1 2000000000))
 
 abbrev pub serve_line : App
-serve_line = with_rule (with_rule (new_app (codes "serve")) (number_option (codes "from") 1 18446744073709551615)) bytes_option
+serve_line = with_rule (with_rule (with_rule (new_app (codes "serve")) (number_option (codes "from") 1 18446744073709551615)) batch_option) bytes_option
 
 abbrev pub replay_line : App
 replay_line = with_rule (new_app (codes "replay")) bytes_option

@@ -8,6 +8,9 @@ pub const LIMIT_MAX: u64 = 2_000_000_000;
 /// The most bytes that one run reads.
 pub const BYTES_MAX: u64 = 1_099_511_627_776;
 
+/// The most frames of a batch.
+pub const BATCH_MAX: u64 = 64;
+
 /// The most symbols of a generated day.
 pub const SYMBOLS_MAX: u64 = 16_384;
 
@@ -21,10 +24,11 @@ pub enum Command {
     Format {
         limit: u64,
     },
-    /// Serves a session that sends the messages from a number on again, where one is given, and reads so many bytes at
-    /// most, from 1 to 1,099,511,627,776.
+    /// Serves a session that sends the messages from a number on again, where one is given, answers so many frames at most
+    /// in one batch, from 1 to 64, and reads so many bytes at most, from 1 to 1,099,511,627,776.
     Serve {
         from: Option<u64>,
+        batch: u32,
         bytes: u64,
     },
     /// Replays the input, up to so many bytes.

@@ -3,9 +3,9 @@
 ghost use Rattle.std.specs.Prelude.{◌≡◌, IfOk, codes, false};
 ghost use Rattle.clap.specs.Words.{App, Rule, app_of, rule_of, new_app, with_rule, with_subcommand, shape_of};
 ghost use Rattle.clap.specs.declared.builder.command.Command.TheViews.{out-Command as fields_of};
-ghost use Rattle.words_core.specs.Line.{number_option, with_default, bytes_option, kind_option, summary_option, format_line, serve_line, replay_line, status_line, text_line, seed_option, symbols_option, records_option, generate_line, program, with_sessions, halts_line};
+ghost use Rattle.words_core.specs.Line.{number_option, with_default, batch_option, bytes_option, kind_option, summary_option, format_line, serve_line, replay_line, status_line, text_line, seed_option, symbols_option, records_option, generate_line, program, with_sessions, halts_line};
 
-use crate::command::{BYTES_MAX, LIMIT_MAX, RECORDS_MAX, SYMBOLS_MAX};
+use crate::command::{BATCH_MAX, BYTES_MAX, LIMIT_MAX, RECORDS_MAX, SYMBOLS_MAX};
 use clap::builder::ValueParser;
 use clap::{Arg, ArgAction, Command};
 use std::alloc::{AllocError, Global};
@@ -20,6 +20,20 @@ fn number_option<'a>(alloc: Global, name: &'a str, least: u64, most: u64, help: 
         .value_name("N")
         .value_parser(ValueParser::unsigned(least, most))
         .help(help)
+}
+
+fn batch_option<'a>(alloc: Global) -> Arg<'a>
+    ensures rule { rule_of result ≡ batch_option }
+    ensures local { result.global ≡ false }
+{
+    number_option(
+        alloc,
+        "batch",
+        1,
+        BATCH_MAX,
+        "How many frames are answered in one batch at most, from 1 to 64",
+    )
+    .default_value("64")
 }
 
 fn bytes_option<'a>(alloc: Global) -> Arg<'a>
@@ -115,6 +129,7 @@ fn serve_line<'a>(alloc: Global) -> Result<Command<'a>, AllocError>
         ),
         from,
     )?;
+    let serve = with_option(serve, batch_option(alloc))?;
     with_option(serve, bytes_option(alloc))
 }
 

@@ -1,10 +1,10 @@
 //! The options of a plain line.
 
 ghost use Rattle.std.specs.Prelude.{◌≡◌, IfSome, false};
-ghost use Rattle.words_core.specs.Plain.{no_options, with_limit, with_from, with_bytes, with_kind, with_seed, with_symbols, with_records, with_option, with_summary, command_with, IsWithin};
+ghost use Rattle.words_core.specs.Plain.{no_options, with_limit, with_from, with_batch, with_bytes, with_kind, with_seed, with_symbols, with_records, with_option, with_summary, command_with, IsWithin};
 ghost use Rattle.words_core.specs.Commands.{IsInRange};
 
-use crate::command::{BYTES_MAX, Command, LIMIT_MAX, RECORDS_MAX, SYMBOLS_MAX, Verb, kind_of};
+use crate::command::{BATCH_MAX, BYTES_MAX, Command, LIMIT_MAX, RECORDS_MAX, SYMBOLS_MAX, Verb, kind_of};
 use crate::number::number_in;
 use text_core::Kind;
 
@@ -13,6 +13,7 @@ use text_core::Kind;
 pub struct Options {
     limit: Option<u64>,
     from: Option<u64>,
+    batch: Option<u32>,
     bytes: Option<u64>,
     kind: Option<Kind>,
     seed: Option<u64>,
@@ -29,6 +30,7 @@ pub fn no_options() -> Options
     Options {
         limit: None,
         from: None,
+        batch: None,
         bytes: None,
         kind: None,
         seed: None,
@@ -65,6 +67,21 @@ impl Options {
         let from = number_in(word.as_bytes(), 1, u64::MAX)?;
         Some(Options {
             from: Some(from),
+            ..self
+        })
+    }
+
+    fn with_batch(self, word: &str) -> Option<Options>
+        requires { IsWithin self }
+        ensures exact { result ≡ with_batch self word.now }
+        ensures range { IfSome result IsWithin }
+    {
+        if self.batch.is_some() {
+            return None;
+        }
+        let batch = number_in(word.as_bytes(), 1, BATCH_MAX)?;
+        Some(Options {
+            batch: Some(batch as u32),
             ..self
         })
     }
@@ -153,6 +170,7 @@ impl Options {
         match (verb, name) {
             (Verb::Format, "--limit") => self.with_limit(word),
             (Verb::Serve, "--from") => self.with_from(word),
+            (Verb::Serve, "--batch") => self.with_batch(word),
             (Verb::Serve | Verb::Replay, "--bytes") => self.with_bytes(word),
             (Verb::Print | Verb::Pack, "--kind") => self.with_kind(word),
             (Verb::Generate, "--seed") => self.with_seed(word),
@@ -189,6 +207,7 @@ impl Options {
             }),
             Verb::Serve => Some(Command::Serve {
                 from: self.from,
+                batch: self.batch.unwrap_or(64),
                 bytes: self.bytes.unwrap_or(BYTES_MAX),
             }),
             Verb::Replay => Some(Command::Replay {
