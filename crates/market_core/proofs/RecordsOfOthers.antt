@@ -16,6 +16,7 @@ use Rattle.rulebook.specs.Market.{day_record}
 use Rattle.rulebook.proofs.Ids.{Agree, earlier_agree, terms_in-agree, triggered_in-agree, is_carried-agree}
 use Rattle.rulebook.proofs.Listings.{among_own}
 use Rattle.rulebook.proofs.OfSymbol.{is_by, NoneBy}
+use Rattle.rulebook.specs.Symbol.{prior_close_of}
 use Rattle.symbol_core.proofs.Resting.{rests-silent, rests-apart}
 use Rattle.symbol_core.specs.Rests.{Held, Rests}
 use Rattle.symbol_core.specs.Silent.{IsSilent, AllSilent, IsOfOthers, SaysNothing}
@@ -58,9 +59,8 @@ rests-agree own other held h e r =
       adopted = r.adopted;
       straddling = r.straddling;
       halted = r.halted;
-      round = r.round;
-      origin = r.origin;
-      indication = r.indication;
+      auction = r.auction;
+      prior_close = r.prior_close ∙ (λ i. prior_close_of (terms_in-agree own other (records h) e i));
       triggered = r.triggered ∙ (λ i. option_map_or (λ day. triggered_in-agree own other day.0 held.kept.id (records h) e i) (day_record (records h)) false);
       carried = r.carried ∙ is_carried-agree own other held.kept.id h e;
       deals = r.deals;
