@@ -1,11 +1,11 @@
 //! The words of a process, done over a host of its streams and the journal's file.
 
-ghost use Rattle.std.specs.Prelude.{◌≡◌, ◌≢◌, None, Some, map, get_or, codes, drop};
+ghost use Rattle.std.specs.Prelude.{◌≡◌, ◌≢◌, [], None, Some, if◌then◌else◌, map, get_or, codes, drop};
 ghost use Rattle.host_core.specs.Outside.{Continues};
 ghost use Rattle.words_core.specs.declared.command.Command.{Command};
 ghost use Rattle.words_core.specs.Plain.{command_of};
 ghost use Rattle.halts.specs.Runs.{Ran, Obeyed, Answered};
-ghost use Rattle.halts.specs.Words.{command_words};
+ghost use Rattle.halts.specs.Words.{asks_for_text, command_words};
 
 use crate::run::run;
 use host_core::{Held, Host, JournalFile, RealHost, Status};
@@ -25,14 +25,39 @@ fn journal_path<'a>(args: &[&'a str]) -> &'a str
     }
 }
 
-/// The words behind the journal's path.
-fn words_behind<'a, 'b>(args: &'a [&'b str]) -> &'a [&'b str]
-    ensures { result.now ≡ drop 2 args.now }
+/// Whether a word asks for help or for the version.
+fn asks_for_text(word: &str) -> bool
+    ensures { result ≡ asks_for_text word.now }
 {
-    if args.len() < 2 {
+    matches!(word, "help" | "--help" | "-h" | "--version" | "-V")
+}
+
+/// The words behind the first ones; none where there are fewer.
+fn words_from<'a, 'b>(args: &'a [&'b str], count: usize) -> &'a [&'b str]
+    ensures { result.now ≡ drop count args.now }
+{
+    if args.len() < count {
         return &[];
     }
-    &args[2..]
+    &args[count..]
+}
+
+/// Whether the word behind the program's own name asks for help or for the version.
+fn begins_with_text(args: &[&str]) -> bool
+    ensures { result ≡ asks_for_text (get_or (map (λ w. w.now) args.now) 1 []) }
+{
+    args.len() > 1 && asks_for_text(args[1])
+}
+
+/// The words of a command, which stand behind the journal's path. Words that ask for a text need no path before them.
+fn words_behind<'a, 'b>(args: &'a [&'b str]) -> &'a [&'b str]
+    ensures { result.now ≡ (if asks_for_text (get_or (map (λ w. w.now) args.now) 1 []) then drop 1 args.now else drop 2 args.now) }
+{
+    if begins_with_text(args) {
+        words_from(args, 1)
+    } else {
+        words_from(args, 2)
+    }
 }
 
 /// Does what the words of a process say over a host of the journal that they name, and answers how it ended.

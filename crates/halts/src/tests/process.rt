@@ -106,6 +106,7 @@ fn each_end_has_its_status(rt: HostRuntime) -> Result<(), Fail> {
     sends(&rt, &["halts"], b"", Status::Usage)?;
     sends(&rt, &["halts", path], b"", Status::Usage)?;
     sends(&rt, &["halts", "serve", "serve", "1"], b"", Status::Usage)?;
+    sends(&rt, &["halts", "help", "stop"], b"", Status::Usage)?;
     sends(
         &rt,
         &["halts", "none.journal", "serve"],
@@ -117,6 +118,23 @@ fn each_end_has_its_status(rt: HostRuntime) -> Result<(), Fail> {
     assert_eq!(rt; unread, Status::ReadFault);
     let unsent = start(&rt, alloc, &serve, io::empty(), Closed);
     assert_eq!(rt; unsent, Status::SendFault);
+    Ok(())
+}
+
+#[test]
+fn help_needs_no_journal(rt: HostRuntime) -> Result<(), Fail> {
+    for (word, begin) in [
+        ("--help", "Trading halts"),
+        ("-h", "Trading halts"),
+        ("help", "Trading halts"),
+        ("--version", "halts 0.1.0\n"),
+        ("-V", "halts 0.1.0\n"),
+    ] {
+        let text = sends(&rt, &["halts", word], b"", Status::Done)?;
+        assert!(rt; text.starts_with(begin.as_bytes()), "of {word}");
+    }
+    let text = sends(&rt, &["halts", "help", "serve"], b"", Status::Done)?;
+    assert!(rt; text.starts_with(b"Answers the frames"));
     Ok(())
 }
 

@@ -1,11 +1,12 @@
-use Rattle.std.proofs.Common.{◌≡◌, map, List, ℕ, sym, ap, subst, ◌∙◌}
-use Rattle.std.specs.Prelude.{None}
-use Rattle.std.proofs.lemmas.List.{drop-map}
+use Rattle.std.proofs.Common.{◌≡◌, map, List, ℕ, ap, subst, ◌∙◌}
+use Rattle.std.specs.Prelude.{[], None, get_or}
 use Rattle.words_core.specs.Plain.{command_of}
 use Rattle.halts.specs.Runs.{Obeyed}
+use Rattle.halts.specs.Words.{asks_for_text}
+use Rattle.halts.proofs.Words.{texts_behind}
 use Rattle.halts.proofs.process.perform.Goals as goal
 
 pub returns-clause-others : goal.returns-clause-others
 returns-clause-others g c =
     subst (λ (words : List (List ℕ)). command_of words ≡ None → Obeyed (c.run.new.host ≡ c.args.host.now) words c.run.result (g.H.Host.outside c.args.host.now) (g.H.Host.outside c.run.new.host))
-    (ap (map (λ w. w.now)) c.words_behind.ensures ∙ sym (drop-map (λ w. w.now) 2 c.args.args.now)) c.run.ensures.others
+    (ap (map (λ w. w.now)) c.words_behind.ensures ∙ texts_behind (asks_for_text (get_or (map (λ w. w.now) c.args.args.now) 1 [])) c.args.args.now) c.run.ensures.others
