@@ -126,6 +126,7 @@ module _ (status : Status) (old new : Outside) (sent_now : (image bytes : List �
     sound = λ disk known is. absurd (at Done is);
     moments = moments;
     part = λ capacity held h. part_of (report_of capacity held) (moments capacity held h);
+    starved = λ capacity held h short. nothing_sent (u.moments h.disk h.known held (covers_held h.holds));
     no_journal = λ is. (at NoJournal is).1;
     no_header = u.no_header;
     unsent = u.unsent;
@@ -134,6 +135,7 @@ module _ (status : Status) (old new : Outside) (sent_now : (image bytes : List �
     damage_is_unsent = λ place disk is known.
         let damage = (at (Damaged place) is).1 disk known in
         nothing_sent (u.moments disk known damage.1 (covers_damaged damage.2));
+    damage_starved = λ capacity place before disk known damage short. nothing_sent (u.moments disk known before (covers_damaged damage));
     disk = keeps.disk;
     input = keeps.input;
     asks = keeps.asks;
@@ -180,26 +182,32 @@ module _ (status : Status) (old new : Outside) (sent_now : (image bytes : List �
       sound = λ disk known is. gathered.sound disk known;
       moments = run;
       part = λ capacity held h. part_of (report_of capacity held) (run capacity held h);
+      starved = λ capacity held h short. (told_at NoMemory short).1 ∙ gathered.unsent capacity held h;
       no_journal = λ is. absurd (told_at NoJournal is);
       no_header = λ disk known missing.
           let held = gathered.sound disk known in absurd (headed disk known held.2 missing);
       unsent = λ is. absurd (told_at NoJournal is);
       damaged = λ place is. absurd (told_at (Damaged place) is);
-      damage_is_told = λ capacity place before disk known damage has.
-          let held = gathered.sound disk known in absurd (lawful_undamaged (subst (λ d. IsDamagedAt capacity place before d) (same known held.2.known) damage) held.2.holds held.2.lawful);
+      damage_is_told = λ capacity place before disk known damage has. absurd (undamaged disk known damage);
       damage_is_unsent = λ place disk is known. absurd (told_at (Damaged place) is);
+      damage_starved = λ capacity place before disk known damage short. absurd (undamaged disk known damage);
       disk = keeps.disk;
       input = keeps.input;
       asks = keeps.asks;
       send_cause = λ is. rw (gathered.none.sending) at (told_at SendFault is);
       disk_cause = λ is. absurd (told_at DiskFault is);
-      memory = λ is. faultless gathered.none (told_at NoMemory is);
+      memory = λ is. faultless gathered.none (told_at NoMemory is).0;
       kind = told_kind status told;
       continues = keeps.continues;
     }
       where
         same : {known : Option (List ℕ)} {a b : List ℕ} → known ≡ Some a → known ≡ Some b → a ≡ b
         same first second = cc
+
+        undamaged : {capacity place : ℕ} {before : List Record} (disk : List ℕ) → old.disk ≡ Some disk → IsDamagedAt capacity place before disk → ⊥
+        undamaged {capacity} {place} {before} disk known damage =
+            let held = gathered.sound disk known in
+            lawful_undamaged (subst (λ d. IsDamagedAt capacity place before d) (same known held.2.known) damage) held.2.holds held.2.lawful
 
         headed : {capacity : ℕ} {held : List Record} (disk : List ℕ) → old.disk ≡ Some disk → IsHeld capacity held old → HasNoHeader disk → ⊥
         headed {capacity} {held} disk known h missing = readable.header h.disk capacity held h.holds (subst HasNoHeader (same known h.known) missing)

@@ -18,11 +18,11 @@ pub record Tells (text : List ℕ) (status : Status) (old new : Outside) : Type 
   pub done : status ≡ Done → new.sent ≡ append_known old.sent text
   pub moments : Elapses old new (SendsPrefix old.sent text old)
 
--- how the sending ended
+-- how the sending ended; where memory was short for the text, nothing was sent
 abbrev pub IsTold : Status → Outside → Outside → Type 0
 IsTold Done old new = Unit {0}
 IsTold SendFault old new = Rose old.send_faults new.send_faults
-IsTold NoMemory old new = NoFault old new
+IsTold NoMemory old new = NoFault old new × (new.sent ≡ old.sent)
 IsTold status old new = ⊥
 
 -- a journal was read to its end: what was read is the lawful list that the disk held, and nothing was sent

@@ -59,6 +59,8 @@ pub record Reported (status : Status) (old new : Outside) : Type 0 where
   -- whenever the run is stopped, and at its end, a prefix of them was sent, and what the disk may be left with is as before
   pub moments : (capacity : ℕ) (held : List Record) → IsHeld capacity held old → Elapses old new (SendsPrefix old.sent (report_of capacity held) old)
   pub part : (capacity : ℕ) (held : List Record) → IsHeld capacity held old → SentPrefix old.sent new.sent (report_of capacity held)
+  -- where memory is short, before the first call of the host, at a record or for the lines, nothing was sent
+  pub starved : (capacity : ℕ) (held : List Record) → IsHeld capacity held old → status ≡ NoMemory → new.sent ≡ old.sent
   -- where no header stands it is told, unless the disk fails or memory is short, and nothing is sent
   pub no_journal : status ≡ NoJournal → (disk : List ℕ) → old.disk ≡ Some disk → HasNoHeader disk
   pub no_header : (disk : List ℕ) → old.disk ≡ Some disk → HasNoHeader disk → TellsNoJournal status
@@ -67,6 +69,7 @@ pub record Reported (status : Status) (old new : Outside) : Type 0 where
   pub damaged : (at : ℕ) → status ≡ Damaged at → (disk : List ℕ) → old.disk ≡ Some disk → (capacity : ℕ) × (before : List Record) × IsDamagedAt capacity at before disk
   pub damage_is_told : (capacity at : ℕ) (before : List Record) (disk : List ℕ) → old.disk ≡ Some disk → IsDamagedAt capacity at before disk → ¬ HasNoHeader disk → TellsDamage at status
   pub damage_is_unsent : (at : ℕ) (disk : List ℕ) → status ≡ Damaged at → old.disk ≡ Some disk → new.sent ≡ old.sent
+  pub damage_starved : (capacity at : ℕ) (before : List Record) (disk : List ℕ) → old.disk ≡ Some disk → IsDamagedAt capacity at before disk → status ≡ NoMemory → new.sent ≡ old.sent
   -- whatever the answer, nothing is written, and no input is read
   pub disk : new.disk ≡ old.disk
   pub input : new.input ≡ old.input
