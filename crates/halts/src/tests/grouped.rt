@@ -58,7 +58,7 @@ fn a_batch_leaves_out_what_is_refused(rt: HostRuntime) -> Result<(), Fail> {
     let [day, first, second, breaker] = fall();
     let t = at(10, 0, 0);
     let lines = [
-        bytes(b"\x0a"),
+        bytes(b"\x01\x0a"),
         refused(Refusal::UnknownType),
         day,
         first,
