@@ -15,7 +15,7 @@ use Rattle.gen_core.specs.Generated.{day_record, listing, name_of, is_clock, ses
 
 pub day_in_range : InRange day_record
 unfolding day_record
-day_in_range = refl
+day_in_range = tt
 
 digit_visible : (n : ℕ) → is_visible (digit n) ≡ true
 digit_visible n = let small : n % 10 < 10 = mod-lt n (omega arith) in grind (arith, nat_tests)

@@ -4,7 +4,9 @@ ghost use Rattle.std.specs.Prelude.{◌≡◌, IfSome, false};
 ghost use Rattle.words_core.specs.Plain.{no_options, with_limit, with_from, with_batch, with_bytes, with_kind, with_seed, with_symbols, with_records, with_option, with_summary, command_with, IsWithin};
 ghost use Rattle.words_core.specs.Commands.{IsInRange};
 
-use crate::command::{BATCH_MAX, BYTES_MAX, Command, LIMIT_MAX, RECORDS_MAX, SYMBOLS_MAX, Verb, kind_of};
+use crate::command::{
+    BATCH_MAX, BYTES_MAX, Command, LIMIT_MAX, RECORDS_MAX, SYMBOLS_MAX, Verb, kind_of,
+};
 use crate::number::number_in;
 use text_core::Kind;
 

@@ -5,7 +5,9 @@ ghost use Rattle.clap.specs.Words.{found_of, first_of, rows_of, subcommand_rows_
 ghost use Rattle.words_core.specs.Commands.{IsInRange};
 ghost use Rattle.words_core.specs.Asked.{number_of, number_if_given, bytes_in, kind_in, is_given, command_from, command_found};
 
-use crate::command::{BATCH_MAX, BYTES_MAX, Command, LIMIT_MAX, RECORDS_MAX, SYMBOLS_MAX, Verb, kind_of};
+use crate::command::{
+    BATCH_MAX, BYTES_MAX, Command, LIMIT_MAX, RECORDS_MAX, SYMBOLS_MAX, Verb, kind_of,
+};
 use crate::number::numeral_in;
 use clap::ArgMatches;
 use text_core::Kind;

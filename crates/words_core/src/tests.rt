@@ -38,11 +38,36 @@ fn plain_lines_ask_for_their_commands(rt: HostRuntime) {
     assert!(rt;
         asks(
             alloc,
-            &["serve", "--bytes", "20", "--from", "7"],
-            Command::Serve { from, bytes: 20 }
+            &["serve", "--bytes", "20", "--from", "7", "--batch", "64"],
+            Command::Serve {
+                from,
+                batch: 64,
+                bytes: 20
+            }
         )
     );
-    assert!(rt; asks(alloc, &["serve"], Command::Serve { from: None, bytes }));
+    assert!(rt;
+        asks(
+            alloc,
+            &["serve"],
+            Command::Serve {
+                from: None,
+                batch: 64,
+                bytes
+            }
+        )
+    );
+    assert!(rt;
+        asks(
+            alloc,
+            &["serve", "--batch", "1"],
+            Command::Serve {
+                from: None,
+                batch: 1,
+                bytes
+            }
+        )
+    );
     assert!(rt; asks(alloc, &["replay"], Command::Replay { bytes }));
     assert!(rt; asks(alloc, &["status"], Command::Status));
     assert!(rt;
@@ -119,9 +144,10 @@ fn other_spellings_are_taken(rt: HostRuntime) {
     assert!(rt;
         asks(
             alloc,
-            &["serve", "--from=2"],
+            &["serve", "--from=2", "--batch=5"],
             Command::Serve {
                 from: Some(2),
+                batch: 5,
                 bytes: 1_099_511_627_776
             }
         )
