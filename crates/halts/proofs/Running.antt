@@ -15,7 +15,7 @@ use Rattle.halts.specs.Runs.{Ran, Did, Obeyed, Answered}
 -- a command never answers Usage
 pub understood : (unbegun : Type 0) (command : Command) (status : status.Status) (old new : Outside) → Ran unbegun command status old new → status ≢ statuses.Usage
 understood unbegun (Format limit) status old new ran is = grind (arith, ran.kind, is)
-understood unbegun (Serve from bytes) status old new ran is = ran.kind.understood is
+understood unbegun (Serve from batch bytes) status old new ran is = ran.kind.understood is
 understood unbegun (Replay bytes) status old new ran is = grind (arith, ran.kind, is)
 understood unbegun Status status old new ran is = grind (arith, ran.kind, is)
 understood unbegun (Print kind) status old new ran is = grind (arith, ran.kind, is)

@@ -614,16 +614,17 @@ fn a_led_market_gives_its_own_messages_alone(rt: HostRuntime) -> Result<(), Fail
 }
 
 /// 201 stocks trade from 10:00:00 on, the one in the middle within bands around 20.00 dollars.
-fn begin_trading(alloc: Global, market: &mut Market) -> Result<(), Fail> {
+fn trading(alloc: Global) -> Result<Vec<Record>, Fail> {
+    let early = at(9, 0, 0, 0)?;
     let start = at(10, 0, 0, 0)?;
-    let mut out = Vec::new(alloc);
-    market.apply(&day(3)?, &mut out)?;
+    let mut xs = Vec::new(alloc);
+    xs.push(day(3)?)?;
     for number in 0..201 {
-        market.apply(&listing(at(9, 0, 0, 0)?, name(number))?, &mut out)?;
+        xs.push(listing(early, name(number))?)?;
     }
-    market.apply(&clock(start), &mut out)?;
-    market.apply(&opening(start, 100)?, &mut out)?;
-    Ok(())
+    xs.push(clock(start))?;
+    xs.push(opening(start, 100)?)?;
+    Ok(xs)
 }
 
 /// After these records such a market gives nothing at a clock a nanosecond before a moment, and at one exactly these
@@ -634,22 +635,18 @@ fn expect_at_clock<R: Abort + AllocGlobal>(
     t: Moment,
     want: &[Message],
 ) -> Result<(), Fail> {
-    let mut market = Market::new(rt.alloc())?;
-    begin_trading(rt.alloc(), &mut market)?;
-    let mut out = Vec::new(rt.alloc());
-    for x in xs {
-        market.apply(x, &mut out)?;
-    }
-    out.clear();
-    let before = Moment::new(t.nanos().saturating_sub(1))?;
-    market.apply(&clock(before), &mut out)?;
-    assert_eq!(rt; out.len(), 0);
-    market.apply(&clock(t), &mut out)?;
+    let mut records = trading(rt.alloc())?;
+    records.extend_from_slice(xs)?;
+    let count = applied(rt.alloc(), &records)?.len();
+    records.push(clock(Moment::new(t.nanos().saturating_sub(1))?))?;
+    assert_eq!(rt; applied(rt.alloc(), &records)?.len(), count);
+    records.push(clock(t))?;
     let mut expected = Vec::new(rt.alloc());
     for message in want {
         expected.push(said(t, *message))?;
     }
-    assert!(rt; out.as_slice() == expected.as_slice());
+    let given = applied(rt.alloc(), &records)?;
+    assert!(rt; given.get(count..) == Some(expected.as_slice()));
     Ok(())
 }
 

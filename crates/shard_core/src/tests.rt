@@ -150,12 +150,12 @@ fn session(alloc: Global, symbols: u16, count: u32) -> Result<Vec<Record>, Fail>
     requires count { count ≤ 10000 }
 {
     let mut xs = Vec::new(alloc);
-    xs.push(day(3)?)?;
+    xs.extend_from_slice(&[day(3)?])?;
     for symbol in 0..symbols {
-        xs.push(listing(65 + symbol as u8)?)?;
+        xs.extend_from_slice(&[listing(65 + symbol as u8)?])?;
     }
     for index in 0..count {
-        xs.push(of_session(index, symbols)?)?;
+        xs.extend_from_slice(&[of_session(index, symbols)?])?;
     }
     Ok(xs)
 }
@@ -165,15 +165,17 @@ fn whole<R: AllocGlobal>(rt: &R, xs: &[Record]) -> Result<Vec<Tagged>, Fail> {
     let mut market = Market::new(rt.alloc())?;
     let mut said = Vec::new(rt.alloc());
     let mut all = Vec::new(rt.alloc());
-    for (input, x) in xs.iter().enumerate() {
+    let mut input = 0u32;
+    for x in xs {
         said.clear();
         market.apply(x, &mut said)?;
         for stamped in &said {
             all.push(Tagged {
-                input: input as u32,
+                input,
                 stamped: *stamped,
             })?;
         }
+        input = input.wrapping_add(1);
     }
     Ok(all)
 }
