@@ -618,12 +618,11 @@ fn trading(alloc: Global) -> Result<Vec<Record>, Fail> {
     let early = at(9, 0, 0, 0)?;
     let start = at(10, 0, 0, 0)?;
     let mut xs = Vec::new(alloc);
-    xs.push(day(3)?)?;
+    xs.extend_from_slice(&[day(3)?])?;
     for number in 0..201 {
-        xs.push(listing(early, name(number))?)?;
+        xs.extend_from_slice(&[listing(early, name(number))?])?;
     }
-    xs.push(clock(start))?;
-    xs.push(opening(start, 100)?)?;
+    xs.extend_from_slice(&[clock(start), opening(start, 100)?])?;
     Ok(xs)
 }
 
@@ -638,9 +637,10 @@ fn expect_at_clock<R: Abort + AllocGlobal>(
     let mut records = trading(rt.alloc())?;
     records.extend_from_slice(xs)?;
     let count = applied(rt.alloc(), &records)?.len();
-    records.push(clock(Moment::new(t.nanos().saturating_sub(1))?))?;
+    let before = Moment::new(t.nanos().saturating_sub(1))?;
+    records.extend_from_slice(&[clock(before)])?;
     assert_eq!(rt; applied(rt.alloc(), &records)?.len(), count);
-    records.push(clock(t))?;
+    records.extend_from_slice(&[clock(t)])?;
     let mut expected = Vec::new(rt.alloc());
     for message in want {
         expected.push(said(t, *message))?;
