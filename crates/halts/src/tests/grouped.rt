@@ -2,11 +2,12 @@
 use super::{fall, fresh, made, run, runs};
 use host_core::Status;
 use memory_host::MemoryHost;
+use session_core::Level;
 use std::alloc::Global;
 use std::process::Abort;
 use std::test::Fail;
 use std::thread::Threads;
-use test_days::lines::{at, bytes, refused, tick};
+use test_days::lines::{at, breaker, bytes, day, refused, tick};
 use test_days::{Session, worked_days};
 use wire_in::Refusal;
 
@@ -32,7 +33,8 @@ fn two_frames_and_then_one_make_two_batches(rt: HostRuntime) -> Result<(), Fail>
     let day = Session::of(rt.alloc(), &fall())?;
     let words = ["serve", "--batch", "2"];
     let disk = runs(&rt, &words, &empty, &day.input, &day.served, Status::Done)?;
-    let (two, one) = day.input.split_at(34);
+    let two = day.input.get(..34).unwrap_or(&[]);
+    let one = day.input.get(34..).unwrap_or(&[]);
     assert!(rt; disk == journal_of(rt.alloc(), &[(34, two), (14, one)])?);
     Ok(())
 }
@@ -45,8 +47,9 @@ fn a_batch_ends_with_what_one_read_gave(rt: HostRuntime) -> Result<(), Fail> {
     host.pieces(20, 7);
     assert_eq!(rt; run(&rt, rt.alloc(), &["serve"], &mut host), Status::Done);
     assert!(rt; host.sent() == day.served.as_slice());
-    let (first, later) = day.input.split_at(20);
-    let (second, third) = later.split_at(14);
+    let first = day.input.get(..20).unwrap_or(&[]);
+    let second = day.input.get(20..34).unwrap_or(&[]);
+    let third = day.input.get(34..).unwrap_or(&[]);
     let batches = [(20, first), (14, second), (14, third)];
     assert!(rt; host.disk() == journal_of(rt.alloc(), &batches)?.as_slice());
     Ok(())
@@ -55,17 +58,16 @@ fn a_batch_ends_with_what_one_read_gave(rt: HostRuntime) -> Result<(), Fail> {
 #[test]
 fn a_batch_leaves_out_what_is_refused(rt: HostRuntime) -> Result<(), Fail> {
     let empty = made(&rt, &["format", "--limit", "3"])?;
-    let [day, first, second, breaker] = fall();
     let t = at(10, 0, 0);
     let lines = [
         bytes(b"\x01\x0a"),
         refused(Refusal::UnknownType),
-        day,
-        first,
+        day(3),
+        tick(t, 465_001),
         tick(at(9, 0, 0), 400_000),
         refused(Refusal::OutOfOrder),
-        second,
-        breaker,
+        tick(t, 465_000),
+        breaker(Level::One, 465_000),
         tick(t, 400_000),
         refused(Refusal::JournalFull),
     ];
@@ -121,7 +123,8 @@ fn sessions_with_batches_of_different_sizes_go_on_from_one_another(
     rt: HostRuntime,
 ) -> Result<(), Fail> {
     let alloc = rt.alloc();
-    let whole = fall();
+    let lines = fall();
+    let whole = lines.as_slice();
     for (first, then) in [("1", "64"), ("64", "1"), ("2", "63")] {
         let disk = fresh(&rt)?;
         let day = Session::of(alloc, &whole[..2])?;

@@ -80,7 +80,7 @@ fn stopped<Rt: Abort + AllocGlobal + Threads + Sync>(
 ) -> Result<bool, Fail> {
     let whole = first(rt, 3)?;
     let mut host = MemoryHost::new(rt.alloc(), &whole.input, disk)?;
-    host.pieces(way.read, 7);
+    host.pieces(way.read.max(1), 7);
     host.stop_at(nth.max(1));
     let words = ["serve", "--batch", way.batch];
     let status = run(rt, rt.alloc(), &words, &mut host);
@@ -137,7 +137,7 @@ fn failed_in_turn<Rt: Abort + AllocGlobal + Threads + Sync>(
     let words = ["serve", "--batch", way.batch];
     for nth in 1..16u64 {
         let mut host = MemoryHost::new(rt.alloc(), &whole.input, &disk)?;
-        host.pieces(way.read, 7);
+        host.pieces(way.read.max(1), 7);
         host.fail(call, nth)?;
         let status = run(rt, rt.alloc(), &words, &mut host);
         assert!(rt; status == Status::Done || status == fault_of(call));
