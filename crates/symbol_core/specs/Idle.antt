@@ -1,5 +1,5 @@
 -- When a clock or an index tick finds nothing to say of a symbol. Private words: no public clause cites them.
-use Rattle.std.specs.Prelude.{◌≡◌, ◌+◌, ◌<◌, ◌≤◌, ℕ, Bool, true, false, nat_lt, Option, Some, None, List, ◌&&◌, ◌||◌, not, is_some, unwrap_or}
+use Rattle.std.specs.Prelude.{◌≡◌, ◌+◌, ◌++◌, ◌<◌, ◌≤◌, ℕ, Bool, true, false, nat_lt, Option, Some, None, List, ◌&&◌, ◌||◌, not, is_some, option_to_list, unwrap_or}
 use Rattle.std.specs.Option.{option_map_or}
 use Rattle.price_core.specs.declared.quote.Quotation.{Quotation}
 use Rattle.session_core.specs.declared.day.Day.{Day}
@@ -11,7 +11,7 @@ use Rattle.wire_in.specs.declared.record.Record.TheVariants as in_
 use Rattle.wire_in.specs.Records.{is_tick}
 use Rattle.limit_core.specs.Timers.{has_lasted}
 use Rattle.pause_core.specs.Phases.{can_market_halt, can_start, is_done, is_in_regulatory_halt, is_limit, is_trading}
-use Rattle.refprice_core.specs.Prices.{has_stood, is_in_opening_period}
+use Rattle.refprice_core.specs.Prices.{has_stood, is_in_opening_period, moved_price}
 use Rattle.window_core.specs.declared.window.Deal.{Deal}
 use Rattle.window_core.specs.Deals.{live, mean_of}
 use Rattle.rulebook.specs.declared.symbol.Banded.{Banded}
@@ -140,3 +140,25 @@ awaits_mean k t = awaits_after k t k.band
 -- the symbol once a quotation of its run is taken in at a moment, and nothing else
 abbrev pub quoted : Held → ℕ → Quotation → Held
 quoted held t quote = record { kept = with_quote held.kept (Some quote); deals = live t held.deals }
+
+-- a trade, a clock or an index tick
+abbrev pub brings_deal_or_time : Record → Bool
+brings_deal_or_time (in_.Trade t symbol number price size flags) = true
+brings_deal_or_time (in_.IndexTick t value) = true
+brings_deal_or_time (in_.Clock t) = true
+brings_deal_or_time x = false
+
+-- a mean is no new reference price at a moment: the stock isn't trading, or it has bands whose reference price stays
+abbrev pub keeps_price : Kept → ℕ → Option ℕ → Bool
+keeps_price k t mean = not (is_trading k.phase) || option_map_or (λ b. not (is_some (moved_price (adoption k b) t mean))) k.band false
+
+-- no rule says anything at a moment, and from then on until another only a new reference price can come
+pub record IsStill (k : Kept) (deals : List Deal) (due : Due) : Type 0 where
+  pub rested : IsRested k
+  pub settled : IsSettled k due.market.stopped
+  pub waits : Waits k due.market.day due.market.stopped due.from due.waits
+  pub keeps : keeps_price k due.from (mean_of deals) ≡ true
+
+-- the symbol once a trade or a tick is taken in at a moment, with the deal that it brings, and nothing else
+abbrev pub dealt : Held → ℕ → Option Deal → Held
+dealt held t deal = record { kept = held.kept; deals = live t held.deals ++ option_to_list deal }

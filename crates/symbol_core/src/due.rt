@@ -40,7 +40,7 @@ pub struct Due {
     pub market: MarketView,
 }
 
-fn is_same(a: &MarketView, b: &MarketView) -> bool
+pub fn is_same(a: &MarketView, b: &MarketView) -> bool
     ensures { result ≡ true → a.now ≡ b.now }
 {
     a == b
@@ -132,7 +132,7 @@ fn close_of(day: &Day) -> u64
     close_moment(day).nanos()
 }
 
-fn earlier(a: u64, b: u64) -> u64
+pub fn earlier(a: u64, b: u64) -> u64
     ensures first { result ≤ a }
     ensures second { result ≤ b }
 {
@@ -302,7 +302,7 @@ impl Kept {
         )
     }
 
-    fn is_out(&self) -> bool
+    pub fn is_out(&self) -> bool
         ensures { result ≡ is_out self.now }
     {
         is_done(self.phase) || !self.terms.is_some()

@@ -5,6 +5,7 @@ mod bands;
 mod chain;
 mod due;
 mod kept;
+mod passing;
 mod pausing;
 mod records;
 mod reopening;

@@ -6,20 +6,21 @@ ghost use Rattle.rulebook.specs.declared.event.Event.{Event};
 ghost use Rattle.rulebook.specs.Symbol as of;
 ghost use Rattle.rulebook.specs.Symbol.{traded_price};
 ghost use Rattle.symbol_core.specs.Evaluates.{most_of_symbol};
-ghost use Rattle.symbol_core.specs.Idle.{IsDue, IsRested, IsSettled, Waits, WaitsAt, quoted};
+ghost use Rattle.symbol_core.specs.Idle.{IsDue, IsRested, IsSettled, IsStill, Waits, WaitsAt, dealt, quoted};
 ghost use Rattle.symbol_core.specs.Stands.{Speaks};
 ghost use Rattle.symbol_core.specs.Steps.{Steps};
 ghost use Rattle.symbol_core.specs.Taken.{deal_of};
 
 use crate::due::Due;
 use crate::kept::{Kept, Step};
+use crate::passing::{add_one, brings_deal_or_time, deal_in, reserve_deal};
 use crate::records::{quoted_by, traded_price};
 use crate::taking::{drop_cancelled, keep_deals};
 use price_core::{NoMemory, Quotation};
 use session_core::{Day, Moment, Phase};
 use std::alloc::Global;
 use std::marker::Model;
-use window_core::Window;
+use window_core::{Deal, Window};
 use wire_in::Record;
 use wire_out::Message;
 
@@ -56,6 +57,13 @@ impl Model for Symbol {
 #[derive(Clone, Copy, Debug)]
 struct Passed {
     quote: Quotation,
+    due: Due,
+}
+
+/// What a trade or a tick brings at which no rule says anything, and when the stock was due before it.
+#[derive(Clone, Copy, Debug)]
+struct PassedTrade {
+    deal: Option<Deal>,
     due: Due,
 }
 
@@ -205,6 +213,42 @@ impl Symbol {
         self.due = Some(passed.due);
     }
 
+    /// What a trade or a tick brings, where it and its moment bring nothing else.
+    fn passes_trade(&self, x: &Record, market: &MarketView) -> Option<PassedTrade>
+        ensures nothing { IfSome result (λ passed. (before : List Said) → Evaluates market.now x.now self.now (dealt self.now (moment_of x.now) passed.deal) before before) }
+        ensures deal { IfSome result (λ passed. passed.deal ≡ deal_of market.now.day self.now.kept.id x.now) }
+        ensures still { IfSome result (λ passed. IsStill self.now.kept (dealt self.now (moment_of x.now) passed.deal).deals passed.due) }
+    {
+        let deal = deal_in(self.kept.id, x, &market.day);
+        match &self.due {
+            Some(due)
+                if brings_deal_or_time(x)
+                    && due.waits_for(x.moment(), market)
+                    && self.kept.stays_still(x.moment(), &deal, &self.deals) => {
+                Some(PassedTrade {
+                    deal,
+                    due: due.since(x.moment()),
+                })
+            }
+            _ => None,
+        }
+    }
+
+    /// Takes a trade or a tick in that brings nothing but a deal, and removes the trades that are five minutes old. Out of
+    /// memory, it changes nothing.
+    fn pass_trade(&mut self, t: Moment, passed: &PassedTrade) -> Result<(), NoMemory>
+        requires { IsStill self.old.kept (dealt self.old t passed.now.deal).deals passed.now.due }
+        ensures ok { OnOk result (self.new ≡ dealt self.old t passed.now.deal) }
+        ensures err { OnErr result (self.new ≡ self.old) }
+        ensures succeeds { passed.now.deal ≡ None → IsOk result }
+    {
+        reserve_deal(&passed.deal, &mut self.deals)?;
+        self.deals.advance(t);
+        add_one(&passed.deal, &mut self.deals);
+        self.due = Some(self.kept.due_still(&passed.due, &self.deals));
+        Ok(())
+    }
+
     /// Evaluates a record: appends what it announces of the symbol and what the rules then give. It appends nothing at a
     /// Day record, which begins the day, nor at a clock or an index tick of a day on which the symbol isn't listed. Out of
     /// memory, it changes nothing; that can't come of room for its messages and a record that is no eligible trade of the
@@ -237,6 +281,9 @@ impl Symbol {
         if let Some(passed) = self.passes_quote(x, market) {
             self.pass_quote(x.moment(), &passed);
             return Ok(());
+        }
+        if let Some(passed) = self.passes_trade(x, market) {
+            return self.pass_trade(x.moment(), &passed);
         }
         self.obey(x, market, out)
     }

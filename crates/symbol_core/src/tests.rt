@@ -468,3 +468,157 @@ fn a_first_mean_comes_by_a_clock_alone_after_five_minutes(rt: HostRuntime) -> Re
         ],
     )
 }
+
+/// A trade that many nanoseconds after 09:30:00.
+fn trade_after(nanos: u64, number: u32, price: u64, flags: u16) -> Result<Record, Fail> {
+    Ok(Record::Trade {
+        moment: after_open(nanos)?,
+        symbol: 0,
+        number,
+        price: Price::new(price)?,
+        size: 100,
+        flags,
+    })
+}
+
+#[test]
+fn a_trade_moves_the_bands_from_one_per_cent_and_from_30_seconds_on(
+    rt: HostRuntime,
+) -> Result<(), Fail> {
+    let early = trade_after(29_999_999_999, 2, 509_997, 0)?;
+    let below = trade_after(30_000_000_000, 3, 505_001, 0)?;
+    let ineligible = trade_after(30_000_000_000, 4, 900_000, 2)?;
+    let at_one_per_cent = trade_after(30_000_000_001, 5, 505_004, 0)?;
+    expect_messages(
+        &rt,
+        &[
+            new_day(3)?,
+            listing(500_000)?,
+            clock(34_200)?,
+            trade(34_200, 1, 500_000, 1)?,
+            early,
+            below,
+            ineligible,
+            at_one_per_cent,
+        ],
+        &[
+            listed(),
+            state(Phase::Trading),
+            band(Cause::First, 500_000, 475_000, 525_000)?,
+            band(Cause::Moved, 505_001, 479_800, 530_300)?,
+        ],
+    )
+}
+
+#[test]
+fn a_trade_of_the_first_30_seconds_moves_no_band_before_they_are_over(
+    rt: HostRuntime,
+) -> Result<(), Fail> {
+    let far = trade_after(29_999_999_998, 2, 520_000, 0)?;
+    let a_nanosecond_early = trade_after(29_999_999_999, 3, 510_000, 0)?;
+    let then = trade_after(30_000_000_000, 4, 510_000, 0)?;
+    expect_messages(
+        &rt,
+        &[
+            new_day(3)?,
+            listing(500_000)?,
+            clock(34_200)?,
+            trade(34_200, 1, 500_000, 1)?,
+            far,
+            a_nanosecond_early,
+            then,
+        ],
+        &[
+            listed(),
+            state(Phase::Trading),
+            band(Cause::First, 500_000, 475_000, 525_000)?,
+            band(Cause::Moved, 510_000, 484_500, 535_500)?,
+        ],
+    )
+}
+
+#[test]
+fn among_trades_that_bring_nothing_the_first_at_ten_per_cent_triggers(
+    rt: HostRuntime,
+) -> Result<(), Fail> {
+    expect_messages(
+        &rt,
+        &[
+            new_day(3)?,
+            listing(200_000)?,
+            clock(34_200)?,
+            trade(34_200, 1, 180_001, 1)?,
+            trade(34_231, 2, 180_001, 0)?,
+            trade(34_232, 3, 170_000, 2)?,
+            trade(34_233, 4, 180_000, 0)?,
+            trade(34_234, 5, 180_000, 0)?,
+            trade(34_235, 6, 180_001, 0)?,
+        ],
+        &[
+            listed(),
+            state(Phase::Trading),
+            band(Cause::First, 180_001, 171_000, 189_000)?,
+            Message::Short {
+                symbol: 0,
+                kind: ShortKind::Triggered,
+            },
+        ],
+    )
+}
+
+#[test]
+fn a_tick_at_which_an_old_trade_leaves_finds_the_next_due(rt: HostRuntime) -> Result<(), Fail> {
+    let two_trades = [
+        new_day(3)?,
+        listing(500_000)?,
+        clock(34_200)?,
+        trade(34_210, 1, 500_000, 1)?,
+        trade(34_260, 2, 500_000, 0)?,
+    ];
+    assert_eq!(rt; due_after(&rt, false, &two_trades)?, Some(34_510));
+    let first_leaves = [
+        new_day(3)?,
+        listing(500_000)?,
+        clock(34_200)?,
+        trade(34_210, 1, 500_000, 1)?,
+        trade(34_260, 2, 500_000, 0)?,
+        clock(34_510)?,
+    ];
+    assert_eq!(rt; due_after(&rt, false, &first_leaves)?, Some(34_560));
+    let both_leave = [
+        new_day(3)?,
+        listing(500_000)?,
+        clock(34_200)?,
+        trade(34_210, 1, 500_000, 1)?,
+        trade(34_260, 2, 500_000, 0)?,
+        clock(34_510)?,
+        clock(34_560)?,
+    ];
+    assert_eq!(rt; due_after(&rt, false, &both_leave)?, Some(35_100));
+    Ok(())
+}
+
+#[test]
+fn trades_of_a_limit_state_count_once_it_is_over(rt: HostRuntime) -> Result<(), Fail> {
+    expect_messages(
+        &rt,
+        &[
+            new_day(3)?,
+            listing(500_000)?,
+            clock(34_200)?,
+            trade(34_200, 1, 500_000, 1)?,
+            quote(36_000, 474_900, 475_000)?,
+            trade(36_001, 2, 475_000, 0)?,
+            trade(36_002, 3, 477_000, 0)?,
+            quote(36_003, 474_900, 476_000)?,
+        ],
+        &[
+            listed(),
+            state(Phase::Trading),
+            band(Cause::First, 500_000, 475_000, 525_000)?,
+            state(Phase::LimitLow),
+            state(Phase::Trading),
+            band(Cause::Forced, 476_000, 452_200, 499_800)?,
+        ],
+    )
+}

@@ -1,0 +1,256 @@
+-- A trade or a tick at which no rule says anything, where time could bring a new reference price.
+use Rattle.std.proofs.Common.{arith, ◌≡◌, ℕ, ◌<◌, ◌≤◌, Bool, true, false, cond, List, [], ◌++◌, refl, sym, ap, ◌∙◌, subst}
+use Rattle.std.specs.Prelude.{Option, Some, None, if◌then◌else◌, ◌==◌, ◌&&◌, ◌||◌, not, filter, is_some, option_to_list}
+use Rattle.std.specs.Option.{option_map_or}
+use Rattle.price_core.specs.Moves.{moved_one_percent}
+use Rattle.price_core.specs.declared.quote.Cause.TheVariants.{Moved}
+use Rattle.pause_core.specs.Phases.{is_done, is_trading}
+use Rattle.refprice_core.specs.declared.reference.Adoption.{Adoption}
+use Rattle.refprice_core.specs.Prices.{because, forced, has_stood, moved_price}
+use Rattle.rulebook.specs.declared.symbol.Banded.{Banded}
+use Rattle.rulebook.specs.Auction.{indicated_by}
+use Rattle.rulebook.specs.Rules.{or_else}
+use Rattle.rulebook.specs.Symbol.{traded_price}
+use Rattle.eligible_core.specs.Conditions.{eligible}
+use Rattle.session_core.specs.declared.day.Day.{Day}
+use Rattle.wire_in.specs.declared.record.Record.{Record}
+use Rattle.wire_in.specs.declared.record.Record.TheVariants as in_
+use Rattle.wire_in.specs.Records.{is_day, is_tick, moment_of}
+use Rattle.wire_out.specs.declared.message.Message.{Message}
+use Rattle.window_core.specs.declared.window.Deal.{Deal}
+use Rattle.window_core.specs.Deals.{live, mean_of}
+use Rattle.symbol_core.specs.declared.due.Due.{Due}
+use Rattle.symbol_core.specs.declared.kept.Kept.{Kept}
+use Rattle.symbol_core.specs.declared.kept.Step.{Step}
+use Rattle.symbol_core.specs.declared.symbol.MarketView.{MarketView}
+use Rattle.symbol_core.specs.Evaluates.{Evaluates}
+use Rattle.symbol_core.specs.Idle.{IsDue, IsIdle, IsRested, IsSettled, IsStill, PricesFrom, Waits, WaitsAt, brings_deal_or_time, comes_often, dealt, is_out, keeps_price}
+use Rattle.symbol_core.specs.Kept.{heard, quoted_by}
+use Rattle.symbol_core.specs.Pricing.{adoption, later_price, reference}
+use Rattle.symbol_core.specs.Steps.{Steps}
+use Rattle.symbol_core.specs.Taken.{cancelled_by, deal_of, finished, halted_by, leaves, listed_by, prior_close_by, taken, triggers_by}
+use Rattle.symbol_core.specs.Window.{SameLive, window}
+use Rattle.symbol_core.proofs.Cancels.{leaves-all}
+use Rattle.symbol_core.proofs.Evaluated.{away, step-evaluated, step_for}
+use Rattle.symbol_core.proofs.Live.{live-added, live-own, same-added}
+use Rattle.symbol_core.proofs.Quiet.{speaks-quiet, waits-due, waits-taken}
+use Rattle.symbol_core.proofs.Steps.{step-evaluates}
+use Rattle.symbol_core.proofs.Waiting.{prices-moved}
+
+same_either : {X : Type 0} (b : Bool) (x : X) → cond b x x ≡ x
+same_either true x = refl
+same_either false x = refl
+
+not_some : {X : Type 0} (o : Option X) → not (is_some o) ≡ true → o ≡ None
+not_some None e = refl
+not_some (Some x) e = absurd cc
+
+-- The mean.
+
+-- a mean is no new reference price before 30 seconds have passed, nor where it hasn't moved
+pub keeps-tested : (a : Adoption) (t : ℕ) (mean : Option ℕ) → (not (has_stood a t) || not (option_map_or (λ m. moved_one_percent m a.price) mean false)) ≡ not (is_some (moved_price a t mean))
+keeps-tested a t None = by (has_stood a t) where
+  by : (stood : Bool) → (not stood || true) ≡ true
+  by true = refl
+  by false = refl
+keeps-tested a t (Some m) = by (has_stood a t) (moved_one_percent m a.price) where
+  by : (stood moves : Bool) → (not stood || not moves) ≡ not (is_some (if moves && stood then Some m else None))
+  by true true = refl
+  by true false = refl
+  by false true = refl
+  by false false = refl
+
+-- and then there is none
+pub kept-none : (k : Kept) (step : Step) (mean : Option ℕ) → k.left_limit ≡ false → keeps_price k step.moment mean ≡ true → reference k step mean ≡ None
+kept-none k step mean left keeps =
+    (λ i. if not (is_trading k.phase) then None else if left i then forced mean else later_price k step mean k.band) ∙ by (is_trading k.phase) k.band keeps
+  where
+    by : (trading : Bool) (o : Option Banded) → (not trading || option_map_or (λ b. not (is_some (moved_price (adoption k b) step.moment mean))) o false) ≡ true → (if not trading then None else later_price k step mean o) ≡ None
+    by false o e = refl
+    by true None e = absurd cc
+    by true (Some b) e = ap (because Moved) (not_some (moved_price (adoption k b) step.moment mean) e)
+
+-- until the next moment at which one may come
+pub moves-after : (k : Kept) (b : Banded) (deals : List Deal) (t until : ℕ) → IsRested k → k.band ≡ Some b → not (is_some (moved_price (adoption k b) t (mean_of deals))) ≡ true → has_stood (adoption k b) t ≡ true
+    → ((u : ℕ) → u < until → live u deals ≡ deals) → PricesFrom k deals t until
+moves-after k b deals t until rested is keeps stood all = prices-moved k b deals t until rested is stood (not_some (moved_price (adoption k b) t (mean_of deals)) keeps) all
+
+pub keeps-banded : (k : Kept) (b : Banded) (t : ℕ) (mean : Option ℕ) → is_trading k.phase ≡ true → k.band ≡ Some b → keeps_price k t mean ≡ true → not (is_some (moved_price (adoption k b) t mean)) ≡ true
+keeps-banded k b t mean trading is keeps = (λ i. not (sym trading i) || option_map_or (λ b. not (is_some (moved_price (adoption k b) t mean))) (sym is i) false) ∙ keeps
+
+-- The record.
+
+-- what a trade or a tick leaves as it was
+record IsPlain (k : Kept) (x : Record) : Type 0 where
+  pub often : comes_often x ≡ true
+  pub no_day : is_day x ≡ false
+  pub listed : listed_by x k.terms ≡ k.terms
+  pub quoted : quoted_by k.id x ≡ None
+  pub halted : halted_by k.id x k.halted ≡ k.halted
+  pub indicated : indicated_by k.id x ≡ None
+  pub prior_close : prior_close_by x k.short.prior_close ≡ k.short.prior_close
+  pub cancels : cancelled_by k.id x ≡ None
+
+plain : (k : Kept) (x : Record) → brings_deal_or_time x ≡ true → IsPlain k x
+plain held (in_.Trade t i n p q f) e = record { often = refl; no_day = refl; listed = refl; quoted = refl; halted = refl; indicated = refl; prior_close = refl; cancels = refl }
+plain held (in_.IndexTick t v) e = record { often = refl; no_day = refl; listed = refl; quoted = refl; halted = refl; indicated = refl; prior_close = refl; cancels = refl }
+plain held (in_.Clock t) e = record { often = refl; no_day = refl; listed = refl; quoted = refl; halted = refl; indicated = refl; prior_close = refl; cancels = refl }
+plain held (in_.Day t d c) e = absurd cc
+plain held (in_.Listing t name tier l c) e = absurd cc
+plain held (in_.Cancel t i n) e = absurd cc
+plain held (in_.Quote t i bid offer y z) e = absurd cc
+plain held (in_.Notice t i kind) e = absurd cc
+plain held (in_.Indication t i p u) e = absurd cc
+
+-- no deal of a record that is no eligible trade
+pub none-traded : (day : Day) (s : ℕ) (x : Record) (o : Option Deal) → o ≡ deal_of day s x → traded_price day s x ≡ None → o ≡ None
+none-traded day s x o is none = is ∙ by x none where
+  one : (counts : Bool) (p : ℕ) (d : Deal) → (if counts then Some p else None) ≡ None → (if counts then Some d else None) ≡ None
+  one true p d e = absurd cc
+  one false p d e = refl
+
+  by : (x : Record) → traded_price day s x ≡ None → deal_of day s x ≡ None
+  by (in_.Trade t i n p q f) e = one ((i == s) && eligible f t day) p (record { moment = t; number = n; price = p }) e
+  by (in_.Day t d c) e = refl
+  by (in_.Listing t name tier l c) e = refl
+  by (in_.Cancel t i n) e = refl
+  by (in_.Quote t i bid offer y z) e = refl
+  by (in_.IndexTick t v) e = refl
+  by (in_.Clock t) e = refl
+  by (in_.Notice t i kind) e = refl
+  by (in_.Indication t i p u) e = refl
+
+-- the restriction stays where the deal isn't the first to trigger it
+stays_triggered : (a b : Bool) → (a && not b) ≡ false → (a || b) ≡ b
+stays_triggered true true e = refl
+stays_triggered true false e = absurd cc
+stays_triggered false b e = refl
+
+is_here : (k : Kept) (x : Record) → is_out k ≡ false → away x k.terms ≡ false
+is_here k x inside = by (is_tick x) (is_done k.phase) (is_some k.terms) inside where
+  by : (tick done listed : Bool) → (done || not listed) ≡ false → (tick && not listed) ≡ false
+  by tick true listed e = absurd cc
+  by tick false false e = absurd cc
+  by true false true e = refl
+  by false false true e = refl
+
+module _ (market : MarketView) (x : Record) (k : Kept) (deals : List Deal) (due : Due) (deal : Option Deal)
+    (is : IsDue (Some due) k deals) (kind : brings_deal_or_time x ≡ true) (from : due.from ≤ moment_of x) (until : moment_of x < due.waits) (same : market ≡ due.market) (own : deal ≡ deal_of market.day k.id x)
+    (inside : is_out k ≡ false) (counts : (if is_some k.begun then option_to_list deal else []) ≡ option_to_list deal) (restricts : (triggers_by k.short.prior_close deal && not k.short.triggered) ≡ false)
+    (keeps : keeps_price k (moment_of x) (mean_of (live (moment_of x) (deals ++ option_to_list deal))) ≡ true) where
+  abbrev t : ℕ
+  t = moment_of x
+
+  abbrev step : Step
+  step = step_for market x
+
+  abbrev left : List Deal
+  left = live t deals ++ option_to_list deal
+
+  idle : IsIdle k deals due
+  idle = is inside
+
+  of_plain : IsPlain k x
+  of_plain = plain k x kind
+
+  -- the kept state once the record is taken in
+  abbrev with_it : Kept
+  with_it = record k { left_limit = false; released = None; deal = deal; is_fresh = false; restricts = false }
+
+  took : taken k step ≡ with_it
+  took =
+      (λ j. record k {
+        terms = of_plain.listed j;
+        quote = if is_some k.begun then or_else (of_plain.quoted j) k.quote else k.quote;
+        halted = of_plain.halted j;
+        auction = heard (of_plain.indicated j) k.auction;
+        left_limit = false;
+        released = None;
+        deal = sym own j;
+        is_fresh = false;
+        short = record k.short { prior_close = of_plain.prior_close j; triggered = triggers_by (of_plain.prior_close j) (sym own j) || k.short.triggered };
+        restricts = triggers_by (of_plain.prior_close j) (sym own j) && not k.short.triggered;
+      })
+      ∙ (λ j. record k {
+        quote = same_either (is_some k.begun) k.quote j;
+        left_limit = false;
+        released = None;
+        deal = deal;
+        is_fresh = false;
+        short = record k.short { triggered = stays_triggered (triggers_by k.short.prior_close deal) k.short.triggered restricts j };
+        restricts = restricts j;
+      })
+
+  -- and once its step is over
+  over : k ≡ finished (taken k step)
+  over =
+      (λ j. record k { left_limit = idle.rested.left_limit j; released = idle.rested.released j; deal = idle.rested.deal j; is_fresh = idle.rested.is_fresh j; restricts = idle.rested.restricts j })
+      ∙ ap finished (sym took)
+
+  abbrev stayed : List Deal
+  stayed = live t (filter (leaves k.id x) deals)
+
+  all : stayed ≡ live t deals
+  all = ap (live t) (leaves-all k.id x deals of_plain.cancels)
+
+  waits : WaitsAt k step due.waits
+  waits = waits-due k deals due step of_plain.often from until same is inside
+
+  settled : IsSettled (taken k step) market.stopped
+  settled =
+      subst (λ (kept : Kept). IsSettled kept market.stopped) (sym took) (subst (λ (m : MarketView). IsSettled with_it m.stopped) (sym same) (by idle.settled))
+    where
+      by : IsSettled k due.market.stopped → IsSettled with_it due.market.stopped
+      by s = record { runs = s.runs; halted = s.halted; stays = s.stays; low = s.low; high = s.high; straddles = s.straddles }
+
+  -- the window with the deal
+  dealt_in : (stayed ++ (if is_some k.begun then option_to_list deal else [])) ≡ left
+  dealt_in = λ j. all j ++ counts j
+
+  no_price : reference (taken k step) step (mean_of (live t (window (taken k step) stayed))) ≡ None
+  no_price =
+      subst (λ (kept : Kept). reference kept step (mean_of (live t (window kept stayed))) ≡ None) (sym took)
+      (ap (λ (ds : List Deal). reference with_it step (mean_of (live t ds))) dealt_in
+      ∙ ap (λ (ds : List Deal). reference with_it step (mean_of ds)) ((same-added t deals (option_to_list deal)).at t (omega arith))
+      ∙ kept-none with_it step (mean_of (live t (deals ++ option_to_list deal))) refl keeps)
+
+  keeps_deals : SameLive t left (stayed ++ (if is_some k.begun then option_to_list (deal_of market.day k.id x) else []))
+  keeps_deals =
+      subst (λ (o : Option Deal). SameLive t left (stayed ++ (if is_some k.begun then option_to_list o else []))) own
+      (subst (λ (ds : List Deal). SameLive t left ds) (sym dealt_in) (record { at = λ u le. refl }))
+
+  deal-steps : (before : List Message) → Steps step k k deals left before before
+  deal-steps before =
+      let spoken = speaks-quiet (taken k step) stayed step before (Some due.waits) refl (waits-taken k step (Some due.waits) waits) settled no_price (ap (λ (kept : Kept). kept.restricts) took) in
+      step-evaluates step k spoken.said (taken k step) (taken k step) k deals (filter (leaves k.id x) deals) stayed stayed left before spoken.between before
+      refl refl refl refl spoken.announces spoken.obeys keeps_deals over
+
+  pub dealt-evaluated : (before : List Message) → Evaluates market x (record { kept = k; deals = deals }) (dealt (record { kept = k; deals = deals }) t deal) before before
+  dealt-evaluated before =
+      step-evaluated market x (record { kept = k; deals = deals }) (dealt (record { kept = k; deals = deals }) t deal) before before of_plain.no_day (is_here k x inside) (deal-steps before)
+
+  -- deals that are live with the new one
+  live_left : live t (deals ++ option_to_list deal) ≡ left
+  live_left =
+      sym ((same-added t deals (option_to_list deal)).at t (omega arith))
+      ∙ live-added t deals (option_to_list deal) (subst (λ (o : Option Deal). live t (option_to_list o) ≡ option_to_list o) (sym own) (live-own market.day k.id x))
+
+  pub dealt-still : IsStill k left (record due { from = t })
+  dealt-still = record {
+    rested = idle.rested;
+    settled = idle.settled;
+    waits = later idle.waits;
+    keeps = ap (λ (ds : List Deal). keeps_price k t (mean_of ds)) (sym live_left) ∙ keeps;
+  } where
+    later : Waits k due.market.day due.market.stopped due.from due.waits → Waits k due.market.day due.market.stopped t due.waits
+    later w = record { closes = w.closes; starts = w.starts; pauses = w.pauses; reopens = w.reopens; bands = λ u day le lt. w.bands u day (omega (arith, from)) lt }
+
+-- the deals that are live stay so
+pub dealt-recent : (t : ℕ) (day : Day) (s : ℕ) (x : Record) (deals : List Deal) (deal : Option Deal) → t ≡ moment_of x → deal ≡ deal_of day s x → live (moment_of x) (live t deals ++ option_to_list deal) ≡ live t deals ++ option_to_list deal
+dealt-recent t day s x deals deal at own =
+    subst (λ (u : ℕ). live (moment_of x) (live u deals ++ option_to_list deal) ≡ live u deals ++ option_to_list deal) (sym at)
+    (live-added (moment_of x) deals (option_to_list deal) (subst (λ (o : Option Deal). live (moment_of x) (option_to_list o) ≡ option_to_list o) (sym own) (live-own day s x)))
+
+-- at the moment of a record
+pub keeps-at : (k : Kept) (deals : List Deal) (deal : Option Deal) (t u : ℕ) → t ≡ u → keeps_price k t (mean_of (live t (deals ++ option_to_list deal))) ≡ true → keeps_price k u (mean_of (live u (deals ++ option_to_list deal))) ≡ true
+keeps-at k deals deal t u is keeps = subst (λ (v : ℕ). keeps_price k v (mean_of (live v (deals ++ option_to_list deal))) ≡ true) is keeps
