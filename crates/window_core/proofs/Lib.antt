@@ -1,5 +1,7 @@
+pub mod Bounded
 pub mod Deals
 pub mod Moves
+pub mod Near
 pub mod Order
 pub mod RepresentsCalls
 pub mod Sums

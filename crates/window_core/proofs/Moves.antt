@@ -11,16 +11,16 @@ use Rattle.price_core.specs.Rounding.{mean}
 at_most : (a b : ℕ) → nat_le a b ≡ true → a ≤ b
 at_most a b e = grind (arith, nat_tests)
 
-above : (a b : ℕ) → nat_le a b ≡ false → b < a
+pub above : (a b : ℕ) → nat_le a b ≡ false → b < a
 above a b e = grind (arith, nat_tests)
 
 is_at_most : (a b : ℕ) → a ≤ b → true ≡ nat_le a b
 is_at_most a b le = grind (arith, nat_tests)
 
-is_above : (a b : ℕ) → b < a → false ≡ nat_le a b
+pub is_above : (a b : ℕ) → b < a → false ≡ nat_le a b
 is_above a b lt = grind (arith, nat_tests)
 
-below : (a b : ℕ) → nat_lt a b ≡ true → a < b
+pub below : (a b : ℕ) → nat_lt a b ≡ true → a < b
 below a b e = grind (arith, nat_tests)
 
 from : (a b : ℕ) → nat_lt a b ≡ false → b ≤ a
@@ -32,7 +32,7 @@ moves_up m r c part up = omega arith
 moves_down : (m r c : ℕ) → r ≤ 100 * c → c ≤ r → m < r - c + 1 → r ≤ 100 * distance m r
 moves_down m r c part small down = omega arith
 
-stays : (m r c : ℕ) → 100 * c ≤ r + 99 → c ≤ r → m < r + c → r - c + 1 ≤ m → 100 * distance m r < r
+pub stays : (m r c : ℕ) → 100 * c ≤ r + 99 → c ≤ r → m < r + c → r - c + 1 ≤ m → 100 * distance m r < r
 stays m r c part small up down = omega arith
 
 -- by a hundredth of a price, rounded up

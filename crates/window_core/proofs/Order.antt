@@ -6,7 +6,7 @@ use Rattle.std.specs.Option.{option_map_or}
 use Rattle.window_core.specs.declared.window.Deal.{Deal}
 use Rattle.window_core.specs.Calls.{Call, Advance, Add, Cancel, Restart, deals_in, moment_in, window}
 use Rattle.window_core.specs.Deals.{is_live, least_moment}
-use Rattle.window_core.specs.Summed.{AllFrom, AllUpTo, InOrder}
+use Rattle.window_core.specs.Summed.{AllUpTo, InOrder}
 use Rattle.window_core.specs.WindowState.{AreTimely}
 use Rattle.window_core.proofs.Sums.{late_push, order_push, order_some}
 

@@ -1,9 +1,7 @@
 -- A window represents one more call.
-use Rattle.std.proofs.Common.{◌≡◌, ◌≤◌, ℕ, List, [], ◌∷◌, ◌++◌, filter, sym, ap, ◌∙◌}
-use Rattle.std.proofs.lemmas.List.Elements.{filter-append}
-use Rattle.window_core.specs.declared.window.Deal.{Deal}
+use Rattle.std.proofs.Common.{◌≡◌, ◌≤◌, ℕ, List, [], ◌∷◌, filter, sym, ap, ◌∙◌}
 use Rattle.window_core.specs.Deals.{live, stays}
-use Rattle.window_core.specs.Calls.{Call, Advance, Add, Cancel, moment_in, deals_in}
+use Rattle.window_core.specs.Calls.{Call, Advance, Cancel, moment_in, deals_in}
 use Rattle.window_core.specs.WindowState.{WindowState, Represents}
 use Rattle.window_core.proofs.Deals.{live-live, live-cancelled}
 

@@ -23,7 +23,7 @@ from_live : (t e : ℕ) (deals : List Deal) → t < e + five_minutes → AllFrom
 from_live t e [] young all = refl
 from_live t e (d ∷ deals) young all = simp (one_live t e d young all.0) (ap (λ (ds : List Deal). d ∷ ds) (from_live t e deals young all.1))
 
-is_young : (t : ℕ) (d : Deal) → is_live t d ≡ true → t < d.moment + five_minutes
+pub is_young : (t : ℕ) (d : Deal) → is_live t d ≡ true → t < d.moment + five_minutes
 is_young t d live = grind (arith, nat_tests)
 
 -- where the first is live, each of them in order is
@@ -94,7 +94,7 @@ priced_push (e ∷ deals) d all own = (all.0, priced_push deals d all.1 own)
 
 -- The sum and the number.
 
-sum_first : (d : Deal) (deals : List Deal) → sum_by (λ d. d.price) (d ∷ deals) ≡ d.price + sum_by (λ d. d.price) deals
+pub sum_first : (d : Deal) (deals : List Deal) → sum_by (λ d. d.price) (d ∷ deals) ≡ d.price + sum_by (λ d. d.price) deals
 sum_first d deals = let parts = sum_by-append (λ d. d.price) (d ∷ []) deals in omega arith
 
 pub tallies_of : (sum : ℕ) (deals : List Deal) → sum ≡ sum_by (λ d. d.price) deals → AllPriced deals → Tallies sum (length deals) deals

@@ -2,4 +2,5 @@ pub mod Deals
 pub mod Calls
 pub mod WindowState
 pub mod Tallies
+pub mod Bounds
 pub mod Summed

@@ -1,7 +1,9 @@
--- Deals with the sum of their prices. Private words: no public clause cites them.
+-- Deals with the sum of their prices and bounds on them. Private words: no public clause cites them.
 use Rattle.std.specs.Prelude.{◌≡◌, ℕ, ◌≤◌, Bool, true, List, [], ◌∷◌, length}
 use Rattle.price_core.specs.Ranges.{IsPrice}
+use Rattle.window_core.specs.declared.bounds.PriceBounds.{PriceBounds}
 use Rattle.window_core.specs.declared.window.Deal.{Deal}
+use Rattle.window_core.specs.Bounds.{AreBounded}
 use Rattle.window_core.specs.Tallies.{Tallies}
 
 -- none of the deals is before a moment
@@ -30,3 +32,8 @@ pub record IsSummed (sum newest : ℕ) (is_ordered : Bool) (deals : List Deal) :
   pub priced : AllPriced deals
   pub late : AllUpTo newest deals
   pub order : is_ordered ≡ true → InOrder deals
+
+-- and their prices are within bounds
+pub record AccountsFor (sum newest : ℕ) (is_ordered : Bool) (bounds : PriceBounds) (deals : List Deal) : Type 0 where
+  pub summed : IsSummed sum newest is_ordered deals
+  pub bounded : AreBounded bounds deals

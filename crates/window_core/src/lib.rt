@@ -1,6 +1,7 @@
 //! The window of five minutes, whose mean is a stock's reference price (LULD Plan, Section V).
 #![tactic(auto)]
 
+mod bounds;
 mod queue;
 mod tally;
 #[cfg(test)]

@@ -129,6 +129,91 @@ fn deals_out_of_order_leave_when_they_are_five_minutes_old(rt: HostRuntime) -> R
 }
 
 #[test]
+fn prices_are_near_where_none_is_one_per_cent_away(rt: HostRuntime) -> Result<(), Fail> {
+    for (units, near) in [
+        (495_000, false),
+        (495_001, true),
+        (504_999, true),
+        (505_000, false),
+    ] {
+        let mut window = Window::new(rt.alloc())?;
+        assert!(rt; window.stays_near(Price::new(500_000)?));
+        trade(&mut window, after(0)?, 1, 500_000)?;
+        trade(&mut window, after(1)?, 2, units)?;
+        trade(&mut window, after(2)?, 3, 500_000)?;
+        assert_eq!(rt; window.stays_near(Price::new(500_000)?), near, "{units}");
+    }
+    Ok(())
+}
+
+#[test]
+fn prices_that_drift_by_one_per_cent_and_a_half_stay_near_the_last(
+    rt: HostRuntime,
+) -> Result<(), Fail> {
+    let mut window = Window::new(rt.alloc())?;
+    for step in 0..96_u32 {
+        let units = 500_000 + 80 * u64::from(step);
+        trade(
+            &mut window,
+            after(10_000_000_000 * u64::from(step))?,
+            step,
+            units,
+        )?;
+        assert!(rt; window.stays_near(Price::new(units)?));
+        assert!(rt; !window.stays_near(Price::new(units + 5_100)?));
+    }
+    assert!(rt; !window.stays_near(Price::new(500_000)?));
+    Ok(())
+}
+
+#[test]
+fn a_far_price_is_forgotten_within_ten_minutes(rt: HostRuntime) -> Result<(), Fail> {
+    let mut window = Window::new(rt.alloc())?;
+    let reference = Price::new(500_000)?;
+    trade(&mut window, after(0)?, 1, 600_000)?;
+    trade(&mut window, after(200_000_000_000)?, 2, 500_000)?;
+    assert!(rt; !window.stays_near(reference));
+    trade(&mut window, after(400_000_000_000)?, 3, 500_000)?;
+    window.advance(after(500_000_000_000)?);
+    assert!(rt; window.stays_near(reference));
+    Ok(())
+}
+
+#[test]
+fn a_far_price_is_forgotten_with_the_last_deal(rt: HostRuntime) -> Result<(), Fail> {
+    let mut window = Window::new(rt.alloc())?;
+    let reference = Price::new(500_000)?;
+    trade(&mut window, after(0)?, 1, 600_000)?;
+    window.advance(after(300_000_000_000)?);
+    assert!(rt; window.stays_near(reference));
+    trade(&mut window, after(300_000_000_001)?, 2, 600_000)?;
+    window.restart();
+    trade(&mut window, after(0)?, 1, 500_000)?;
+    assert!(rt; window.stays_near(reference));
+    Ok(())
+}
+
+#[test]
+fn prices_of_deals_out_of_order_stay_known(rt: HostRuntime) -> Result<(), Fail> {
+    let mut window = Window::new(rt.alloc())?;
+    let reference = Price::new(500_000)?;
+    trade(&mut window, after(100_000_000_000)?, 1, 500_000)?;
+    for (nanos, number, units) in [(60_000_000_000, 2, 600_000), (0, 3, 500_000)] {
+        window.reserve()?;
+        window.add(Deal {
+            moment: after(nanos)?,
+            number,
+            price: Price::new(units)?,
+        });
+    }
+    window.advance(after(300_000_000_000)?);
+    assert!(rt; !window.stays_near(reference));
+    window.advance(after(360_000_000_000)?);
+    assert_eq!(rt; window.mean(), price(500_000)?);
+    Ok(())
+}
+
+#[test]
 fn an_advance_of_the_next_day_takes_no_time_for_each_of_50_000_trades(
     rt: HostRuntime,
 ) -> Result<(), Fail> {

@@ -2,10 +2,11 @@ ghost use Rattle.std.specs.Prelude.{◌≡◌, ℕ, true, false, ◌+◌, ◌≤
 ghost use Rattle.std.specs.Option.{option_map_or};
 ghost use Rattle.price_core.specs.Moves.{moved_one_percent};
 ghost use Rattle.window_core.specs.Calls.{Call, Advance, Add, Cancel, Restart, moment_in, window};
-ghost use Rattle.window_core.specs.Deals.{is_live, is_numbered, least_moment, live, mean_of, stays};
+ghost use Rattle.window_core.specs.Deals.{AreNear, is_live, is_numbered, least_moment, live, mean_of, stays};
 ghost use Rattle.window_core.specs.Tallies.{Tallies};
 ghost use Rattle.window_core.specs.WindowState.{Represents};
 
+use crate::bounds::PriceBounds;
 use crate::queue::{first, keep_live, later, push_deal, remove, stays_ordered, total_of};
 use crate::tally::Tally;
 use price_core::{NoMemory, Price};
@@ -33,26 +34,27 @@ impl Deal {
 }
 
 /// The deals of the last five minutes (LULD Plan, Section V), and beside them the sum of their prices, a moment that none of
-/// them is after, and whether they are known to be in order.
+/// them is after, whether they are known to be in order, and bounds on their prices.
 #[derive(Debug, Drop)]
 pub struct Window {
     items: VecDeque<Deal>,
     sum: u128,
     newest: Moment,
     is_ordered: bool,
+    bounds: PriceBounds,
 }
 
 impl Model for Window {
     ghost use Rattle.std.specs.Prelude.{◌-◌};
     ghost use Rattle.std.specs.VecDeque.{deque_len, deque_capacity};
     ghost use Rattle.window_core.specs.WindowState.{WindowState};
-    ghost use Rattle.window_core.specs.Summed.{IsSummed};
+    ghost use Rattle.window_core.specs.Summed.{AccountsFor};
 
     ghost Value = { WindowState };
 
     ghost view = { λ w. record { deals = w.items.items; spare = deque_capacity w.items - deque_len w.items } };
 
-    ghost invariant = { λ w. IsSummed w.sum w.newest w.is_ordered w.items.items };
+    ghost invariant = { λ w. AccountsFor w.sum w.newest w.is_ordered w.bounds w.items.items };
 }
 
 impl Window {
@@ -67,6 +69,7 @@ impl Window {
             sum: 0,
             newest: midnight(),
             is_ordered: true,
+            bounds: PriceBounds::none(),
         })
     }
 
@@ -94,6 +97,7 @@ impl Window {
         self.sum += u128::from(d.price.units());
         self.is_ordered = stays_ordered(self.is_ordered, self.newest, &d);
         self.newest = later(self.newest, d.moment);
+        self.bounds = self.bounds.with(d.price);
         push_deal(d, &mut self.items);
     }
 
@@ -149,6 +153,28 @@ impl Window {
         self.sum = total_of(&self.items);
     }
 
+    /// Removes the deals that are five minutes old, where any but the first of them may be.
+    fn drop_others(&mut self, t: Moment)
+        ensures deals { self.new.deals ≡ live t self.old.deals }
+        ensures spare { self.old.spare ≤ self.new.spare }
+    {
+        if !self.are_live(t) {
+            self.keep_live_of_all(t);
+        }
+    }
+
+    /// Forgets prices of deals that have left, where each that is kept is less than five minutes old.
+    fn narrow(&mut self, t: Moment)
+        requires { live t self.old.deals ≡ self.old.deals }
+        ensures { self.new ≡ self.old }
+    {
+        self.bounds = if self.items.is_empty() {
+            PriceBounds::none()
+        } else {
+            self.bounds.turned(t, self.newest)
+        };
+    }
+
     /// Takes a later moment: deals that are five minutes old leave. While deals are in order it looks at those and one more,
     /// however many there are.
     pub fn advance(&mut self, t: Moment)
@@ -164,9 +190,8 @@ impl Window {
                 break;
             }
         }
-        if !self.are_live(t) {
-            self.keep_live_of_all(t);
-        }
+        self.drop_others(t);
+        self.narrow(t);
     }
 
     fn tally_number(&self, number: u32) -> Tally
@@ -200,6 +225,7 @@ impl Window {
         self.sum = 0;
         self.newest = midnight();
         self.is_ordered = true;
+        self.bounds = PriceBounds::none();
     }
 
     /// The moment of the first deal, which is the least moment of those that the mean counts. None exactly where the mean is
@@ -267,6 +293,15 @@ impl Window {
         ensures { result ≡ option_map_or (λ m. moved_one_percent m reference) (mean_of self.now.deals) false }
     {
         self.tally().has_moved(reference)
+    }
+
+    /// Whether each price is known to be less than one per cent away from a reference price (LULD Plan, Section V). Then the
+    /// mean is too, whichever deals leave. It takes two comparisons, however many deals there are. It may not know it of
+    /// prices near the reference price where one of the last ten minutes or so was farther away.
+    pub fn stays_near(&self, reference: Price) -> bool
+        ensures { result ≡ true → AreNear reference self.now.deals }
+    {
+        self.bounds.are_near(reference)
     }
 
     /// The same of these deals and one more that are less than five minutes old.

@@ -7,7 +7,7 @@ use Rattle.window_core.proofs.window.Window.are_live.Goals as goal
 pub returns-in-Some : goal.returns-in-Some
 returns-in-Some c = λ young.
     subst (λ (held : WindowState). live c.args.t held.deals ≡ held.deals) c.self.view_is
-    (first_live c.args.t c.self.inside.items.items c.in-Some.deal (c.self.invariant.order c.if-not-self.false) (sym c.first.ensures ∙ c.in-Some.is) (sym c.is_live.ensures ∙ young))
+    (first_live c.args.t c.self.inside.items.items c.in-Some.deal (c.self.invariant.summed.order c.if-not-self.false) (sym c.first.ensures ∙ c.in-Some.is) (sym c.is_live.ensures ∙ young))
 
 pub returns-in-None : goal.returns-in-None
 returns-in-None c = λ young.
