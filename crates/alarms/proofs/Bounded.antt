@@ -6,10 +6,9 @@ use Rattle.std.proofs.lemmas.List.{get_or-drop, get_or-set_other, get_or-set_sam
 use Rattle.alarms.specs.Bounds.{AreBounds}
 use Rattle.alarms.specs.Due.{NoneDue}
 
--- before a moment that is at most that of each of 16 places, none of them is due
-pub none-from : (t block from least : ℕ) (moments : List ℕ) → ((place : ℕ) → 16 * block ≤ place → place < 16 * block + 16 → place < length moments → least ≤ slice_index moments place) → t < least
-    → 16 * block ≤ from → NoneDue t from (16 * block + 16) moments
-none-from t block from least moments bound later le = λ place after before within. let at = bound place (omega arith) before within in omega arith
+-- where none of a block's places is due, none of 16 is
+pub none-of_block : (t first count from : ℕ) (moments : List ℕ) → count ≡ min (length moments - first) 16 → NoneDue t from (first + count) moments → NoneDue t from (first + 16) moments
+none-of_block t first count from moments size none = λ place after before within. none place after (omega arith) within
 
 -- the bound of 16 places becomes a better one
 pub exact : (block least : ℕ) (bounds moments : List ℕ) → AreBounds bounds moments → block < length bounds

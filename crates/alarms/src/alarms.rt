@@ -81,11 +81,11 @@ fn first_of_block(
     ensures none { result ≡ None → NoneDue t from (16 * block + 16) moments.now }
 {
     let first = PLACES * block;
-    let least = least_from(moments, first);
-    if least <= t {
-        let count = (moments.len() - first).min(PLACES);
-        return first_due(moments, from, first + count, t);
+    let count = (moments.len() - first).min(PLACES);
+    if let Some(place) = first_due(moments, from, first + count, t) {
+        return Some(place);
     }
+    let least = least_from(moments, first);
     bounds[block] = least;
     None
 }
