@@ -6,28 +6,27 @@ use Rattle.std.proofs.lemmas.List.{get_or-drop, get_or-set_other, get_or-set_sam
 use Rattle.alarms.specs.Bounds.{AreBounds}
 use Rattle.alarms.specs.Due.{NoneDue}
 
--- before a moment that is at most that of each of 64 places, none of them is due
-pub none-from : (t block from least : ℕ) (moments : List ℕ) → ((place : ℕ) → 64 * block ≤ place → place < 64 * block + 64 → place < length moments → least ≤ slice_index moments place) → t < least
-    → 64 * block ≤ from → NoneDue t from (64 * block + 64) moments
-none-from t block from least moments bound later le = λ place after before within. let at = bound place (omega arith) before within in omega arith
+-- where none of a block's places is due, none of 16 is
+pub none-of_block : (t first count from : ℕ) (moments : List ℕ) → count ≡ min (length moments - first) 16 → NoneDue t from (first + count) moments → NoneDue t from (first + 16) moments
+none-of_block t first count from moments size none = λ place after before within. none place after (omega arith) within
 
--- the bound of 64 places becomes a better one
+-- the bound of 16 places becomes a better one
 pub exact : (block least : ℕ) (bounds moments : List ℕ) → AreBounds bounds moments → block < length bounds
-    → ((place : ℕ) → 64 * block ≤ place → place < 64 * block + 64 → place < length moments → least ≤ slice_index moments place) → AreBounds (slice_set bounds block least) moments
+    → ((place : ℕ) → 16 * block ≤ place → place < 16 * block + 16 → place < length moments → least ≤ slice_index moments place) → AreBounds (slice_set bounds block least) moments
 exact block least bounds moments are lt bound = record {
   enough = omega (arith, length-set bounds block least, are.enough);
   few = omega (arith, length-set bounds block least, are.few);
-  below = λ place within. by place within (eqb (place / 64) block) refl;
+  below = λ place within. by place within (eqb (place / 16) block) refl;
 } where
-  by : (place : ℕ) → place < length moments → (b : Bool) → eqb (place / 64) block ≡ b → slice_index (slice_set bounds block least) (place / 64) ≤ slice_index moments place
+  by : (place : ℕ) → place < length moments → (b : Bool) → eqb (place / 16) block ≡ b → slice_index (slice_set bounds block least) (place / 16) ≤ slice_index moments place
   by place within true same =
-      let own : place / 64 ≡ block = grind (arith, nat_tests) in
-      let at : slice_index (slice_set bounds block least) (place / 64) ≡ least = ap (λ (b : ℕ). slice_index (slice_set bounds block least) b) own ∙ get_or-set_same bounds block least 0 lt in
+      let own : place / 16 ≡ block = grind (arith, nat_tests) in
+      let at : slice_index (slice_set bounds block least) (place / 16) ≡ least = ap (λ (b : ℕ). slice_index (slice_set bounds block least) b) own ∙ get_or-set_same bounds block least 0 lt in
       let low = bound place (omega arith) (omega arith) within in
       omega arith
   by place within false apart =
-      let other : place / 64 ≢ block = grind (arith, nat_tests) in
-      let at = get_or-set_other bounds block (place / 64) least 0 other in
+      let other : place / 16 ≢ block = grind (arith, nat_tests) in
+      let at = get_or-set_other bounds block (place / 16) least 0 other in
       let low = are.below place within in
       omega arith
 
@@ -35,9 +34,9 @@ exact block least bounds moments are lt bound = record {
 abbrev rest_of : ℕ → List ℕ → List ℕ
 rest_of first moments = take (length moments - first) (drop first moments)
 
-pub least-part : (first count least : ℕ) (moments : List ℕ) → count ≡ min (length (rest_of first moments)) 64
+pub least-part : (first count least : ℕ) (moments : List ℕ) → count ≡ min (length (rest_of first moments)) 16
     → ((place : ℕ) → place < length (take count (rest_of first moments)) → least ≤ slice_index (take count (rest_of first moments)) place)
-    → (place : ℕ) → first ≤ place → place < first + 64 → place < length moments → least ≤ slice_index moments place
+    → (place : ℕ) → first ≤ place → place < first + 16 → place < length moments → least ≤ slice_index moments place
 least-part first count least moments size low place after before within =
     let dropped : length (drop first moments) ≡ length moments - first = length-drop first moments in
     let rest : length (rest_of first moments) ≡ min (length moments - first) (length (drop first moments)) = length-take (length moments - first) (drop first moments) in

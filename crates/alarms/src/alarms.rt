@@ -7,14 +7,14 @@ use std::alloc::Global;
 use std::marker::Model;
 
 /// How many places have one bound.
-const PLACES: usize = 64;
+const PLACES: usize = 16;
 
-/// A moment for each place, in nanoseconds. To find those that are due takes one comparison for 64 places of which none
+/// A moment for each place, in nanoseconds. To find those that are due takes one comparison for 16 places of which none
 /// is.
 #[derive(Drop)]
 pub struct Alarms {
     moments: Vec<u64>,
-    /// For each 64 places at most the least of their moments.
+    /// For each 16 places at most the least of their moments.
     bounds: Vec<u64>,
 }
 
@@ -40,10 +40,10 @@ fn least(moments: &[u64]) -> u64
     least
 }
 
-/// The least of the 64 moments from a place on, or of those that there are.
+/// The least of the 16 moments from a place on, or of those that there are.
 fn least_from(moments: &[u64], first: usize) -> u64
     requires { first ≤ length moments.now }
-    ensures { (place : ℕ) → first ≤ place → place < first + 64 → place < length moments.now → result ≤ slice_index moments.now place }
+    ensures { (place : ℕ) → first ≤ place → place < first + 16 → place < length moments.now → result ≤ slice_index moments.now place }
 {
     let rest = &moments[first..];
     let count = rest.len().min(PLACES);
@@ -74,18 +74,18 @@ fn first_of_block(
 ) -> Option<usize>
     requires block { block < length bounds.old }
     requires bounds { AreBounds bounds.old moments.now }
-    requires from { 64 * block ≤ from }
+    requires from { 16 * block ≤ from }
     ensures bounds { AreBounds bounds.new moments.now }
     ensures len { length bounds.new ≡ length bounds.old }
     ensures some { IfSome result (λ place. IsFirstDue t from place moments.now) }
-    ensures none { result ≡ None → NoneDue t from (64 * block + 64) moments.now }
+    ensures none { result ≡ None → NoneDue t from (16 * block + 16) moments.now }
 {
     let first = PLACES * block;
-    let least = least_from(moments, first);
-    if least <= t {
-        let count = (moments.len() - first).min(PLACES);
-        return first_due(moments, from, first + count, t);
+    let count = (moments.len() - first).min(PLACES);
+    if let Some(place) = first_due(moments, from, first + count, t) {
+        return Some(place);
     }
+    let least = least_from(moments, first);
     bounds[block] = least;
     None
 }

@@ -1,5 +1,6 @@
 -- What a generator keeps, as the records that it has given say it. Private words: no public clause cites them.
-use Rattle.std.specs.Prelude.{◌≡◌, ℕ, ◌+◌, ◌-◌, ◌<◌, ◌≤◌, List, Some, length, slice_get, slice_index, slice_set}
+use Rattle.std.specs.Prelude.{◌≡◌, ℕ, ◌+◌, ◌-◌, ◌/◌, ◌<◌, ◌≤◌, List, Some, length, slice_get, slice_index, slice_set}
+use Rattle.session_core.specs.Moments.{seconds}
 use Rattle.wire_in.specs.declared.record.Record.{Record}
 use Rattle.wire_in.specs.declared.record.Record.TheVariants.{Trade}
 use Rattle.wire_in.specs.Spelling.{InRange}
@@ -17,6 +18,10 @@ pub record IsGenerator (plan : DayPlan) (given number : ℕ) (flags : List ℕ) 
   pub plan_is : IsPlan plan
   pub within : given ≤ 1 + plan.symbols + plan.records
   pub behind : IsBehind plan (session_records plan (given - (1 + plan.symbols))) number flags
+
+-- the records of the session are so far apart, where there are any
+abbrev pub IsGap : DayPlan → ℕ → Type 0
+IsGap plan gap = 0 < plan.records → gap ≡ seconds 23400 / plan.records
 
 -- the flags after a record: the next trade of its symbol is no opening trade
 abbrev pub flags_after : Record → List ℕ → List ℕ

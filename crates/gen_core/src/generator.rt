@@ -2,11 +2,11 @@
 ghost use Rattle.std.specs.Prelude.{◌≡◌, ◌+◌, ◌<◌, ◌≤◌, length, IfOk, IfSome};
 ghost use Rattle.wire_in.specs.Spelling.{InRange};
 ghost use Rattle.gen_core.specs.Generated.{IsPlan, GivesFirst, generated};
-ghost use Rattle.gen_core.specs.InternalState.{IsGenerator, Steps};
+ghost use Rattle.gen_core.specs.InternalState.{IsGap, IsGenerator, Steps};
 
 use crate::draws::Draws;
 use crate::plan::DayPlan;
-use crate::session::session_record;
+use crate::session::{gap_of, session_record};
 use crate::start::{day_record, listing};
 use price_core::NoMemory;
 use std::alloc::Global;
@@ -17,6 +17,8 @@ use wire_in::Record;
 #[derive(Drop)]
 pub struct Generator {
     plan: DayPlan,
+    /// How many nanoseconds the records of the session are apart.
+    gap: u64,
     given: u32,
     draws: Draws,
     /// For each symbol the flags of its next trade.
@@ -27,13 +29,13 @@ impl Model for Generator {
     ghost use Rattle.std.specs.Prelude.{List, drop};
     ghost use Rattle.wire_in.specs.declared.record.Record.{Record};
     ghost use Rattle.gen_core.specs.Generated.{generated};
-    ghost use Rattle.gen_core.specs.InternalState.{IsGenerator};
+    ghost use Rattle.gen_core.specs.InternalState.{IsGap, IsGenerator};
 
     ghost Value = { List Record };
 
     ghost view = { λ g. drop g.given (generated g.plan) };
 
-    ghost invariant = { λ g. IsGenerator g.plan g.given g.draws.number g.flags.items };
+    ghost invariant = { λ g. IsGenerator g.plan g.given g.draws.number g.flags.items × IsGap g.plan g.gap };
 }
 
 /// The day, or the listing of a symbol.
@@ -52,25 +54,33 @@ fn start_record(plan: &DayPlan, given: u32, draws: &Draws, flags: &[u16]) -> Rec
 }
 
 /// A record of the session.
-fn later_record(plan: &DayPlan, given: u32, draws: &mut Draws, flags: &mut [u16]) -> Record
+fn later_record(
+    plan: &DayPlan,
+    gap: u64,
+    given: u32,
+    draws: &mut Draws,
+    flags: &mut [u16],
+) -> Record
     requires state { IsGenerator plan.now given draws.old.number flags.old }
+    requires gap { IsGap plan.now gap }
     requires later { plan.now.symbols < given }
     requires within { given < 1 + plan.now.symbols + plan.now.records }
     ensures { Steps plan.now given result draws.new.number flags.new }
 {
-    session_record(plan, given - 1 - plan.symbols, draws, flags)
+    session_record(plan, gap, given - 1 - plan.symbols, draws, flags)
 }
 
 /// The record behind so many others.
-fn next_record(plan: &DayPlan, given: u32, draws: &mut Draws, flags: &mut [u16]) -> Record
+fn next_record(plan: &DayPlan, gap: u64, given: u32, draws: &mut Draws, flags: &mut [u16]) -> Record
     requires state { IsGenerator plan.now given draws.old.number flags.old }
+    requires gap { IsGap plan.now gap }
     requires within { given < 1 + plan.now.symbols + plan.now.records }
     ensures { Steps plan.now given result draws.new.number flags.new }
 {
     if given <= plan.symbols {
         start_record(plan, given, draws, flags)
     } else {
-        later_record(plan, given, draws, flags)
+        later_record(plan, gap, given, draws, flags)
     }
 }
 
@@ -84,6 +94,7 @@ impl Generator {
         let flags = vec![in alloc; 1; plan.symbols as usize]?;
         Ok(Generator {
             plan: *plan,
+            gap: gap_of(plan),
             given: 0,
             draws: Draws { number: plan.seed },
             flags,
@@ -98,7 +109,13 @@ impl Generator {
         if self.given == 1 + self.plan.symbols + self.plan.records {
             return None;
         }
-        let record = next_record(&self.plan, self.given, &mut self.draws, &mut self.flags);
+        let record = next_record(
+            &self.plan,
+            self.gap,
+            self.given,
+            &mut self.draws,
+            &mut self.flags,
+        );
         self.given += 1;
         Some(record)
     }

@@ -3,7 +3,7 @@ ghost use Rattle.std.specs.Prelude.{◌≡◌, ◌+◌, ◌-◌, ◌%◌, ◌<�
 ghost use Rattle.session_core.specs.Moments.{IsMoment};
 ghost use Rattle.gen_core.specs.Draws.{next_number, answer_of, number_after, draw};
 ghost use Rattle.gen_core.specs.Generated.{IsPlan, moment_of, second_of, is_clock, close_of, middle, traded_price, index_tick, quote, trade, record_of_kind, session_record, symbol_drawn, draws_of};
-ghost use Rattle.gen_core.specs.InternalState.{flags_after};
+ghost use Rattle.gen_core.specs.InternalState.{IsGap, flags_after};
 ghost use Rattle.wire_in.specs.declared.record.Record.TheVariants as records;
 
 use crate::draws::Draws;
@@ -16,29 +16,44 @@ use wire_in::Record;
 /// Over how many nanoseconds the records are spread.
 const SPREAD: u64 = 23_400_000_000_000;
 
-/// The moment of the record k, in nanoseconds.
-fn nanos_of(plan: &DayPlan, k: u32) -> u64
-    requires { k < plan.now.records }
+/// How many nanoseconds the records are apart, where there are any.
+pub fn gap_of(plan: &DayPlan) -> u64
+    ensures { IsGap plan.now result }
+{
+    if plan.records == 0 {
+        0
+    } else {
+        SPREAD / u64::from(plan.records)
+    }
+}
+
+/// The moment of the record k, in nanoseconds, where the records are so far apart.
+fn nanos_of(plan: &DayPlan, gap: u64, k: u32) -> u64
+    requires record { k < plan.now.records }
+    requires gap { IsGap plan.now gap }
     ensures value { result ≡ moment_of plan.now k }
     ensures range { IsMoment result }
 {
-    SESSION_OPEN + u64::from(k) * (SPREAD / u64::from(plan.records))
+    let _ = plan;
+    SESSION_OPEN + u64::from(k) * gap
 }
 
 /// The whole second of the record k.
-fn second_of(plan: &DayPlan, k: u32) -> u64
-    requires { k < plan.now.records }
+fn second_of(plan: &DayPlan, gap: u64, k: u32) -> u64
+    requires record { k < plan.now.records }
+    requires gap { IsGap plan.now gap }
     ensures { result ≡ second_of (moment_of plan.now k) }
 {
-    nanos_of(plan, k) / 1_000_000_000
+    nanos_of(plan, gap, k) / 1_000_000_000
 }
 
 /// Whether the record k is a clock.
-fn is_clock(plan: &DayPlan, k: u32) -> bool
-    requires { k < plan.now.records }
+fn is_clock(plan: &DayPlan, gap: u64, k: u32) -> bool
+    requires record { k < plan.now.records }
+    requires gap { IsGap plan.now gap }
     ensures { result ≡ is_clock plan.now k }
 {
-    k == 0 || second_of(plan, k) != second_of(plan, k - 1)
+    k == 0 || second_of(plan, gap, k) != second_of(plan, gap, k - 1)
 }
 
 /// Draws an index tick.
@@ -139,16 +154,23 @@ fn record_of_kind(kind: u64, moment: Moment, k: u32, draws: &mut Draws, flags: &
 }
 
 /// The record k: a clock, or one that is drawn.
-pub fn session_record(plan: &DayPlan, k: u32, draws: &mut Draws, flags: &mut [u16]) -> Record
+pub fn session_record(
+    plan: &DayPlan,
+    gap: u64,
+    k: u32,
+    draws: &mut Draws,
+    flags: &mut [u16],
+) -> Record
     requires plan { IsPlan plan.now }
+    requires gap { IsGap plan.now gap }
     requires record { k < plan.now.records }
     requires flags { length flags.old ≡ plan.now.symbols }
     ensures record { result ≡ session_record plan.now k draws.old.number (slice_index flags.old (symbol_drawn plan.now draws.old.number)) }
     ensures number { draws.new.number ≡ number_after draws.old.number (draws_of result) }
     ensures flags { flags.new ≡ flags_after result flags.old }
 {
-    let moment = Moment::new(nanos_of(plan, k)).unwrap();
-    if is_clock(plan, k) {
+    let moment = Moment::new(nanos_of(plan, gap, k)).unwrap();
+    if is_clock(plan, gap, k) {
         return Record::Clock { moment };
     }
     let kind = draws.below(16);

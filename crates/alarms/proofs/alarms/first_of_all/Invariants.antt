@@ -7,5 +7,5 @@ abbrev pub invariant-loop-block : goal.invariant-loop-block
 invariant-loop-block l = record {
   bounds : AreBounds l.bounds l.moments;
   len : length l.bounds ≡ length l.initial.bounds;
-  none : NoneDue l.t l.from (64 * l.block) l.moments;
+  none : NoneDue l.t l.from (16 * l.block) l.moments;
 }
