@@ -4,6 +4,7 @@ ghost use Rattle.host_core.specs.Outside.{written};
 
 use std::fs::{File, OpenFile, OpenOptions};
 use std::io::{self, Seek, SeekFrom};
+use std::os::fd::{AsRawFd, RawFd};
 use std::os::unix::fs::FileExt;
 use std::rt::Files;
 
@@ -43,12 +44,25 @@ pub trait Disk {
 
 /// A file that whoever opened it can hold for itself.
 pub trait Held {
-    /// Holds the file until it is closed. It is an error where someone else holds it.
+    /// Holds the file until it is closed. It is an error where someone else holds it, and where it stands in the place of a
+    /// standard stream.
     fn hold(&self) -> io::Result<()>;
 }
 
+// The descriptors below this one are those of the standard streams. A file gets one of them where a stream was closed before
+// it was opened: then what is meant for the stream would go to the file.
+const STREAMS: RawFd = 3;
+
 impl Held for File {
-    fn hold(&self) -> io::Result<()> {
+    ghost use Rattle.std.specs.Prelude.{pos, ◌≤ℤ◌, OnOk};
+    ghost use Rattle.std.specs.Fd.{file_raw_fd};
+
+    fn hold(&self) -> io::Result<()>
+        ensures apart { OnOk result (pos 3 ≤ℤ file_raw_fd self.now) }
+    {
+        if self.as_raw_fd() < STREAMS {
+            return Err(io::ErrorKind::InvalidInput.into());
+        }
         Ok(self.try_lock()?)
     }
 }
