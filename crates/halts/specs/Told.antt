@@ -1,5 +1,5 @@
 -- What is told on standard error of how a run ended.
-use Rattle.std.specs.Prelude.{ℕ, List, ◌++◌, Option, Some, None, codes, decimal}
+use Rattle.std.specs.Prelude.{ℕ, List, [], ◌∷◌, ◌++◌, Option, Some, None, codes, decimal}
 use Rattle.host_core.specs.declared.status.Status.{Status}
 use Rattle.host_core.specs.declared.status.Status.TheVariants.{Done, Usage, Truncated, ReadFault, SendFault, DiskFault, SessionFull, Damaged, NoJournal, NoMemory, BadText}
 
@@ -21,3 +21,12 @@ line_of (Damaged at) = Some (with_number (codes "halts: the journal is damaged a
 line_of NoJournal = Some (codes "halts: there is no journal")
 line_of NoMemory = Some (codes "halts: out of memory")
 line_of (BadText line) = Some (with_number (codes "halts: line ") (Some line) (codes " is not understood"))
+
+-- a line with its newline; nothing where there is none
+abbrev pub with_newline : Option (List ℕ) → List ℕ
+with_newline None = []
+with_newline (Some line) = line ++ (10 ∷ [])
+
+-- all that is told of a status
+abbrev pub told_of : Status → List ℕ
+told_of status = with_newline (line_of status)

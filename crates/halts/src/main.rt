@@ -38,5 +38,7 @@ where
 
 fn main(rt: HostRuntime) -> ExitCode {
     // Words that can't be read ask for nothing that is understood.
-    end(&rt, start_here(&rt).unwrap_or(Status::Usage))
+    let status = start_here(&rt).unwrap_or(Status::Usage);
+    let stderr = rt.stderr();
+    end(&mut io::writer(&stderr), status).code
 }

@@ -1,12 +1,13 @@
 //! What is told on standard error of how a run ended.
 
-ghost use Rattle.std.specs.Prelude.{◌≡◌, None, Some, option_map, IsOk, codes};
+ghost use Rattle.std.specs.Prelude.{◌≡◌, ◌∷◌, ◌++◌, [], None, Some, option_map, OnOk, IsOk, codes};
+ghost use Rattle.std.specs.Io.KnownBytes.{Appends};
 ghost use Rattle.std.specs.Process.{exit_status};
 ghost use Rattle.host_core.specs.Statuses.{code_of};
-ghost use Rattle.halts.specs.Told.{line_of, with_number};
+ghost use Rattle.halts.specs.Told.{line_of, told_of, with_number};
 
 use host_core::Status;
-use std::io;
+use std::io::{self, Write};
 use std::process::ExitCode;
 
 /// A line in three parts: words, a number where it has one, and the words behind that.
@@ -15,6 +16,15 @@ pub struct StatusLine {
     pub before: &'static str,
     pub number: Option<u64>,
     pub after: &'static str,
+}
+
+/// How a process ends.
+#[derive(Debug, Drop)]
+pub struct Ending {
+    /// The exit code, which stands where the line can't be written.
+    pub code: ExitCode,
+    /// Whether the line was written.
+    pub told: io::Result<()>,
 }
 
 /// A line without a number.
@@ -57,30 +67,42 @@ pub fn status_line(status: Status) -> Option<StatusLine>
     }
 }
 
-/// Tells on standard error how a run ended that didn't go well.
-pub fn tell<Rt: Eprint>(rt: &Rt, status: Status) -> io::Result<()>
-    ensures { line_of status ≡ None → IsOk result }
+/// Writes a line with its newline.
+fn write_line<W: Write>(writer: &mut W, line: StatusLine) -> io::Result<()>
+    ensures { OnOk result (Appends (W.contents writer.old) (W.contents writer.new) (with_number line.before.now line.number line.after.now ++ (10 ∷ []))) }
 {
-    let Some(
-        StatusLine {
-            before,
-            number,
-            after,
-        },
-    ) = status_line(status)
-    else {
-        return Ok(());
-    };
+    let StatusLine {
+        before,
+        number,
+        after,
+    } = line;
     match number {
-        Some(number) => eprintln!(rt; "{before}{number}{after}"),
-        None => eprintln!(rt; "{before}{after}"),
+        Some(number) => writeln!(writer, "{before}{number}{after}"),
+        None => writeln!(writer, "{before}{after}"),
     }
 }
 
-/// Tells how a run ended, and answers the exit code of its status. The code stands where the line can't be written.
-pub fn end<Rt: Eprint>(rt: &Rt, status: Status) -> ExitCode
-    ensures { exit_status result ≡ code_of status }
+/// Tells a writer how a run ended that didn't go well.
+pub fn tell<W: Write>(writer: &mut W, status: Status) -> io::Result<()>
+    // The line of the status with its newline, and nothing at the good end.
+    ensures told { OnOk result (Appends (W.contents writer.old) (W.contents writer.new) (told_of status)) }
+    ensures silent { line_of status ≡ None → IsOk result }
+    ensures untouched { line_of status ≡ None → writer.new ≡ writer.old }
 {
-    let _ = tell(rt, status);
-    ExitCode::from(status.code())
+    match status_line(status) {
+        Some(line) => write_line(writer, line),
+        None => Ok(()),
+    }
+}
+
+/// Tells a writer how a run ended, and answers how the process ends: by the code of the status, whatever became of the line.
+pub fn end<W: Write>(writer: &mut W, status: Status) -> Ending
+    ensures code { exit_status result.code ≡ code_of status }
+    ensures told { OnOk result.told (Appends (W.contents writer.old) (W.contents writer.new) (told_of status)) }
+{
+    let told = tell(writer, status);
+    Ending {
+        code: ExitCode::from(status.code()),
+        told,
+    }
 }

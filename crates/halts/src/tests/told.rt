@@ -1,34 +1,10 @@
-// What is told on standard error.
-use crate::told::tell;
+// What is told of each end.
+use crate::told::{end, tell};
 use host_core::Status;
-use std::alloc::Global;
-use std::cell::Cell;
-use std::fmt::Display;
-use std::io;
 use std::test::Fail;
-
-/// A standard error that keeps what was told last.
-#[derive(Drop)]
-struct Told {
-    alloc: Global,
-    last: Cell<String>,
-}
-
-impl Eprint for Told {
-    fn eprint<D: Display + Drop>(&self, value: D) -> io::Result<()> {
-        self.last.set(format!(in self.alloc; "{value}")?);
-        Ok(())
-    }
-
-    fn eprintln<D: Display + Drop>(&self, value: D) -> io::Result<()> {
-        self.last.set(format!(in self.alloc; "{value}\n")?);
-        Ok(())
-    }
-}
 
 #[test]
 fn a_status_is_told_in_one_line_and_done_by_none(rt: HostRuntime) -> Result<(), Fail> {
-    let alloc = rt.alloc();
     for (status, want) in [
         (Status::Done, ""),
         (
@@ -46,13 +22,17 @@ fn a_status_is_told_in_one_line_and_done_by_none(rt: HostRuntime) -> Result<(), 
             "halts: line 2 is not understood\n",
         ),
     ] {
-        let told = Told {
-            alloc,
-            last: Cell::new(String::new(alloc)),
-        };
-        tell(&told, status)?;
-        let line = told.last.replace(String::new(alloc));
-        assert_eq!(rt; line.as_str(), want);
+        let mut told = Vec::new(rt.alloc());
+        tell(&mut told, status)?;
+        assert!(rt; told.as_slice() == want.as_bytes(), "of {status:?}");
     }
+    Ok(())
+}
+
+#[test]
+fn an_end_tells_its_line(rt: HostRuntime) -> Result<(), Fail> {
+    let mut told = Vec::new(rt.alloc());
+    end(&mut told, Status::NoJournal).told?;
+    assert!(rt; told.as_slice() == b"halts: there is no journal\n".as_slice());
     Ok(())
 }
