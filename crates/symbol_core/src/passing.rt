@@ -1,4 +1,4 @@
-// Trades and ticks at which no rule says anything, though time could bring a new reference price.
+// Trades and ticks that bring nothing but perhaps a new reference price.
 ghost use Rattle.std.specs.Prelude.{◌≡◌, ◌<◌, ◌≤◌, ◌++◌, ◌&&◌, [], None, Some, if◌then◌else◌, true, false, is_some, length, not, option_to_list, IsOk, OnOk};
 ghost use Rattle.window_core.specs.Deals.{live, mean_of};
 ghost use Rattle.refprice_core.specs.Prices.{moved_price};
@@ -108,7 +108,7 @@ impl Kept {
     }
 
     /// Whether the mean of the kept deals and one more is no new reference price.
-    fn keeps_price(&self, t: Moment, deal: &Option<Deal>, deals: &Window) -> bool
+    pub fn keeps_price(&self, t: Moment, deal: &Option<Deal>, deals: &Window) -> bool
         ensures { result ≡ keeps_price self.now t (mean_of (live t (deals.now.deals ++ option_to_list deal.now))) }
     {
         if !is_trading(self.phase) {
@@ -120,17 +120,15 @@ impl Kept {
         }
     }
 
-    /// Whether a moment and a deal, where there is one, leave a settled stock in peace.
-    pub fn stays_still(&self, t: Moment, deal: &Option<Deal>, deals: &Window) -> bool
+    /// Whether a deal, where there is one, brings a settled stock nothing but perhaps a new reference price.
+    pub fn awaits_price(&self, deal: &Option<Deal>) -> bool
         ensures listed { result ≡ true → is_out self.now ≡ false }
         ensures counts { result ≡ true → (if is_some self.now.begun then option_to_list deal.now else []) ≡ option_to_list deal.now }
         ensures restricts { result ≡ true → (triggers_by self.now.short.prior_close deal.now && not self.now.short.triggered) ≡ false }
-        ensures keeps { result ≡ true → keeps_price self.now t (mean_of (live t (deals.now.deals ++ option_to_list deal.now))) ≡ true }
     {
-        !self.is_out()
-            && self.counts(deal)
-            && !self.is_restricted_by(deal)
-            && self.keeps_price(t, deal, deals)
+        // The first price of a run is left to its rule.
+        let has_price = self.band.is_some() || !is_trading(self.phase);
+        has_price && !self.is_out() && self.counts(deal) && !self.is_restricted_by(deal)
     }
 
     /// From when on time may bring a new reference price in place of that of the last bands, where none comes at a moment,
