@@ -195,7 +195,7 @@ impl Symbol {
         match &self.due {
             Some(due)
                 if due.holds(x.moment(), market)
-                    && self.kept.is_settled_by(&quote, market.stopped) => {
+                    && self.kept.stays_settled(&quote, market.stopped) => {
                 Some(Passed {
                     quote,
                     due: due.since(x.moment()),
