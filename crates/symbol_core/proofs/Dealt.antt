@@ -1,6 +1,6 @@
 -- A trade or a tick at which no rule says anything, where time could bring a new reference price.
 use Rattle.std.proofs.Common.{arith, ◌≡◌, ℕ, ◌<◌, ◌≤◌, Bool, true, false, cond, List, [], ◌++◌, refl, sym, ap, ◌∙◌, subst}
-use Rattle.std.specs.Prelude.{Option, Some, None, if◌then◌else◌, ◌==◌, ◌&&◌, ◌||◌, not, filter, is_some, option_to_list}
+use Rattle.std.specs.Prelude.{Option, Some, None, if◌then◌else◌, ◌&&◌, ◌||◌, not, filter, is_some, option_to_list}
 use Rattle.std.specs.Option.{option_map_or}
 use Rattle.price_core.specs.Moves.{moved_one_percent}
 use Rattle.price_core.specs.declared.quote.Cause.TheVariants.{Moved}
@@ -10,21 +10,19 @@ use Rattle.refprice_core.specs.Prices.{because, forced, has_stood, moved_price}
 use Rattle.rulebook.specs.declared.symbol.Banded.{Banded}
 use Rattle.rulebook.specs.Auction.{indicated_by}
 use Rattle.rulebook.specs.Rules.{or_else}
-use Rattle.rulebook.specs.Symbol.{traded_price}
-use Rattle.eligible_core.specs.Conditions.{eligible}
-use Rattle.session_core.specs.declared.day.Day.{Day}
 use Rattle.wire_in.specs.declared.record.Record.{Record}
 use Rattle.wire_in.specs.declared.record.Record.TheVariants as in_
 use Rattle.wire_in.specs.Records.{is_day, is_tick, moment_of}
 use Rattle.wire_out.specs.declared.message.Message.{Message}
 use Rattle.window_core.specs.declared.window.Deal.{Deal}
 use Rattle.window_core.specs.Deals.{live, mean_of}
+use Rattle.window_core.proofs.Deals.{live-live}
 use Rattle.symbol_core.specs.declared.due.Due.{Due}
 use Rattle.symbol_core.specs.declared.kept.Kept.{Kept}
 use Rattle.symbol_core.specs.declared.kept.Step.{Step}
 use Rattle.symbol_core.specs.declared.symbol.MarketView.{MarketView}
 use Rattle.symbol_core.specs.Evaluates.{Evaluates}
-use Rattle.symbol_core.specs.Idle.{IsDue, IsIdle, IsRested, IsSettled, IsStill, PricesFrom, Waits, WaitsAt, brings_deal_or_time, comes_often, dealt, is_out, keeps_price}
+use Rattle.symbol_core.specs.Idle.{IsDue, IsIdle, IsRested, IsSettled, IsAwaited, IsStill, PricesFrom, Waits, WaitsAt, brings_deal_or_time, comes_often, is_out, keeps_price}
 use Rattle.symbol_core.specs.Kept.{heard, quoted_by}
 use Rattle.symbol_core.specs.Pricing.{adoption, later_price, reference}
 use Rattle.symbol_core.specs.Steps.{Steps}
@@ -32,8 +30,8 @@ use Rattle.symbol_core.specs.Taken.{cancelled_by, deal_of, finished, halted_by, 
 use Rattle.symbol_core.specs.Window.{SameLive, window}
 use Rattle.symbol_core.proofs.Cancels.{leaves-all}
 use Rattle.symbol_core.proofs.Evaluated.{away, step-evaluated, step_for}
-use Rattle.symbol_core.proofs.Live.{live-added, live-own, same-added}
-use Rattle.symbol_core.proofs.Quiet.{speaks-quiet, waits-due, waits-taken}
+use Rattle.symbol_core.proofs.Live.{live-added, live-own}
+use Rattle.symbol_core.proofs.Quiet.{speaks-quiet, waits-taken}
 use Rattle.symbol_core.proofs.Steps.{step-evaluates}
 use Rattle.symbol_core.proofs.Waiting.{prices-moved}
 
@@ -102,24 +100,6 @@ plain held (in_.Quote t i bid offer y z) e = absurd cc
 plain held (in_.Notice t i kind) e = absurd cc
 plain held (in_.Indication t i p u) e = absurd cc
 
--- no deal of a record that is no eligible trade
-pub none-traded : (day : Day) (s : ℕ) (x : Record) (o : Option Deal) → o ≡ deal_of day s x → traded_price day s x ≡ None → o ≡ None
-none-traded day s x o is none = is ∙ by x none where
-  one : (counts : Bool) (p : ℕ) (d : Deal) → (if counts then Some p else None) ≡ None → (if counts then Some d else None) ≡ None
-  one true p d e = absurd cc
-  one false p d e = refl
-
-  by : (x : Record) → traded_price day s x ≡ None → deal_of day s x ≡ None
-  by (in_.Trade t i n p q f) e = one ((i == s) && eligible f t day) p (record { moment = t; number = n; price = p }) e
-  by (in_.Day t d c) e = refl
-  by (in_.Listing t name tier l c) e = refl
-  by (in_.Cancel t i n) e = refl
-  by (in_.Quote t i bid offer y z) e = refl
-  by (in_.IndexTick t v) e = refl
-  by (in_.Clock t) e = refl
-  by (in_.Notice t i kind) e = refl
-  by (in_.Indication t i p u) e = refl
-
 -- the restriction stays where the deal isn't the first to trigger it
 stays_triggered : (a b : Bool) → (a && not b) ≡ false → (a || b) ≡ b
 stays_triggered true true e = refl
@@ -134,10 +114,30 @@ is_here k x inside = by (is_tick x) (is_done k.phase) (is_some k.terms) inside w
   by true false true e = refl
   by false false true e = refl
 
+-- before time brings anything but a new reference price
+pub awaited : (market : MarketView) (x : Record) (k : Kept) (deals : List Deal) (due : Due) (t : ℕ) (deal : Option Deal) → t ≡ moment_of x → IsDue (Some due) k deals → brings_deal_or_time x ≡ true → due.from ≤ t → t < due.waits → market ≡ due.market
+    → deal ≡ deal_of market.day k.id x → is_out k ≡ false → (if is_some k.begun then option_to_list deal else []) ≡ option_to_list deal → (triggers_by k.short.prior_close deal && not k.short.triggered) ≡ false
+    → IsAwaited k market x deal (record due { from = t })
+awaited market x k deals due t deal at is kind from until same own inside counts restricts = by (is inside) where
+  by : IsIdle k deals due → IsAwaited k market x deal (record due { from = t })
+  by idle =
+      let w = idle.waits in
+      record {
+        kind = kind;
+        inside = inside;
+        rested = idle.rested;
+        settled = idle.settled;
+        waits = record { closes = w.closes; starts = w.starts; pauses = w.pauses; reopens = w.reopens; bands = λ u day le lt. w.bands u day (omega arith) lt };
+        from = at;
+        until = subst (λ (u : ℕ). u < due.waits) at until;
+        same = sym same;
+        own = own;
+        counts = counts;
+        restricts = restricts;
+      }
+
 module _ (market : MarketView) (x : Record) (k : Kept) (deals : List Deal) (due : Due) (deal : Option Deal)
-    (is : IsDue (Some due) k deals) (kind : brings_deal_or_time x ≡ true) (from : due.from ≤ moment_of x) (until : moment_of x < due.waits) (same : market ≡ due.market) (own : deal ≡ deal_of market.day k.id x)
-    (inside : is_out k ≡ false) (counts : (if is_some k.begun then option_to_list deal else []) ≡ option_to_list deal) (restricts : (triggers_by k.short.prior_close deal && not k.short.triggered) ≡ false)
-    (keeps : keeps_price k (moment_of x) (mean_of (live (moment_of x) (deals ++ option_to_list deal))) ≡ true) where
+    (w : IsAwaited k market x deal due) (keeps : keeps_price k (moment_of x) (mean_of (live (moment_of x) (live (moment_of x) deals ++ option_to_list deal))) ≡ true) where
   abbrev t : ℕ
   t = moment_of x
 
@@ -147,11 +147,8 @@ module _ (market : MarketView) (x : Record) (k : Kept) (deals : List Deal) (due 
   abbrev left : List Deal
   left = live t deals ++ option_to_list deal
 
-  idle : IsIdle k deals due
-  idle = is inside
-
   of_plain : IsPlain k x
-  of_plain = plain k x kind
+  of_plain = plain k x w.kind
 
   -- the kept state once the record is taken in
   abbrev with_it : Kept
@@ -166,10 +163,10 @@ module _ (market : MarketView) (x : Record) (k : Kept) (deals : List Deal) (due 
         auction = heard (of_plain.indicated j) k.auction;
         left_limit = false;
         released = None;
-        deal = sym own j;
+        deal = sym w.own j;
         is_fresh = false;
-        short = record k.short { prior_close = of_plain.prior_close j; triggered = triggers_by (of_plain.prior_close j) (sym own j) || k.short.triggered };
-        restricts = triggers_by (of_plain.prior_close j) (sym own j) && not k.short.triggered;
+        short = record k.short { prior_close = of_plain.prior_close j; triggered = triggers_by (of_plain.prior_close j) (sym w.own j) || k.short.triggered };
+        restricts = triggers_by (of_plain.prior_close j) (sym w.own j) && not k.short.triggered;
       })
       ∙ (λ j. record k {
         quote = same_either (is_some k.begun) k.quote j;
@@ -177,14 +174,14 @@ module _ (market : MarketView) (x : Record) (k : Kept) (deals : List Deal) (due 
         released = None;
         deal = deal;
         is_fresh = false;
-        short = record k.short { triggered = stays_triggered (triggers_by k.short.prior_close deal) k.short.triggered restricts j };
-        restricts = restricts j;
+        short = record k.short { triggered = stays_triggered (triggers_by k.short.prior_close deal) k.short.triggered w.restricts j };
+        restricts = w.restricts j;
       })
 
   -- and once its step is over
   over : k ≡ finished (taken k step)
   over =
-      (λ j. record k { left_limit = idle.rested.left_limit j; released = idle.rested.released j; deal = idle.rested.deal j; is_fresh = idle.rested.is_fresh j; restricts = idle.rested.restricts j })
+      (λ j. record k { left_limit = w.rested.left_limit j; released = w.rested.released j; deal = w.rested.deal j; is_fresh = w.rested.is_fresh j; restricts = w.rested.restricts j })
       ∙ ap finished (sym took)
 
   abbrev stayed : List Deal
@@ -194,29 +191,31 @@ module _ (market : MarketView) (x : Record) (k : Kept) (deals : List Deal) (due 
   all = ap (live t) (leaves-all k.id x deals of_plain.cancels)
 
   waits : WaitsAt k step due.waits
-  waits = waits-due k deals due step of_plain.often from until same is inside
+  waits = record {
+    often = of_plain.often;
+    later = w.until;
+    waits = subst (λ (u : ℕ). Waits k market.day market.stopped u due.waits) w.from (subst (λ (m : MarketView). Waits k m.day m.stopped due.from due.waits) w.same w.waits);
+  }
 
   settled : IsSettled (taken k step) market.stopped
   settled =
-      subst (λ (kept : Kept). IsSettled kept market.stopped) (sym took) (subst (λ (m : MarketView). IsSettled with_it m.stopped) (sym same) (by idle.settled))
+      subst (λ (kept : Kept). IsSettled kept market.stopped) (sym took) (subst (λ (m : MarketView). IsSettled with_it m.stopped) w.same (by w.settled))
     where
       by : IsSettled k due.market.stopped → IsSettled with_it due.market.stopped
       by s = record { runs = s.runs; halted = s.halted; stays = s.stays; low = s.low; high = s.high; straddles = s.straddles }
 
   -- the window with the deal
   dealt_in : (stayed ++ (if is_some k.begun then option_to_list deal else [])) ≡ left
-  dealt_in = λ j. all j ++ counts j
+  dealt_in = λ j. all j ++ w.counts j
 
   no_price : reference (taken k step) step (mean_of (live t (window (taken k step) stayed))) ≡ None
   no_price =
       subst (λ (kept : Kept). reference kept step (mean_of (live t (window kept stayed))) ≡ None) (sym took)
-      (ap (λ (ds : List Deal). reference with_it step (mean_of (live t ds))) dealt_in
-      ∙ ap (λ (ds : List Deal). reference with_it step (mean_of ds)) ((same-added t deals (option_to_list deal)).at t (omega arith))
-      ∙ kept-none with_it step (mean_of (live t (deals ++ option_to_list deal))) refl keeps)
+      (ap (λ (ds : List Deal). reference with_it step (mean_of (live t ds))) dealt_in ∙ kept-none with_it step (mean_of (live t left)) refl keeps)
 
   keeps_deals : SameLive t left (stayed ++ (if is_some k.begun then option_to_list (deal_of market.day k.id x) else []))
   keeps_deals =
-      subst (λ (o : Option Deal). SameLive t left (stayed ++ (if is_some k.begun then option_to_list o else []))) own
+      subst (λ (o : Option Deal). SameLive t left (stayed ++ (if is_some k.begun then option_to_list o else []))) w.own
       (subst (λ (ds : List Deal). SameLive t left ds) (sym dealt_in) (record { at = λ u le. refl }))
 
   deal-steps : (before : List Message) → Steps step k k deals left before before
@@ -225,32 +224,33 @@ module _ (market : MarketView) (x : Record) (k : Kept) (deals : List Deal) (due 
       step-evaluates step k spoken.said (taken k step) (taken k step) k deals (filter (leaves k.id x) deals) stayed stayed left before spoken.between before
       refl refl refl refl spoken.announces spoken.obeys keeps_deals over
 
-  pub dealt-evaluated : (before : List Message) → Evaluates market x (record { kept = k; deals = deals }) (dealt (record { kept = k; deals = deals }) t deal) before before
+  pub dealt-evaluated : (before : List Message) → Evaluates market x (record { kept = k; deals = deals }) (record { kept = k; deals = left }) before before
   dealt-evaluated before =
-      step-evaluated market x (record { kept = k; deals = deals }) (dealt (record { kept = k; deals = deals }) t deal) before before of_plain.no_day (is_here k x inside) (deal-steps before)
+      step-evaluated market x (record { kept = k; deals = deals }) (record { kept = k; deals = left }) before before of_plain.no_day (is_here k x w.inside) (deal-steps before)
 
   -- deals that are live with the new one
-  live_left : live t (deals ++ option_to_list deal) ≡ left
-  live_left =
-      sym ((same-added t deals (option_to_list deal)).at t (omega arith))
-      ∙ live-added t deals (option_to_list deal) (subst (λ (o : Option Deal). live t (option_to_list o) ≡ option_to_list o) (sym own) (live-own market.day k.id x))
+  pub dealt-recent : live t left ≡ left
+  dealt-recent = live-added t deals (option_to_list deal) (subst (λ (o : Option Deal). live t (option_to_list o) ≡ option_to_list o) (sym w.own) (live-own market.day k.id x))
 
-  pub dealt-still : IsStill k left (record due { from = t })
+  pub dealt-still : IsStill k left due
   dealt-still = record {
-    rested = idle.rested;
-    settled = idle.settled;
-    waits = later idle.waits;
-    keeps = ap (λ (ds : List Deal). keeps_price k t (mean_of ds)) (sym live_left) ∙ keeps;
-  } where
-    later : Waits k due.market.day due.market.stopped due.from due.waits → Waits k due.market.day due.market.stopped t due.waits
-    later w = record { closes = w.closes; starts = w.starts; pauses = w.pauses; reopens = w.reopens; bands = λ u day le lt. w.bands u day (omega (arith, from)) lt }
+    rested = w.rested;
+    settled = w.settled;
+    waits = w.waits;
+    keeps = subst (λ (u : ℕ). keeps_price k u (mean_of left) ≡ true) (sym w.from) (ap (λ (ds : List Deal). keeps_price k t (mean_of ds)) (sym dealt-recent) ∙ keeps);
+  }
 
--- the deals that are live stay so
-pub dealt-recent : (t : ℕ) (day : Day) (s : ℕ) (x : Record) (deals : List Deal) (deal : Option Deal) → t ≡ moment_of x → deal ≡ deal_of day s x → live (moment_of x) (live t deals ++ option_to_list deal) ≡ live t deals ++ option_to_list deal
-dealt-recent t day s x deals deal at own =
-    subst (λ (u : ℕ). live (moment_of x) (live u deals ++ option_to_list deal) ≡ live u deals ++ option_to_list deal) (sym at)
-    (live-added (moment_of x) deals (option_to_list deal) (subst (λ (o : Option Deal). live (moment_of x) (option_to_list o) ≡ option_to_list o) (sym own) (live-own day s x)))
+-- a stock that is listed is evaluated at ticks too
+pub awaited-here : (k : Kept) (market : MarketView) (x : Record) (deal : Option Deal) (due : Due) → IsAwaited k market x deal due → away x k.terms ≡ false
+awaited-here k market x deal due w = is_here k x w.inside
 
--- at the moment of a record
-pub keeps-at : (k : Kept) (deals : List Deal) (deal : Option Deal) (t u : ℕ) → t ≡ u → keeps_price k t (mean_of (live t (deals ++ option_to_list deal))) ≡ true → keeps_price k u (mean_of (live u (deals ++ option_to_list deal))) ≡ true
-keeps-at k deals deal t u is keeps = subst (λ (v : ℕ). keeps_price k v (mean_of (live v (deals ++ option_to_list deal))) ≡ true) is keeps
+pub awaited-no_day : (k : Kept) (market : MarketView) (x : Record) (deal : Option Deal) (due : Due) → IsAwaited k market x deal due → is_day x ≡ false
+awaited-no_day k market x deal due w = let of_plain = plain k x w.kind in of_plain.no_day
+
+-- what the code asks once the old deals are gone
+pub keeps-at : (k : Kept) (gone deals : List Deal) (deal : Option Deal) (t u : ℕ) (answer : Bool) → t ≡ u → gone ≡ deals → answer ≡ keeps_price k t (mean_of (live t (gone ++ option_to_list deal))) → answer ≡ true
+    → keeps_price k u (mean_of (live u (deals ++ option_to_list deal))) ≡ true
+keeps-at k gone deals deal t u answer at same is passes = (λ i. keeps_price k (sym at i) (mean_of (live (sym at i) (sym same i ++ option_to_list deal)))) ∙ sym is ∙ passes
+
+pub gone-live : (t u : ℕ) (deals gone : List Deal) → t ≡ u → gone ≡ live t deals → live u deals ≡ live u gone
+gone-live t u deals gone at is = sym (ap (live u) (is ∙ ap (λ (v : ℕ). live v deals) at) ∙ live-live u u (omega arith) deals)

@@ -27,6 +27,10 @@ use Rattle.symbol_core.proofs.Quiet.{speaks-quiet, waits-due, waits-taken}
 use Rattle.symbol_core.proofs.Steps.{step-evaluates}
 use Rattle.symbol_core.proofs.Unmoved.{window_rested}
 
+-- a stock that is due is settled over the same market
+pub settled-market : (k : Kept) (deals : List Deal) (due : Due) (market : MarketView) → IsDue (Some due) k deals → is_out k ≡ false → market ≡ due.market → IsSettled k market.stopped
+settled-market k deals due market is inside same = let idle = is inside in subst (λ (m : MarketView). IsSettled k m.stopped) (sym same) idle.settled
+
 -- when the stock is due after it
 pub quoted-due : (k : Kept) (deals : List Deal) (due : Due) (t : ℕ) (quote : Quotation) (market : MarketView) → IsDue (Some due) k deals → due.from ≤ t → market ≡ due.market → IsSettled (with_quote k (Some quote)) market.stopped
     → IsDue (Some (record due { from = t })) (with_quote k (Some quote)) (live t deals)

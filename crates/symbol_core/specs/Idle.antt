@@ -1,5 +1,5 @@
 -- When a clock or an index tick finds nothing to say of a symbol. Private words: no public clause cites them.
-use Rattle.std.specs.Prelude.{◌≡◌, ◌+◌, ◌++◌, ◌<◌, ◌≤◌, ℕ, Bool, true, false, nat_lt, Option, Some, None, List, ◌&&◌, ◌||◌, not, is_some, option_to_list, unwrap_or}
+use Rattle.std.specs.Prelude.{◌≡◌, ◌+◌, ◌<◌, ◌≤◌, ℕ, Bool, true, false, if◌then◌else◌, nat_lt, Option, Some, None, List, [], ◌&&◌, ◌||◌, not, is_some, option_to_list, unwrap_or}
 use Rattle.std.specs.Option.{option_map_or}
 use Rattle.price_core.specs.declared.quote.Quotation.{Quotation}
 use Rattle.session_core.specs.declared.day.Day.{Day}
@@ -8,7 +8,7 @@ use Rattle.session_core.specs.Durations.{five_minutes}
 use Rattle.session_core.specs.Times.{in_session, is_closed}
 use Rattle.wire_in.specs.declared.record.Record.{Record}
 use Rattle.wire_in.specs.declared.record.Record.TheVariants as in_
-use Rattle.wire_in.specs.Records.{is_tick}
+use Rattle.wire_in.specs.Records.{is_tick, moment_of}
 use Rattle.limit_core.specs.Timers.{has_lasted}
 use Rattle.pause_core.specs.Phases.{can_market_halt, can_start, is_done, is_in_regulatory_halt, is_limit, is_trading}
 use Rattle.refprice_core.specs.Prices.{has_stood, is_in_opening_period, moved_price}
@@ -19,9 +19,11 @@ use Rattle.rulebook.specs.Rules.{asks_to_pause, at_band}
 use Rattle.symbol_core.specs.declared.due.Due.{Due}
 use Rattle.symbol_core.specs.declared.kept.Kept.{Kept}
 use Rattle.symbol_core.specs.declared.kept.Step.{Step}
+use Rattle.symbol_core.specs.declared.symbol.MarketView.{MarketView}
 use Rattle.symbol_core.specs.Kept.{is_straddling_now, with_quote}
 use Rattle.symbol_core.specs.Pricing.{adoption, reference, time_changes}
 use Rattle.symbol_core.specs.Rests.{Held}
+use Rattle.symbol_core.specs.Taken.{deal_of, triggers_by}
 use Rattle.symbol_core.specs.Window.{window}
 
 -- the last step left nothing for the rules of its own record
@@ -159,6 +161,17 @@ pub record IsStill (k : Kept) (deals : List Deal) (due : Due) : Type 0 where
   pub waits : Waits k due.market.day due.market.stopped due.from due.waits
   pub keeps : keeps_price k due.from (mean_of deals) ≡ true
 
--- the symbol once a trade or a tick is taken in at a moment, with the deal that it brings, and nothing else
-abbrev pub dealt : Held → ℕ → Option Deal → Held
-dealt held t deal = record { kept = held.kept; deals = live t held.deals ++ option_to_list deal }
+-- at a trade or a tick only a new reference price can come, and a deal that counts and isn't the first of the day to trigger the
+-- short sale restriction
+pub record IsAwaited (k : Kept) (market : MarketView) (x : Record) (deal : Option Deal) (due : Due) : Type 0 where
+  pub kind : brings_deal_or_time x ≡ true
+  pub inside : is_out k ≡ false
+  pub rested : IsRested k
+  pub settled : IsSettled k due.market.stopped
+  pub waits : Waits k due.market.day due.market.stopped due.from due.waits
+  pub from : due.from ≡ moment_of x
+  pub until : moment_of x < due.waits
+  pub same : due.market ≡ market
+  pub own : deal ≡ deal_of market.day k.id x
+  pub counts : (if is_some k.begun then option_to_list deal else []) ≡ option_to_list deal
+  pub restricts : (triggers_by k.short.prior_close deal && not k.short.triggered) ≡ false

@@ -1,8 +1,11 @@
-// Trades and ticks at which no rule says anything, though time could bring a new reference price.
-ghost use Rattle.std.specs.Prelude.{◌≡◌, ◌<◌, ◌≤◌, ◌++◌, ◌&&◌, [], None, Some, if◌then◌else◌, true, false, is_some, length, not, option_to_list, IsOk, OnOk};
+// Quotations that bring nothing but themselves, and trades and ticks that bring nothing but perhaps a new reference price.
+ghost use Rattle.std.specs.Prelude.{◌≡◌, ◌<◌, ◌≤◌, ◌++◌, ◌&&◌, [], Bool, None, Some, if◌then◌else◌, true, false, is_some, length, nat_le, nat_lt, not, option_to_list, IsOk, OnOk};
 ghost use Rattle.window_core.specs.Deals.{live, mean_of};
+ghost use Rattle.limit_core.specs.Limits.{straddles};
+ghost use Rattle.rulebook.specs.Rules.{at_band, meets};
 ghost use Rattle.refprice_core.specs.Prices.{moved_price};
-ghost use Rattle.symbol_core.specs.Idle.{IsDue, IsRested, IsStill, PricesFrom, brings_deal_or_time, is_out, keeps_price};
+ghost use Rattle.symbol_core.specs.Idle.{IsDue, IsRested, IsSettled, IsStill, PricesFrom, brings_deal_or_time, is_out, keeps_price};
+ghost use Rattle.symbol_core.specs.Kept.{with_quote};
 ghost use Rattle.symbol_core.specs.Pricing.{adoption};
 ghost use Rattle.symbol_core.specs.Taken.{deal_of, triggers_by};
 
@@ -11,9 +14,9 @@ use crate::kept::Kept;
 use crate::symbol::MarketView;
 use eligible_core::eligible;
 use pause_core::is_trading;
-use price_core::NoMemory;
+use price_core::{Bands, NoMemory, Price, Quotation};
 use rulebook::Banded;
-use session_core::{Day, Moment, THIRTY_SECONDS};
+use session_core::{Day, Moment, Phase, THIRTY_SECONDS};
 use window_core::{Deal, Window};
 use wire_in::Record;
 
@@ -70,6 +73,25 @@ pub fn add_one(deal: &Option<Deal>, deals: &mut Window)
     }
 }
 
+/// Whether a bid and an offer lie within two bands: neither is at a band that it could meet, nor beyond one.
+fn lies_within(bid: Price, offer: Price, bands: &Bands) -> bool
+    ensures { result ≡ (nat_le bands.now.lower bid && nat_lt bid bands.now.upper && nat_lt bands.now.lower offer && nat_le offer bands.now.upper) }
+{
+    bands.lower <= bid && bid < bands.upper && bands.lower < offer && offer <= bands.upper
+}
+
+/// Whether a quotation is known to be at no band and to straddle none.
+fn is_within(quote: &Quotation, band: &Option<Banded>) -> bool
+    ensures low { result ≡ true → at_band Phase.LimitLow (Some quote.now) band.now ≡ false }
+    ensures high { result ≡ true → at_band Phase.LimitHigh (Some quote.now) band.now ≡ false }
+    ensures straddles { result ≡ true → meets straddles (Some quote.now) band.now ≡ false }
+{
+    match (band, quote.bid, quote.offer) {
+        (Some(last), Some(bid), Some(offer)) => lies_within(bid, offer, &last.bands),
+        _ => false,
+    }
+}
+
 impl Due {
     /// Whether time brings nothing but perhaps a new reference price at a moment of a market.
     pub fn waits_for(&self, t: Moment, market: &MarketView) -> bool
@@ -82,6 +104,28 @@ impl Due {
 }
 
 impl Kept {
+    /// Whether a quotation lies within the bands of a stock that is trading and isn't straddling.
+    fn stays_within(&self, quote: &Quotation) -> bool
+        ensures listed { result ≡ true → is_out self.now ≡ false }
+        ensures run { result ≡ true → is_some self.now.begun ≡ true }
+        ensures settled { result ≡ true → (stopped : Bool) → IsSettled self.now stopped → IsSettled (with_quote self.now (Some quote.now)) stopped }
+    {
+        is_trading(self.phase)
+            && !self.straddling
+            && self.terms.is_some()
+            && self.begun.is_some()
+            && is_within(quote, &self.band)
+    }
+
+    /// Whether a quotation leaves a settled stock in a run in peace, whatever the time.
+    pub fn stays_settled(&self, quote: &Quotation, stopped: bool) -> bool
+        ensures listed { result ≡ true → is_out self.now ≡ false }
+        ensures run { result ≡ true → is_some self.now.begun ≡ true }
+        ensures settled { result ≡ true → IsSettled self.now stopped → IsSettled (with_quote self.now (Some quote.now)) stopped }
+    {
+        self.stays_within(quote) || self.is_settled_by(quote, stopped)
+    }
+
     /// Whether a deal counts, where there is one: its run has begun.
     fn counts(&self, deal: &Option<Deal>) -> bool
         ensures { result ≡ true → (if is_some self.now.begun then option_to_list deal.now else []) ≡ option_to_list deal.now }
@@ -108,7 +152,7 @@ impl Kept {
     }
 
     /// Whether the mean of the kept deals and one more is no new reference price.
-    fn keeps_price(&self, t: Moment, deal: &Option<Deal>, deals: &Window) -> bool
+    pub fn keeps_price(&self, t: Moment, deal: &Option<Deal>, deals: &Window) -> bool
         ensures { result ≡ keeps_price self.now t (mean_of (live t (deals.now.deals ++ option_to_list deal.now))) }
     {
         if !is_trading(self.phase) {
@@ -120,17 +164,15 @@ impl Kept {
         }
     }
 
-    /// Whether a moment and a deal, where there is one, leave a settled stock in peace.
-    pub fn stays_still(&self, t: Moment, deal: &Option<Deal>, deals: &Window) -> bool
+    /// Whether a deal, where there is one, brings a settled stock nothing but perhaps a new reference price.
+    pub fn awaits_price(&self, deal: &Option<Deal>) -> bool
         ensures listed { result ≡ true → is_out self.now ≡ false }
         ensures counts { result ≡ true → (if is_some self.now.begun then option_to_list deal.now else []) ≡ option_to_list deal.now }
         ensures restricts { result ≡ true → (triggers_by self.now.short.prior_close deal.now && not self.now.short.triggered) ≡ false }
-        ensures keeps { result ≡ true → keeps_price self.now t (mean_of (live t (deals.now.deals ++ option_to_list deal.now))) ≡ true }
     {
-        !self.is_out()
-            && self.counts(deal)
-            && !self.is_restricted_by(deal)
-            && self.keeps_price(t, deal, deals)
+        // The first price of a run is left to its rule.
+        let has_price = self.band.is_some() || !is_trading(self.phase);
+        has_price && !self.is_out() && self.counts(deal) && !self.is_restricted_by(deal)
     }
 
     /// From when on time may bring a new reference price in place of that of the last bands, where none comes at a moment,

@@ -1,12 +1,13 @@
 ghost use Rattle.std.specs.Prelude.{◌≡◌, ◌+◌, ◌<◌, ◌≤◌, ℕ, Bool, true, false, None, Some, IfSome, List, [], ◌∷◌, ◌&&◌, not, IsOk, IfOk, OnOk, OnErr, is_some, length, option_to_list, vec_len, vec_capacity};
 ghost use Rattle.wire_in.specs.Records.{is_day, is_tick, moment_of};
+ghost use Rattle.window_core.specs.declared.window.Deal.{Deal};
 ghost use Rattle.window_core.specs.Deals.{live};
 ghost use Rattle.wire_out.specs.declared.message.Message.{Message as Said};
 ghost use Rattle.rulebook.specs.declared.event.Event.{Event};
 ghost use Rattle.rulebook.specs.Symbol as of;
 ghost use Rattle.rulebook.specs.Symbol.{traded_price};
 ghost use Rattle.symbol_core.specs.Evaluates.{most_of_symbol};
-ghost use Rattle.symbol_core.specs.Idle.{IsDue, IsRested, IsSettled, IsStill, Waits, WaitsAt, dealt, quoted};
+ghost use Rattle.symbol_core.specs.Idle.{IsAwaited, IsDue, IsRested, IsSettled, Waits, WaitsAt, quoted};
 ghost use Rattle.symbol_core.specs.Stands.{Speaks};
 ghost use Rattle.symbol_core.specs.Steps.{Steps};
 ghost use Rattle.symbol_core.specs.Taken.{deal_of};
@@ -60,9 +61,10 @@ struct Passed {
     due: Due,
 }
 
-/// What a trade or a tick brings at which no rule says anything, and when the stock was due before it.
+/// What a trade or a tick brings that may bring a new reference price and nothing else, and until when that is all that time
+/// brings.
 #[derive(Clone, Copy, Debug)]
-struct PassedTrade {
+struct Awaited {
     deal: Option<Deal>,
     due: Due,
 }
@@ -193,7 +195,7 @@ impl Symbol {
         match &self.due {
             Some(due)
                 if due.holds(x.moment(), market)
-                    && self.kept.is_settled_by(&quote, market.stopped) => {
+                    && self.kept.stays_settled(&quote, market.stopped) => {
                 Some(Passed {
                     quote,
                     due: due.since(x.moment()),
@@ -213,19 +215,17 @@ impl Symbol {
         self.due = Some(passed.due);
     }
 
-    /// What a trade or a tick brings, where it and its moment bring nothing else.
-    fn passes_trade(&self, x: &Record, market: &MarketView) -> Option<PassedTrade>
-        ensures nothing { IfSome result (λ passed. (before : List Said) → Evaluates market.now x.now self.now (dealt self.now (moment_of x.now) passed.deal) before before) }
-        ensures deal { IfSome result (λ passed. passed.deal ≡ deal_of market.now.day self.now.kept.id x.now) }
-        ensures still { IfSome result (λ passed. IsStill self.now.kept (dealt self.now (moment_of x.now) passed.deal).deals passed.due) }
+    /// What a trade or a tick brings, where it and its moment bring nothing else but perhaps a new reference price.
+    fn awaits(&self, x: &Record, market: &MarketView) -> Option<Awaited>
+        ensures { IfSome result (λ awaited. IsAwaited self.now.kept market.now x.now awaited.deal awaited.due) }
     {
         let deal = deal_in(self.kept.id, x, &market.day);
         match &self.due {
             Some(due)
                 if brings_deal_or_time(x)
                     && due.waits_for(x.moment(), market)
-                    && self.kept.stays_still(x.moment(), &deal, &self.deals) => {
-                Some(PassedTrade {
+                    && self.kept.awaits_price(&deal) => {
+                Some(Awaited {
                     deal,
                     due: due.since(x.moment()),
                 })
@@ -234,18 +234,39 @@ impl Symbol {
         }
     }
 
-    /// Takes a trade or a tick in that brings nothing but a deal, and removes the trades that are five minutes old. Out of
-    /// memory, it changes nothing.
-    fn pass_trade(&mut self, t: Moment, passed: &PassedTrade) -> Result<(), NoMemory>
-        requires { IsStill self.old.kept (dealt self.old t passed.now.deal).deals passed.now.due }
-        ensures ok { OnOk result (self.new ≡ dealt self.old t passed.now.deal) }
-        ensures err { OnErr result (self.new ≡ self.old) }
-        ensures succeeds { passed.now.deal ≡ None → IsOk result }
+    /// Evaluates a trade or a tick that may bring a new reference price and nothing else: where it brings none, no rule is
+    /// asked. The trades that are five minutes old go first, so that the mean takes no time for each trade.
+    fn take_awaited(
+        &mut self,
+        x: &Record,
+        market: &MarketView,
+        awaited: &Awaited,
+        out: &mut Vec<Message>,
+    ) -> Result<(), NoMemory>
+        requires { IsAwaited self.old.kept market.now x.now awaited.now.deal awaited.now.due }
+        ensures ok { OnOk result (Evaluates market.now x.now self.old self.new out.old.items out.new.items) }
+        ensures err { OnErr result ((self.new ≡ self.old) × (out.new.items ≡ out.old.items)) }
+        ensures room { vec_len out.old + most_of_symbol ≤ vec_capacity out.old → traded_price market.now.day self.old.kept.id x.now ≡ None → IsOk result }
+        ensures few { vec_len out.new ≤ vec_len out.old + most_of_symbol }
+        ensures capacity { vec_capacity out.old ≤ vec_capacity out.new }
+        ensures recent { OnOk result (live (moment_of x.now) self.new.deals ≡ self.new.deals) }
     {
-        reserve_deal(&passed.deal, &mut self.deals)?;
-        self.deals.advance(t);
-        add_one(&passed.deal, &mut self.deals);
-        self.due = Some(self.kept.due_still(&passed.due, &self.deals));
+        match out.reserve(MOST_OF_SYMBOL) {
+            Ok(()) => {}
+            Err(_) => return Err(NoMemory),
+        }
+        reserve_deal(&awaited.deal, &mut self.deals)?;
+        self.deals.advance(awaited.due.from);
+        if self
+            .kept
+            .keeps_price(awaited.due.from, &awaited.deal, &self.deals)
+        {
+            add_one(&awaited.deal, &mut self.deals);
+            self.due = Some(self.kept.due_still(&awaited.due, &self.deals));
+            return Ok(());
+        }
+        let step = step_of(x, market);
+        self.due = take_step(&mut self.kept, &mut self.deals, &step, None, out);
         Ok(())
     }
 
@@ -282,8 +303,8 @@ impl Symbol {
             self.pass_quote(x.moment(), &passed);
             return Ok(());
         }
-        if let Some(passed) = self.passes_trade(x, market) {
-            return self.pass_trade(x.moment(), &passed);
+        if let Some(awaited) = self.awaits(x, market) {
+            return self.take_awaited(x, market, &awaited, out);
         }
         self.obey(x, market, out)
     }
@@ -370,7 +391,7 @@ fn take_step(
     requires waits { IfSome waits (λ until. WaitsAt k.old step.now until) }
     requires deals { length (option_to_list (deal_of step.now.day k.old.id step.now.input)) ≤ deals.old.spare }
     requires out { vec_len out.old + 15 ≤ vec_capacity out.old }
-    ensures steps { Steps step.now k.old k.new deals.old.deals deals.new.deals out.old.items out.new.items }
+    ensures steps { (kept : List Deal) → live step.now.moment kept ≡ live step.now.moment deals.old.deals → Steps step.now k.old k.new kept deals.new.deals out.old.items out.new.items }
     ensures few { vec_len out.new ≤ vec_len out.old + 15 }
     ensures capacity { vec_capacity out.old ≤ vec_capacity out.new }
     ensures recent { step.now.moment ≡ moment_of step.now.input → live step.now.moment deals.new.deals ≡ deals.new.deals }

@@ -622,3 +622,37 @@ fn trades_of_a_limit_state_count_once_it_is_over(rt: HostRuntime) -> Result<(), 
         ],
     )
 }
+
+#[test]
+fn trades_that_leave_one_by_one_take_no_time_for_each_of_20_000(
+    rt: HostRuntime,
+) -> Result<(), Fail> {
+    let mut symbol = Symbol::new(rt.alloc(), 0)?;
+    let mut out = Vec::new(rt.alloc());
+    let market = MarketView {
+        day: day(3)?,
+        stopped: false,
+    };
+    symbol.evaluate(&new_day(3)?, &market, &mut out)?;
+    symbol.evaluate(&listing(500_000)?, &market, &mut out)?;
+    symbol.evaluate(&clock(34_200)?, &market, &mut out)?;
+    symbol.evaluate(&trade(34_200, 0, 500_000, 1)?, &market, &mut out)?;
+    for number in 1..20_000_u32 {
+        let x = trade_after(u64::from(number), number, 500_000, 0)?;
+        symbol.evaluate(&x, &market, &mut out)?;
+    }
+    let start = Instant::now(&rt)?;
+    for tick in 0..20_000_u64 {
+        let moment = after_open(tick.wrapping_add(300_000_000_000))?;
+        symbol.evaluate(&Record::Clock { moment }, &market, &mut out)?;
+    }
+    // A look at each trade that is left at each tick would be 200,000,000 looks.
+    assert!(rt; start.elapsed(&rt)? < Duration::from_secs(5));
+    let want = [
+        listed(),
+        state(Phase::Trading),
+        band(Cause::First, 500_000, 475_000, 525_000)?,
+    ];
+    assert!(rt; out.as_slice() == want.as_slice());
+    Ok(())
+}

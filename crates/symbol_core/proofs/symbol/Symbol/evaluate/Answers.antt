@@ -1,12 +1,10 @@
-use Rattle.std.proofs.Common.{◌≡◌, ℕ, sym, ap, subst, ◌∙◌, arith}
-use Rattle.std.proofs.lemmas.Result.{on_ok_weaker}
+use Rattle.std.proofs.Common.{ℕ, sym, ap, subst, ◌∙◌, arith}
 use Rattle.wire_in.specs.Records.{moment_of}
 use Rattle.window_core.specs.Deals.{live}
 use Rattle.window_core.proofs.Deals.{live-live}
 use Rattle.symbol_core.specs.Evaluates.{Evaluates}
-use Rattle.symbol_core.specs.Idle.{dealt, quoted}
+use Rattle.symbol_core.specs.Idle.{quoted}
 use Rattle.symbol_core.specs.Rests.{Held}
-use Rattle.symbol_core.proofs.Dealt.{dealt-recent, none-traded}
 use Rattle.symbol_core.proofs.Evaluated.{evaluated-away}
 use Rattle.symbol_core.proofs.Unmoved.{evaluated-live}
 use Rattle.symbol_core.proofs.symbol.Symbol.evaluate.Goals as goal
@@ -48,31 +46,5 @@ returns-in-Some-passes_quote-clause-recent c = λ listed.
     let deals = ap (λ (held : Held). held.deals) is in
     ap (live t) deals ∙ live-live t t (omega arith) old.deals ∙ sym deals
 
-pub returns-in-Some-passes_trade-clause-ok : goal.returns-in-Some-passes_trade-clause-ok
-returns-in-Some-passes_trade-clause-ok c =
-    let x = c.args.x.now in
-    let before = c.args.out.now.items in
-    let old = c.args.self.now in
-    let deal = c.in-Some-passes_trade.passed.deal in
-    on_ok_weaker c.pass_trade.result
-    (λ (is : c.pass_trade.new.self ≡ dealt old c.moment-in-Some-passes_trade.result deal).
-    subst (λ (held : Held). Evaluates c.args.market.now x old held before before) (sym (is ∙ ap (λ (t : ℕ). dealt old t deal) c.moment-in-Some-passes_trade.ensures)) ((c.in-Some-passes_trade.ensures).nothing before))
-    c.pass_trade.ensures.ok
-
-pub returns-in-Some-passes_trade-clause-room : goal.returns-in-Some-passes_trade-clause-room
-returns-in-Some-passes_trade-clause-room c = λ room none.
-    c.pass_trade.ensures.succeeds (none-traded c.args.market.now.day c.args.self.now.kept.id c.args.x.now c.in-Some-passes_trade.passed.deal (c.in-Some-passes_trade.ensures).deal none)
-
-pub returns-in-Some-passes_trade-clause-recent : goal.returns-in-Some-passes_trade-clause-recent
-returns-in-Some-passes_trade-clause-recent c = λ listed.
-    let x = c.args.x.now in
-    let old = c.args.self.now in
-    let t = c.moment-in-Some-passes_trade.result in
-    let deal = c.in-Some-passes_trade.passed.deal in
-    on_ok_weaker c.pass_trade.result
-    (λ (is : c.pass_trade.new.self ≡ dealt old t deal).
-    let deals = ap (λ (held : Held). held.deals) is in
-    ap (live (moment_of x)) deals
-    ∙ dealt-recent t c.args.market.now.day old.kept.id x old.deals deal c.moment-in-Some-passes_trade.ensures (c.in-Some-passes_trade.ensures).deal
-    ∙ sym deals)
-    c.pass_trade.ensures.ok
+pub returns-in-Some-awaits-clause-recent : goal.returns-in-Some-awaits-clause-recent
+returns-in-Some-awaits-clause-recent c = λ listed. c.take_awaited.ensures.recent
