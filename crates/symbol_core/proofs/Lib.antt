@@ -21,3 +21,4 @@ pub mod Waiting
 pub mod Unmoved
 pub mod Quiet
 pub mod Quoted
+pub mod Near
