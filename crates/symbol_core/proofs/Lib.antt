@@ -22,3 +22,4 @@ pub mod Unmoved
 pub mod Quiet
 pub mod Quoted
 pub mod Dealt
+pub mod Near

@@ -22,7 +22,8 @@ use Rattle.refprice_core.specs.declared.reference.Priced.{Priced}
 use Rattle.refprice_core.specs.Prices.{because, forced, has_stood, is_in_opening_period, moved_price}
 use Rattle.reopen_core.specs.AuctionState.{AuctionState}
 use Rattle.window_core.specs.declared.window.Deal.{Deal}
-use Rattle.window_core.specs.Deals.{live, mean_of}
+use Rattle.window_core.specs.Deals.{AreNear, live, mean_of}
+use Rattle.window_core.proofs.Near.{near_live_mean}
 use Rattle.wire_in.proofs.RecordKinds.{by_tick}
 use Rattle.rulebook.specs.declared.symbol.Banded.{Banded}
 use Rattle.rulebook.specs.declared.symbol.Terms.{Terms}
@@ -211,3 +212,9 @@ pub prices-moved : (k : Kept) (b : Banded) (deals : List Deal) (from until : ℕ
 prices-moved k b deals from until r is stood none all_live = λ step tick le before.
     ap (λ (ds : List Deal). reference k step (mean_of ds)) (all_live step.moment before)
     ∙ by_bands k b step (mean_of deals) r tick is (not_moved b.reference (has_stood (adoption k b) from) (has_stood (adoption k b) step.moment) (mean_of deals) stood none)
+
+-- and never while the price of each deal is near the last reference price
+pub prices-near : (k : Kept) (b : Banded) (deals : List Deal) (from until : ℕ) → IsRested k → k.band ≡ Some b → AreNear b.reference deals → PricesFrom k deals from until
+prices-near k b deals from until r is near = λ step tick le before.
+    by_bands k b step (mean_of (live step.moment deals)) r tick is
+    (none_moves (adoption k b) step.moment (mean_of (live step.moment deals)) (near_live_mean b.reference step.moment deals near))

@@ -1,9 +1,9 @@
 // Reference prices and price bands (LULD Plan, Section V).
-ghost use Rattle.std.specs.Prelude.{◌≡◌, ◌+◌, ◌≤◌, [], false, List, unwrap_or, vec_len, vec_capacity};
+ghost use Rattle.std.specs.Prelude.{◌≡◌, ◌+◌, ◌≤◌, [], true, false, List, unwrap_or, vec_len, vec_capacity};
 ghost use Rattle.std.specs.Option.{option_map_or};
 ghost use Rattle.price_core.specs.Moves.{moved_one_percent};
 ghost use Rattle.pause_core.specs.Phases.{is_done};
-ghost use Rattle.window_core.specs.Deals.{live, mean_of};
+ghost use Rattle.window_core.specs.Deals.{AreNear, live, mean_of};
 ghost use Rattle.refprice_core.specs.Prices as prices;
 ghost use Rattle.rulebook.specs.Auction.{is_paused};
 ghost use Rattle.rulebook.specs.Rules as rules;
@@ -114,10 +114,31 @@ impl Kept {
         }
     }
 
+    /// Whether the price of the open step's own deal is at least one per cent away from a reference price.
+    fn deal_is_far(&self, reference: Price) -> bool
+        ensures { result ≡ option_map_or (λ d. moved_one_percent d.price reference) self.now.deal false }
+    {
+        match &self.deal {
+            Some(deal) => moved_one_percent(deal.price, reference),
+            None => false,
+        }
+    }
+
+    /// Whether the price of each deal of the window, the open step's own too, is known to be less than one per cent away
+    /// from a reference price.
+    fn stays_near(&self, deals: &Window, reference: Price) -> bool
+        ensures { result ≡ true → AreNear reference (window self.now deals.now.deals) }
+    {
+        deals.stays_near(reference) && !self.deal_is_far(reference)
+    }
+
     /// Whether the mean of the window, with the open step's own deal, is at least one per cent away from a reference price.
     fn mean_has_moved(&self, t: Moment, deals: &Window, reference: Price) -> bool
         ensures { result ≡ option_map_or (λ m. moved_one_percent m reference) (mean_of (live t (window self.now deals.now.deals))) false }
     {
+        if self.stays_near(deals, reference) {
+            return false;
+        }
         let last = if self.begun.is_some() {
             self.deal
         } else {

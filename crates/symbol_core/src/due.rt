@@ -256,10 +256,14 @@ impl Kept {
         }
     }
 
-    /// With bands: 30 seconds after the last reference price, and then where a deal leaves the mean.
+    /// With bands: never while the price of each deal is near the last reference price. Else 30 seconds after that one, and
+    /// then where a deal leaves the mean.
     fn moves_from(&self, t: Moment, last: &Banded, deals: &Window) -> u64
         ensures { IsRested self.now → self.now.band ≡ Some last.now → PricesFrom self.now deals.now.deals t result }
     {
+        if deals.stays_near(last.reference) {
+            return u64::MAX;
+        }
         let adoption = self.adoption(last);
         if !adoption.has_stood(t) {
             self.adopted.nanos() + THIRTY_SECONDS

@@ -318,6 +318,37 @@ fn notice(seconds: u64, kind: NoticeKind) -> Result<Record, Fail> {
 }
 
 #[test]
+fn prices_that_drift_move_the_bands_where_old_trades_leave_at_ticks_alone(
+    rt: HostRuntime,
+) -> Result<(), Fail> {
+    expect_messages(
+        &rt,
+        &[
+            new_day(3)?,
+            listing(500_000)?,
+            clock(34_200)?,
+            trade(34_200, 1, 500_000, 1)?,
+            trade(34_300, 2, 504_000, 0)?,
+            trade(34_400, 3, 508_000, 0)?,
+            clock(34_499)?,
+            clock(34_500)?,
+            clock(34_600)?,
+            trade(34_650, 4, 512_000, 0)?,
+            clock(34_699)?,
+            clock(34_700)?,
+            clock(34_950)?,
+        ],
+        &[
+            listed(),
+            state(Phase::Trading),
+            band(Cause::First, 500_000, 475_000, 525_000)?,
+            band(Cause::Moved, 506_000, 480_700, 531_300)?,
+            band(Cause::Moved, 512_000, 486_400, 537_600)?,
+        ],
+    )
+}
+
+#[test]
 fn an_unlisted_or_closed_symbol_is_due_at_no_tick(rt: HostRuntime) -> Result<(), Fail> {
     let away = [new_day(3)?];
     assert_eq!(rt; due_after(&rt, false, &away)?, Some(u64::MAX));
@@ -369,6 +400,7 @@ fn a_symbol_is_due_where_a_mean_may_come(rt: HostRuntime) -> Result<(), Fail> {
         listing(500_000)?,
         clock(34_200)?,
         trade(34_210, 1, 500_000, 1)?,
+        trade(34_211, 2, 505_000, 0)?,
     ];
     assert_eq!(rt; due_after(&rt, false, &with_bands)?, Some(34_240));
     let after_30_seconds = [
@@ -376,9 +408,37 @@ fn a_symbol_is_due_where_a_mean_may_come(rt: HostRuntime) -> Result<(), Fail> {
         listing(500_000)?,
         clock(34_200)?,
         trade(34_210, 1, 500_000, 1)?,
+        trade(34_211, 2, 505_000, 0)?,
         quote(34_240, 499_900, 500_100)?,
     ];
     assert_eq!(rt; due_after(&rt, false, &after_30_seconds)?, Some(34_510));
+    Ok(())
+}
+
+#[test]
+fn a_symbol_whose_trades_are_near_its_reference_price_is_due_at_no_end_of_a_trade(
+    rt: HostRuntime,
+) -> Result<(), Fail> {
+    let first_15_minutes = [
+        new_day(3)?,
+        listing(500_000)?,
+        clock(34_200)?,
+        trade(34_210, 1, 500_000, 1)?,
+        trade(34_211, 2, 504_999, 0)?,
+    ];
+    assert_eq!(rt; due_after(&rt, false, &first_15_minutes)?, Some(35_100));
+    let later = [
+        new_day(3)?,
+        listing(500_000)?,
+        clock(34_200)?,
+        trade(34_210, 1, 500_000, 1)?,
+        trade(34_400, 2, 495_001, 0)?,
+        clock(34_510)?,
+        clock(34_700)?,
+        clock(35_100)?,
+        trade(40_000, 3, 504_999, 0)?,
+    ];
+    assert_eq!(rt; due_after(&rt, false, &later)?, Some(56_100));
     Ok(())
 }
 
