@@ -176,10 +176,13 @@ impl Kept {
     }
 
     /// From when on time may bring a new reference price in place of that of the last bands, where none comes at a moment,
-    /// in nanoseconds of the day.
+    /// in nanoseconds of the day: never while the price of each deal is near that one.
     fn moves_after(&self, t: Moment, last: &Banded, deals: &Window) -> u64
         ensures { IsRested self.now → self.now.band ≡ Some last.now → not (is_some (moved_price (adoption self.now last.now) t (mean_of deals.now.deals))) ≡ true → PricesFrom self.now deals.now.deals t result }
     {
+        if deals.stays_near(last.reference) {
+            return u64::MAX;
+        }
         if self.adoption(last).has_stood(t) {
             deals.live_until()
         } else {

@@ -628,33 +628,36 @@ fn among_trades_that_bring_nothing_the_first_at_ten_per_cent_triggers(
 
 #[test]
 fn a_tick_at_which_an_old_trade_leaves_finds_the_next_due(rt: HostRuntime) -> Result<(), Fail> {
-    let two_trades = [
+    let three_trades = [
         new_day(3)?,
         listing(500_000)?,
         clock(34_200)?,
         trade(34_210, 1, 500_000, 1)?,
-        trade(34_260, 2, 500_000, 0)?,
+        trade(34_260, 2, 506_000, 0)?,
+        trade(34_261, 3, 494_000, 0)?,
     ];
-    assert_eq!(rt; due_after(&rt, false, &two_trades)?, Some(34_510));
+    assert_eq!(rt; due_after(&rt, false, &three_trades)?, Some(34_510));
     let first_leaves = [
         new_day(3)?,
         listing(500_000)?,
         clock(34_200)?,
         trade(34_210, 1, 500_000, 1)?,
-        trade(34_260, 2, 500_000, 0)?,
+        trade(34_260, 2, 506_000, 0)?,
+        trade(34_261, 3, 494_000, 0)?,
         clock(34_510)?,
     ];
     assert_eq!(rt; due_after(&rt, false, &first_leaves)?, Some(34_560));
-    let both_leave = [
+    let all_leave = [
         new_day(3)?,
         listing(500_000)?,
         clock(34_200)?,
         trade(34_210, 1, 500_000, 1)?,
-        trade(34_260, 2, 500_000, 0)?,
+        trade(34_260, 2, 506_000, 0)?,
+        trade(34_261, 3, 494_000, 0)?,
         clock(34_510)?,
-        clock(34_560)?,
+        clock(34_561)?,
     ];
-    assert_eq!(rt; due_after(&rt, false, &both_leave)?, Some(35_100));
+    assert_eq!(rt; due_after(&rt, false, &all_leave)?, Some(35_100));
     Ok(())
 }
 

@@ -2,8 +2,12 @@ use Rattle.std.proofs.Common.{ap, sym, ◌∙◌, arith}
 use Rattle.refprice_core.specs.declared.reference.Adoption.{Adoption}
 use Rattle.refprice_core.specs.Prices.{has_stood}
 use Rattle.symbol_core.proofs.Dealt.{moves-after}
-use Rattle.symbol_core.proofs.Waiting.{prices-stand}
+use Rattle.symbol_core.proofs.Waiting.{prices-near, prices-stand}
 use Rattle.symbol_core.proofs.kept.Kept.moves_after.Goals as goal
+
+pub returns-then-stays_near : goal.returns-then-stays_near
+returns-then-stays_near c = λ rested is keeps.
+    prices-near c.args.self.now c.args.last.now c.args.deals.now.deals c.args.t 18446744073709551615 rested is (c.stays_near.ensures c.if-stays_near.true)
 
 pub returns-then-has_stood : goal.returns-then-has_stood
 returns-then-has_stood c = λ rested is keeps.
