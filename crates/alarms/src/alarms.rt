@@ -64,7 +64,9 @@ fn first_due(moments: &[u64], from: usize, before: usize, t: u64) -> Option<usiz
     None
 }
 
-/// The first due place of one block from a place of it on. Where none of the block is due, its bound becomes exact.
+/// The first due place of one block from a place of it on. Where none of the block is due, its bound becomes exact. It stays
+/// a call of its own: joined into the loop over blocks, it would have that loop reckon with its places at each block.
+#[inline(never)]
 fn first_of_block(
     moments: &[u64],
     bounds: &mut [u64],

@@ -1,7 +1,7 @@
 // From when on, and over which market, alarms of stocks hold.
 ghost use Rattle.std.specs.Prelude.{◌≡◌, ℕ, true, Some, List, length};
 ghost use Rattle.symbol_core.specs.Rests.{Held};
-ghost use Rattle.market_core.specs.Sections.{EachIdles, IdlesUntil};
+ghost use Rattle.market_core.specs.Sections.{EachIdles, Idles, IdlesUntil};
 
 use alarms::Alarms;
 use session_core::Moment;
@@ -23,11 +23,11 @@ fn is_same(a: &MarketView, b: &MarketView) -> bool
     a == b
 }
 
-/// Whether what holds since one moment holds since another.
-fn includes(since: &Since, other: &Since) -> bool
-    ensures { result ≡ true → (alarm : ℕ) (held : Held) → IdlesUntil (Some since.now) alarm held → IdlesUntil (Some other.now) alarm held }
+/// Whether what holds from a moment on over a market holds since another.
+fn includes(from: Moment, market: &MarketView, since: &Since) -> bool
+    ensures { result ≡ true → (alarm : ℕ) (held : Held) → Idles market.now from alarm held → IdlesUntil (Some since.now) alarm held }
 {
-    since.from.nanos() <= other.from.nanos() && is_same(&since.market, &other.market)
+    from.nanos() <= since.from.nanos() && is_same(market, &since.market)
 }
 
 /// Whether the alarms that held hold from now on.
@@ -35,7 +35,7 @@ fn still_holds(since: &Option<Since>, now: &Since) -> bool
     ensures { result ≡ true → (alarm : ℕ) (held : Held) → IdlesUntil since.now alarm held → IdlesUntil (Some now.now) alarm held }
 {
     match since {
-        Some(since) => includes(since, now),
+        Some(since) => includes(since.from, &since.market, now),
         None => false,
     }
 }
@@ -68,12 +68,9 @@ fn alarm_since(symbol: &Symbol, since: &Since) -> u64
     ensures { IdlesUntil (Some since.now) result symbol.now }
 {
     match symbol.due() {
+        // Asked of the market where it lies: a copy of what was just written by parts would wait for them all.
         Some(due) => {
-            let known = Since {
-                from: due.from,
-                market: due.market,
-            };
-            if includes(&known, since) {
+            if includes(due.from, &due.market, since) {
                 due.until
             } else {
                 ALWAYS_DUE
