@@ -4,5 +4,7 @@ pub mod Reads
 pub mod Spans
 pub mod Scales
 pub mod Places
+pub mod Rooms
 pub mod Words
 pub mod Runs
+pub mod Told

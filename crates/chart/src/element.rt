@@ -2,14 +2,57 @@
 
 use crate::label::{price, time};
 use crate::place::Place;
+use crate::room::{Room, Rooms};
 use price_core::{NoMemory, Price};
 use session_core::{Level, Moment, Phase};
 use std::alloc::Global;
 use wire_out::{Message, ShortKind, Stamped};
 
+/// How words stand in the picture.
+#[derive(Clone, Copy, Debug, PartialEq, Eq)]
+enum Style {
+    /// Beside a line, from a point on.
+    Plain,
+    /// In bold letters, from a point on.
+    Strong,
+    /// On a white ground, from a point on.
+    Plate,
+    /// On a white ground, up to a point.
+    PlateBefore,
+}
+
+impl Style {
+    /// The class of such words in the picture's style.
+    fn class(self) -> &'static str {
+        match self {
+            Style::Plain => "",
+            Style::Strong => " class=\"strong\"",
+            Style::Plate => " class=\"plate\"",
+            Style::PlateBefore => " class=\"plate left\"",
+        }
+    }
+}
+
+/// Words at a point, where they stand over none that are drawn; else no text.
+fn label(
+    alloc: Global,
+    rooms: &mut Rooms,
+    style: Style,
+    x: u64,
+    y: u64,
+    words: &str,
+) -> Result<String, NoMemory> {
+    if !rooms.take(Room::of_words(x, y, style == Style::PlateBefore, words))? {
+        return Ok(String::new(alloc));
+    }
+    let class = style.class();
+    Ok(format!(in alloc; "<text{class} x=\"{x}\" y=\"{y}\">{words}</text>")?)
+}
+
 /// The reference price and the bands as three lines, with a price at each where they are wide enough for it.
 fn band(
     alloc: Global,
+    rooms: &mut Rooms,
     place: &Place,
     reference: Price,
     lower: Price,
@@ -33,13 +76,16 @@ fn band(
     let upper = price(alloc, upper)?;
     let reference = price(alloc, reference)?;
     let lower = price(alloc, lower)?;
+    let highest = label(alloc, rooms, Style::Plain, x, above, upper.as_str())?;
+    let between = label(alloc, rooms, Style::Plain, x, over, reference.as_str())?;
+    let lowest = label(alloc, rooms, Style::Plain, x, below, lower.as_str())?;
     Ok(format!(in alloc;
-        "<g><path class=\"band\" d=\"M{left} {top}H{right}M{left} {bottom}H{right}\"/><path class=\"reference\" d=\"M{left} {middle}H{right}\"/><text x=\"{x}\" y=\"{above}\">{upper}</text><text x=\"{x}\" y=\"{over}\">{reference}</text><text x=\"{x}\" y=\"{below}\">{lower}</text></g>\n"
+        "<g><path class=\"band\" d=\"M{left} {top}H{right}M{left} {bottom}H{right}\"/><path class=\"reference\" d=\"M{left} {middle}H{right}\"/>{highest}{between}{lowest}</g>\n"
     )?)
 }
 
 /// A round's collars as two lines, with the round's number.
-fn collar(alloc: Global, place: &Place, round: u16) -> Result<String, NoMemory> {
+fn collar(alloc: Global, rooms: &mut Rooms, place: &Place, round: u16) -> Result<String, NoMemory> {
     let Place {
         left,
         right,
@@ -48,20 +94,30 @@ fn collar(alloc: Global, place: &Place, round: u16) -> Result<String, NoMemory> 
     let (top, bottom) = (heights.top, heights.bottom);
     let above = top.saturating_sub(20);
     let below = bottom.saturating_add(70);
+    let words = format!(in alloc; "r{round}")?;
+    let upper = label(alloc, rooms, Style::Plain, left, above, words.as_str())?;
+    let lower = label(alloc, rooms, Style::Plain, left, below, words.as_str())?;
     Ok(format!(in alloc;
-        "<g><path class=\"collar\" d=\"M{left} {top}H{right}M{left} {bottom}H{right}M{left} {top}V{bottom}\"/><text x=\"{left}\" y=\"{above}\">r{round}</text><text x=\"{left}\" y=\"{below}\">r{round}</text></g>\n"
+        "<g><path class=\"collar\" d=\"M{left} {top}H{right}M{left} {bottom}H{right}M{left} {top}V{bottom}\"/>{upper}{lower}</g>\n"
     )?)
 }
 
 /// A reopening price as a cross in a circle, with the price.
-fn release(alloc: Global, place: &Place, units: Price) -> Result<String, NoMemory> {
+fn release(
+    alloc: Global,
+    rooms: &mut Rooms,
+    place: &Place,
+    units: Price,
+) -> Result<String, NoMemory> {
     let x = place.left;
     let y = place.heights.middle;
     let beside = x.saturating_add(50);
     let under = y.saturating_add(80);
     let reopening = price(alloc, units)?;
+    let words = format!(in alloc; "reopens {reopening}")?;
+    let words = label(alloc, rooms, Style::Strong, beside, under, words.as_str())?;
     Ok(format!(in alloc;
-        "<g><circle class=\"release\" cx=\"{x}\" cy=\"{y}\" r=\"28\"/><circle cx=\"{x}\" cy=\"{y}\" r=\"8\"/><text class=\"strong\" x=\"{beside}\" y=\"{under}\">reopens {reopening}</text></g>\n"
+        "<g><circle class=\"release\" cx=\"{x}\" cy=\"{y}\" r=\"28\"/><circle cx=\"{x}\" cy=\"{y}\" r=\"8\"/>{words}</g>\n"
     )?)
 }
 
@@ -83,71 +139,63 @@ fn bar(alloc: Global, style: &str, place: &Place) -> Result<String, NoMemory> {
 /// The moment at which a span begins, and words, in its lane.
 fn words_at(
     alloc: Global,
-    style: &str,
+    rooms: &mut Rooms,
+    style: Style,
     x: u64,
-    place: &Place,
-    moment: Moment,
+    top: u64,
     words: &str,
 ) -> Result<String, NoMemory> {
-    let y = place.heights.top.saturating_add(54);
-    let begin = time(alloc, moment)?;
-    Ok(format!(in alloc; "<text class=\"{style}\" x=\"{x}\" y=\"{y}\">{begin} {words}</text>\n")?)
+    let y = top.saturating_add(54);
+    let text = label(alloc, rooms, style, x, y, words)?;
+    if text.is_empty() {
+        return Ok(text);
+    }
+    Ok(format!(in alloc; "{text}\n")?)
 }
 
 /// The words of a bar: behind it where there is room, else before it, else over it.
 fn words_of_bar(
     alloc: Global,
+    rooms: &mut Rooms,
     place: &Place,
     moment: Moment,
     words: &str,
 ) -> Result<String, NoMemory> {
-    let Place { left, right, .. } = *place;
-    if right <= 5500 {
-        words_at(
-            alloc,
-            "plate",
-            right.saturating_add(20),
-            place,
-            moment,
-            words,
-        )
+    let Place {
+        left,
+        right,
+        heights,
+    } = *place;
+    let begin = time(alloc, moment)?;
+    let words = format!(in alloc; "{begin} {words}")?;
+    let (style, x) = if right <= 5500 {
+        (Style::Plate, right.saturating_add(20))
     } else if left >= 1600 {
-        words_at(
-            alloc,
-            "plate left",
-            left.saturating_sub(20),
-            place,
-            moment,
-            words,
-        )
+        (Style::PlateBefore, left.saturating_sub(20))
     } else {
-        words_at(
-            alloc,
-            "plate",
-            left.saturating_add(20),
-            place,
-            moment,
-            words,
-        )
-    }
+        (Style::Plate, left.saturating_add(20))
+    };
+    words_at(alloc, rooms, style, x, heights.top, words.as_str())
 }
 
 /// A bar in a lane, and its words.
 fn named(
     alloc: Global,
+    rooms: &mut Rooms,
     style: &str,
     place: &Place,
     moment: Moment,
     words: &str,
 ) -> Result<String, NoMemory> {
     let bar = bar(alloc, style, place)?;
-    let words = words_of_bar(alloc, place, moment, words)?;
+    let words = words_of_bar(alloc, rooms, place, moment, words)?;
     Ok(format!(in alloc; "{bar}{words}")?)
 }
 
 /// A bar in a lane, and its stretch of the prices behind it.
 fn shaded(
     alloc: Global,
+    rooms: &mut Rooms,
     style: &str,
     place: &Place,
     moment: Moment,
@@ -155,34 +203,47 @@ fn shaded(
 ) -> Result<String, NoMemory> {
     let left = place.left;
     let width = place.right.saturating_sub(left);
-    let bar = named(alloc, style, place, moment, words)?;
+    let bar = named(alloc, rooms, style, place, moment, words)?;
     Ok(format!(in alloc;
         "<rect class=\"{style} behind\" x=\"{left}\" y=\"300\" width=\"{width}\" height=\"2600\"/>\n{bar}"
     )?)
 }
 
-fn state(alloc: Global, place: &Place, moment: Moment, phase: Phase) -> Result<String, NoMemory> {
+fn state(
+    alloc: Global,
+    rooms: &mut Rooms,
+    place: &Place,
+    moment: Moment,
+    phase: Phase,
+) -> Result<String, NoMemory> {
     match phase {
-        Phase::LimitLow => named(alloc, "limit", place, moment, "lower band"),
-        Phase::LimitHigh => named(alloc, "limit", place, moment, "upper band"),
-        Phase::Paused => shaded(alloc, "pause", place, moment, ""),
-        Phase::Closing => shaded(alloc, "pause", place, moment, "to the close"),
-        Phase::Halted => shaded(alloc, "halt", place, moment, ""),
+        Phase::LimitLow => named(alloc, rooms, "limit", place, moment, "lower band"),
+        Phase::LimitHigh => named(alloc, rooms, "limit", place, moment, "upper band"),
+        Phase::Paused => shaded(alloc, rooms, "pause", place, moment, ""),
+        Phase::Closing => shaded(alloc, rooms, "pause", place, moment, "to the close"),
+        Phase::Halted => shaded(alloc, rooms, "halt", place, moment, ""),
         Phase::Shut | Phase::Trading | Phase::Stopped | Phase::Closed => Ok(String::new(alloc)),
     }
 }
 
-fn breaker(alloc: Global, place: &Place, moment: Moment, level: Level) -> Result<String, NoMemory> {
+fn breaker(
+    alloc: Global,
+    rooms: &mut Rooms,
+    place: &Place,
+    moment: Moment,
+    level: Level,
+) -> Result<String, NoMemory> {
     match level {
-        Level::One => shaded(alloc, "breaker", place, moment, "Level 1"),
-        Level::Two => shaded(alloc, "breaker", place, moment, "Level 2"),
-        Level::Three => shaded(alloc, "breaker", place, moment, "Level 3"),
+        Level::One => shaded(alloc, rooms, "breaker", place, moment, "Level 1"),
+        Level::Two => shaded(alloc, rooms, "breaker", place, moment, "Level 2"),
+        Level::Three => shaded(alloc, rooms, "breaker", place, moment, "Level 3"),
     }
 }
 
 /// The restriction lasts to the end of its day, so its words stand over the bar.
 fn short(
     alloc: Global,
+    rooms: &mut Rooms,
     place: &Place,
     kind: ShortKind,
     moment: Moment,
@@ -193,25 +254,33 @@ fn short(
     };
     let bar = bar(alloc, "short", place)?;
     let x = place.left.saturating_add(20);
-    let words = words_at(alloc, "plate", x, place, moment, words)?;
+    let begin = time(alloc, moment)?;
+    let words = format!(in alloc; "{begin} {words}")?;
+    let top = place.heights.top;
+    let words = words_at(alloc, rooms, Style::Plate, x, top, words.as_str())?;
     Ok(format!(in alloc; "{bar}{words}")?)
 }
 
-/// What a message draws at its place.
-pub fn element(alloc: Global, x: &Stamped, place: &Place) -> Result<String, NoMemory> {
+/// What a message draws at its place, with its words where they stand over none that are drawn.
+pub fn element(
+    alloc: Global,
+    rooms: &mut Rooms,
+    x: &Stamped,
+    place: &Place,
+) -> Result<String, NoMemory> {
     match x.message {
         Message::Band {
             reference,
             lower,
             upper,
             ..
-        } => band(alloc, place, reference, lower, upper),
-        Message::Collar { round, .. } => collar(alloc, place, round),
-        Message::Release { price, .. } => release(alloc, place, price),
-        Message::State { phase, .. } => state(alloc, place, x.moment, phase),
-        Message::Straddle { on: true, .. } => named(alloc, "straddle", place, x.moment, ""),
-        Message::Breaker { level, .. } => breaker(alloc, place, x.moment, level),
-        Message::Short { kind, .. } => short(alloc, place, kind, x.moment),
+        } => band(alloc, rooms, place, reference, lower, upper),
+        Message::Collar { round, .. } => collar(alloc, rooms, place, round),
+        Message::Release { price, .. } => release(alloc, rooms, place, price),
+        Message::State { phase, .. } => state(alloc, rooms, place, x.moment, phase),
+        Message::Straddle { on: true, .. } => named(alloc, rooms, "straddle", place, x.moment, ""),
+        Message::Breaker { level, .. } => breaker(alloc, rooms, place, x.moment, level),
+        Message::Short { kind, .. } => short(alloc, rooms, place, kind, x.moment),
         Message::Straddle { on: false, .. } | Message::Listed { .. } | Message::MarketResume => {
             Ok(String::new(alloc))
         }

@@ -9,6 +9,7 @@ mod law;
 mod picture;
 mod place;
 mod reading;
+mod room;
 mod run;
 mod shown;
 mod span;
@@ -41,5 +42,7 @@ fn chart_here<Rt: Env + Input + Print + AllocGlobal>(rt: &Rt) -> io::Result<Stat
 
 fn main(rt: HostRuntime) -> ExitCode {
     // Words that can't be read ask for nothing that is understood.
-    end(&rt, chart_here(&rt).unwrap_or(Status::Usage))
+    let status = chart_here(&rt).unwrap_or(Status::Usage);
+    let stderr = rt.stderr();
+    end(&mut io::writer(&stderr), status).code
 }

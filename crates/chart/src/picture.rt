@@ -9,6 +9,7 @@ use crate::element::element;
 use crate::frame::{HATCHINGS, NAMES, STYLE, put_prices, put_times};
 use crate::label::name;
 use crate::place::{Place, places_of};
+use crate::room::Rooms;
 use price_core::NoMemory;
 use std::alloc::Global;
 use wire_out::{Message, Stamped};
@@ -49,8 +50,9 @@ fn put_elements(
     messages: &[Stamped],
     places: &[Place],
 ) -> Result<(), NoMemory> {
+    let mut rooms = Rooms::new(alloc);
     for (x, place) in messages.iter().zip(places) {
-        text.push_str(element(alloc, x, place)?.as_str())?;
+        text.push_str(element(alloc, &mut rooms, x, place)?.as_str())?;
     }
     Ok(())
 }

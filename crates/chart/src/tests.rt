@@ -34,6 +34,21 @@ fn a_pause_with_two_rounds_of_collars(rt: HostRuntime) -> Result<(), Fail> {
 }
 
 #[test]
+fn words_that_would_stand_over_others_are_left_out(rt: HostRuntime) -> Result<(), Fail> {
+    let lines =
+        "1 10:00:00.000000000 state 7 limitlow\n2 10:00:05.000000000 state 7 trading\n3 10:05:00.000000000 state 7 limitlow\n4 10:05:10.000000000 state 7 trading\n5 11:30:00.000000000 state 7 limitlow\n6 11:30:05.000000000 state 7 trading\n";
+    let picture = writes(&rt, &["chart", "7"], lines, Status::Done)?;
+    for begin in [1520, 1580, 2600] {
+        let bar = format!(in rt.alloc(); "<rect class=\"limit\" x=\"{begin}\"")?;
+        assert!(rt; picture.contains(bar.as_str()));
+    }
+    assert!(rt; picture.contains("10:00:00 lower band"));
+    assert!(rt; !picture.contains("10:05:00 lower band"));
+    assert!(rt; picture.contains("11:30:00 lower band"));
+    Ok(())
+}
+
+#[test]
 fn a_market_wide_halt(rt: HostRuntime) -> Result<(), Fail> {
     let lines =
         "hello 5 0\n1 10:20:00.000000000 breaker 1 4650.00\nack 6\n2 10:35:00.000000000 marketresume\n";

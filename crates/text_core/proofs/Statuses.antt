@@ -8,7 +8,8 @@ use Rattle.host_core.specs.declared.status.Status.{Status}
 use Rattle.host_core.specs.declared.status.Status.TheVariants.{ReadFault, SendFault, NoMemory}
 use Rattle.host_core.specs.Outside.{Outside, Agrees, MayLeave, Elapses, Rose, NoFault}
 use Rattle.host_core.specs.Faults.{Causes}
-use Rattle.host_core.proofs.Moments.{ended}
+use Rattle.host_core.proofs.Moments.{ended, nothing, widened}
+use Rattle.host_core.proofs.Causes.{no_fault}
 use Rattle.text_core.specs.declared.kind.Kind.{Kind}
 use Rattle.text_core.specs.declared.task.Task.{Task}
 use Rattle.stream_core.specs.Pending.{SendsPrefix, SentPrefix}
@@ -17,7 +18,10 @@ use Rattle.text_core.specs.Streams.{units_within, text_of, text_for, end_of}
 use Rattle.text_core.specs.Translated.{Answered, IsEnd, IsAnswer, Translated}
 use Rattle.stream_core.specs.Ends.{answer_of}
 use Rattle.stream_core.specs.Asking.{Prompt}
-use Rattle.stream_core.proofs.Pending.{prefix_sent}
+use Rattle.stream_core.proofs.Pending.{prefix_sent, sends_none}
+use Rattle.stream_core.proofs.Asking.{no_ask}
+use Rattle.stream_core.proofs.Taken.{takes_none}
+use Rattle.text_core.proofs.Beginning.{exchanges_none}
 
 at_an_end : (result : Result Status Fault) (P : Status → Type 0) → IfOk result P → IsEnd (answer_of result) → P (answer_of result)
 at_an_end (Ok s) P p end = p
@@ -93,3 +97,15 @@ module _ (task : Task) (kind : Kind) (most : ℕ) (old new : Outside) (result : 
     kind = answers task result end unkept;
     continues = keeps.continues;
   }
+
+-- where no room was taken, the host was not called
+pub nothing_translated : (task : Task) (kind : Kind) (most : ℕ) (now : Outside)
+    → ((image bytes : List ℕ) → now.leaves now.moment image bytes → Agrees now.sent bytes)
+    → ((sent : List ℕ) → now.sent ≡ Some sent → (image : List ℕ) × MayLeave now image)
+    → Translated task kind most NoMemory now now
+nothing_translated task kind most now sent_now stops_now =
+    translated task kind most now now (Err fault.Memory)
+    (λ input is. widened (nothing now sent_now) _ (sends_none _ _))
+    (λ input is. no_ask (text_for task kind) now.sent input refl)
+    (takes_none most _ _ refl) (exchanges_none now) sent_now stops_now tt (λ is. absurd cc) (no_fault now)
+    (λ input is. tt) (λ input is failed. absurd cc)

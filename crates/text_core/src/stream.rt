@@ -18,6 +18,7 @@ use crate::kind::Kind;
 use crate::task::Task;
 use crate::translator::Translator;
 use host_core::{Fault, Host, Status};
+use price_core::NoMemory;
 use std::alloc::Global;
 use stream_core::{Outbox, PIECE, answer_of, exchange};
 
@@ -55,32 +56,6 @@ fn close_at<H: Host>(
         return translator.close(task, kind, host);
     }
     Ok(())
-}
-
-/// Answers the last line of a text that was read to its end, and sends all that waits.
-fn finish<H: Host>(
-    translator: &mut Translator,
-    task: Task,
-    kind: Kind,
-    host: &mut H,
-    at_end: bool,
-) -> Result<(), Fault>
-    requires few { translator.old.writer.number < 2 ^ 42 }
-    ensures answers { (begin : Option (List ℕ)) (read : List ℕ) → Reads task kind begin read translator.old (H.outside host.old).sent
-        → OnOk result (Answers task kind begin (closed_units task at_end read) translator.new.writer (H.outside host.new).sent) }
-    ensures sent { (begin : Option (List ℕ)) (read : List ℕ) → Reads task kind begin read translator.old (H.outside host.old).sent
-        → OnOk result ((H.outside host.new).sent ≡ append_known begin (text_of task kind (closed_units task at_end read))) }
-    ensures moments { (begin : Option (List ℕ)) (read : List ℕ) → Reads task kind begin read translator.old (H.outside host.old).sent
-        → Elapses (H.outside host.old) (H.outside host.new) (SendsPrefix begin (text_of task kind (closed_units task at_end read)) (H.outside host.old)) }
-    ensures cutter { translator.new.cutter ≡ translator.old.cutter }
-    ensures bad { translator.old.writer.bad ≡ true → translator.new.writer.bad ≡ true }
-    ensures few { OnOk result (translator.new.writer.number < 2 ^ 43) }
-    ensures keeps { OnlySends (H.outside host.old) (H.outside host.new) }
-    ensures causes { Causes result (H.outside host.old) (H.outside host.new) }
-    ensures fault { IfErr result (λ fault. fault ≡ Fault.Send) }
-{
-    close_at(translator, task, kind, host, at_end)?;
-    translator.writer.outbox.flush(host)
 }
 
 /// How a command ends that has answered all it read, so many bytes of at most so many.
@@ -146,44 +121,46 @@ fn translate_input<H: Host>(
         open = goes_on(count, translator.writer.bad);
         read += count as u64;
     }
-    finish(translator, task, kind, host, read < most)?;
-    Ok(ending(translator, task, read, most))
+    close_at(translator, task, kind, host, read < most)?;
+    let status = ending(translator, task, read, most);
+    translator.writer.outbox.flush(host)?;
+    Ok(status)
 }
 
-/// Translates the input, up to its end, to so many bytes, or to its first bad unit.
-fn translate_within<H: Host>(
-    alloc: Global,
-    host: &mut H,
-    task: Task,
-    kind: Kind,
-    most: u64,
-) -> Result<Status, Fault>
-    requires small { most < 2 ^ 41 }
-    ensures exact { (input : List ℕ) → (H.outside host.old).input ≡ Some input
-        → IfOk result (λ status. (status ≡ end_of task kind most input) × ((H.outside host.new).sent ≡ append_known (H.outside host.old).sent (text_of task kind (units_within task most input)))) }
-    ensures end { IfOk result (λ status. IsEnd status × IsAnswer task status) }
-    ensures unread { (input : List ℕ) → (H.outside host.old).input ≡ Some input → result ≡ Err Fault.Read
-        → (count : ℕ) × (count < most) × Answered task kind (H.outside host.old).sent input count (H.outside host.new) }
-    ensures moments { (input : List ℕ) → (H.outside host.old).input ≡ Some input
-        → Elapses (H.outside host.old) (H.outside host.new) (SendsPrefix (H.outside host.old).sent (text_of task kind (units_within task most input)) (H.outside host.old)) }
-    ensures prompt { (input : List ℕ) → (H.outside host.old).input ≡ Some input
-        → Prompt (text_for task kind) (H.outside host.old).sent input (H.outside host.old).asks (H.outside host.new).asks }
-    ensures bytes { ReadsAtMost most (H.outside host.old).input (H.outside host.new).input }
-    ensures keeps { OnlyExchanges (H.outside host.old) (H.outside host.new) }
-    ensures causes { Causes result (H.outside host.old) (H.outside host.new) }
-    ensures unkept { result ≢ Err Fault.Disk }
+/// What a command needs memory for: all of it is taken before the host is called.
+#[derive(Drop)]
+struct Room {
+    translator: Translator,
+    buffer: Vec<u8>,
+}
+
+/// Takes the room of a command.
+fn take_room(alloc: Global) -> Result<Room, NoMemory>
+    ensures fresh { IfOk result (λ room. room.translator ≡ record { cutter = []; line = []; writer = record { outbox = []; number = 0; bad = false } }) }
+    ensures buffer { IfOk result (λ room. length room.buffer.items ≡ 65536) }
 {
     let outbox = Outbox::new(alloc)?;
-    let mut translator = Translator::new(outbox);
-    let mut buffer = vec![in alloc; 0; PIECE]?;
-    translate_input(&mut translator, task, kind, host, &mut buffer, most)
+    Ok(Room {
+        translator: Translator::new(outbox),
+        buffer: vec![in alloc; 0; PIECE]?,
+    })
 }
 
 /// Translates the input, up to its end, to so many bytes, or to its first bad unit.
 fn translate<H: Host>(alloc: Global, host: &mut H, task: Task, kind: Kind) -> Status
     ensures translated { Translated task kind bytes_max result (H.outside host.old) (H.outside host.new) }
 {
-    answer_of(translate_within(alloc, host, task, kind, BYTES_MAX))
+    let Ok(mut room) = take_room(alloc) else {
+        return Status::NoMemory;
+    };
+    answer_of(translate_input(
+        &mut room.translator,
+        task,
+        kind,
+        host,
+        &mut room.buffer,
+        BYTES_MAX,
+    ))
 }
 
 /// Cuts the input into frames by their length bytes, and sends the line of each with a newline, up to the end of the

@@ -126,33 +126,72 @@ returns-clause-exact g c = λ input is.
     let was = c.loop-open.invariant.polls input is in
     let either = ended_by was c.loop-open-test.false in
     let begin = (g.H.Host.outside c.args.host.now).sent in
+    let answers = c.in_ok-close_at.ensures.answers begin _ was.reads in
     let at = ends_so c.args.task c.args.most input c.args.kind c.loop-open.read c.loop-open.invariant.within was.there in (
-      c.ending.ensures.status (take c.loop-open.read input) (cutter_rest c.args.task _ _ was.reads c.finish.ensures.cutter c.finish.ensures.bad)
-          ∙ at _ begin _ either (c.in_ok-finish.ensures.answers begin _ was.reads),
-      c.in_ok-finish.ensures.sent begin _ was.reads
+      c.ending-status.ensures.status (take c.loop-open.read input) (cutter_rest c.args.task _ _ was.reads c.close_at.ensures.cutter c.close_at.ensures.bad)
+          ∙ at _ begin _ either answers,
+      c.in_ok-flush.ensures.sent begin _ answers.pending_is
           ∙ ap (λ (t : List ℕ). append_known begin t) (closed_text c.args.task c.args.most input c.args.kind c.loop-open.read c.loop-open.invariant.within was.there either),
     )
 
 pub returns-clause-moments : goal.returns-clause-moments
 returns-clause-moments g c = λ input is.
     let was = c.loop-open.invariant.polls input is in
-    let either = ended_by was c.loop-open-test.false in
+    let closed = closed_text c.args.task c.args.most input c.args.kind c.loop-open.read c.loop-open.invariant.within was.there (ended_by was c.loop-open-test.false) in
     let begin = (g.H.Host.outside c.args.host.now).sent in
-    sends_on was.moments _ [] (append-nil _)
-    (sends_same _ _ (closed_text c.args.task c.args.most input c.args.kind c.loop-open.read c.loop-open.invariant.within was.there either) (c.finish.ensures.moments begin _ was.reads))
+    let answers = c.in_ok-close_at.ensures.answers begin _ was.reads in
+    sends_on (sends_on was.moments _ [] (append-nil _) (sends_same _ _ closed (c.close_at.ensures.moments begin _ was.reads))) _ [] (append-nil _)
+    (sends_same _ _ closed (c.flush.ensures.moments begin _ answers.pending_is))
 
 pub returns-clause-prompt : goal.returns-clause-prompt
 returns-clause-prompt g c = λ input is.
-    more_asks (text_for c.args.task c.args.kind) _ input (c.loop-open.invariant.polls input is).prompt (no_ask (text_for c.args.task c.args.kind) _ input c.finish.ensures.keeps.asks)
+    more_asks (text_for c.args.task c.args.kind) _ input
+    (more_asks (text_for c.args.task c.args.kind) _ input (c.loop-open.invariant.polls input is).prompt (no_ask (text_for c.args.task c.args.kind) _ input c.close_at.ensures.keeps.asks))
+    (no_ask (text_for c.args.task c.args.kind) _ input c.flush.ensures.keeps.asks)
 
-pub returns-in_err-finish-clause-moments : goal.returns-in_err-finish-clause-moments
-returns-in_err-finish-clause-moments g c = λ input is.
+pub returns-clause-bytes : goal.returns-clause-bytes
+returns-clause-bytes g c =
+    takes_on c.loop-open.read 0 _ _ _ _ (omega (arith, c.loop-open.invariant.within)) c.loop-open.invariant.taken
+    (takes_none 0 _ _ (c.flush.ensures.keeps.input ∙ c.close_at.ensures.keeps.input))
+
+pub returns-clause-keeps : goal.returns-clause-keeps
+returns-clause-keeps g c = exchanges_both c.loop-open.invariant.keeps (exchanges_both (sends_exchange c.close_at.ensures.keeps) (sends_exchange c.flush.ensures.keeps))
+
+pub returns-clause-causes : goal.returns-clause-causes
+returns-clause-causes g c = faultless c.loop-open.invariant.none (faultless c.in_ok-close_at.ensures.causes c.in_ok-flush.ensures.causes)
+
+-- the last line could not be answered
+pub returns-in_err-close_at-clause-moments : goal.returns-in_err-close_at-clause-moments
+returns-in_err-close_at-clause-moments g c = λ input is.
     let was = c.loop-open.invariant.polls input is in
-    let either = ended_by was c.loop-open-test.false in
+    let closed = closed_text c.args.task c.args.most input c.args.kind c.loop-open.read c.loop-open.invariant.within was.there (ended_by was c.loop-open-test.false) in
     let begin = (g.H.Host.outside c.args.host.now).sent in
-    sends_on was.moments _ [] (append-nil _)
-    (sends_same _ _ (closed_text c.args.task c.args.most input c.args.kind c.loop-open.read c.loop-open.invariant.within was.there either) (c.finish.ensures.moments begin _ was.reads))
+    sends_on was.moments _ [] (append-nil _) (sends_same _ _ closed (c.close_at.ensures.moments begin _ was.reads))
 
-pub returns-in_err-finish-clause-prompt : goal.returns-in_err-finish-clause-prompt
-returns-in_err-finish-clause-prompt g c = λ input is.
-    more_asks (text_for c.args.task c.args.kind) _ input (c.loop-open.invariant.polls input is).prompt (no_ask (text_for c.args.task c.args.kind) _ input c.finish.ensures.keeps.asks)
+pub returns-in_err-close_at-clause-prompt : goal.returns-in_err-close_at-clause-prompt
+returns-in_err-close_at-clause-prompt g c = λ input is.
+    more_asks (text_for c.args.task c.args.kind) _ input (c.loop-open.invariant.polls input is).prompt (no_ask (text_for c.args.task c.args.kind) _ input c.close_at.ensures.keeps.asks)
+
+-- what waits at the end could not be sent
+pub returns-in_err-flush-clause-moments : goal.returns-in_err-flush-clause-moments
+returns-in_err-flush-clause-moments g c = λ input is.
+    let was = c.loop-open.invariant.polls input is in
+    let closed = closed_text c.args.task c.args.most input c.args.kind c.loop-open.read c.loop-open.invariant.within was.there (ended_by was c.loop-open-test.false) in
+    let begin = (g.H.Host.outside c.args.host.now).sent in
+    let answers = c.in_ok-close_at.ensures.answers begin _ was.reads in
+    sends_on (sends_on was.moments _ [] (append-nil _) (sends_same _ _ closed (c.close_at.ensures.moments begin _ was.reads))) _ [] (append-nil _)
+    (sends_same _ _ closed (c.flush.ensures.moments begin _ answers.pending_is))
+
+pub returns-in_err-flush-clause-prompt : goal.returns-in_err-flush-clause-prompt
+returns-in_err-flush-clause-prompt g c = λ input is.
+    more_asks (text_for c.args.task c.args.kind) _ input
+    (more_asks (text_for c.args.task c.args.kind) _ input (c.loop-open.invariant.polls input is).prompt (no_ask (text_for c.args.task c.args.kind) _ input c.close_at.ensures.keeps.asks))
+    (no_ask (text_for c.args.task c.args.kind) _ input c.flush.ensures.keeps.asks)
+
+pub returns-in_err-flush-clause-bytes : goal.returns-in_err-flush-clause-bytes
+returns-in_err-flush-clause-bytes g c =
+    takes_on c.loop-open.read 0 _ _ _ _ (omega (arith, c.loop-open.invariant.within)) c.loop-open.invariant.taken
+    (takes_none 0 _ _ (c.flush.ensures.keeps.input ∙ c.close_at.ensures.keeps.input))
+
+pub returns-in_err-flush-clause-keeps : goal.returns-in_err-flush-clause-keeps
+returns-in_err-flush-clause-keeps g c = exchanges_both c.loop-open.invariant.keeps (exchanges_both (sends_exchange c.close_at.ensures.keeps) (sends_exchange c.flush.ensures.keeps))
