@@ -1,6 +1,9 @@
 -- What several parts tell of a block, one behind the other, is what one market gives.
 use Rattle.std.proofs.Common.{◌≡◌, ℕ, zero, suc, ◌+◌, ◌<◌, ◌≤◌, Bool, true, false, List, [], ◌∷◌, ◌++◌, length, refl, sym, ap, subst, ◌∙◌, arith}
 use Rattle.std.specs.Prelude.{All, flat_map, map}
+use Rattle.std.proofs.Math.Logic.{∥∥₁_elim, ∥∥₁_map, ∥∥₁_prop}
+use Rattle.std.proofs.Props.{props}
+use mathlib.Core.Sum.{⊎_set}
 use Rattle.std.proofs.lemmas.List.{append-nil}
 use Rattle.std.proofs.lemmas.List.Elements.{All-nil, All-cons, All-append}
 use Rattle.wire_in.specs.declared.record.Record.{Record}
@@ -18,6 +21,7 @@ use Rattle.shard_core.specs.Turns.{LeadsTo, PartsTell, Tells, first_id, noted, t
 use Rattle.shard_core.proofs.Blocks.{block_gives, records_of}
 use Rattle.shard_core.proofs.Markets.{market_with}
 use Rattle.shard_core.proofs.Merging.{merged_is, said_at}
+use Rattle.shard_core.proofs.OneProof.{represents_prop}
 use Rattle.shard_core.proofs.Parts.{parts_take}
 use Rattle.shard_core.proofs.Turning.{leads-length, length-noted, records-noted, takes-length}
 
@@ -44,21 +48,21 @@ taken start last notes old new items tells = record { old = old; new = new; told
 behind_first : (start below : ℕ) (notes : List Note) (old new : SectionState) (items : List Tagged) (olds news : List SectionState) (told : List (List Tagged))
     → PartsTell start (suc below) notes (old ∷ olds) (new ∷ news) (items ∷ told) → PartsTell (start + length old.symbols) below notes olds news told
 behind_first start below notes old new items olds news told tell = λ k was is said lt found left says.
-    let own = tell (suc k) was is said (omega arith) found left says in
     let place : start + (length old.symbols + first_id olds k) ≡ (start + length old.symbols) + first_id olds k = omega arith in
-    record {
+    ∥∥₁_map (tell (suc k) was is said (omega arith) found left says) (λ own. record {
       inner = λ inside. subst (λ (n : ℕ). Tells n false notes was.symbols is.symbols said) place (own.inner (omega arith));
       last = λ at. subst (λ (n : ℕ). Tells n true notes was.symbols is.symbols said) place (own.last (omega (arith, at)));
-    }
+    })
 
 pub gathers : (start : ℕ) (notes : List Note) (olds news : List SectionState) (told : List (List Tagged)) → 0 < length olds → length news ≡ length olds → length told ≡ length olds
-    → PartsTell start (length olds) notes olds news told → Gathers start notes olds news told
+    → PartsTell start (length olds) notes olds news told → ∥ Gathers start notes olds news told ∥₁
 gathers start notes [] news told some as_many each tell = absurd (omega arith)
 gathers start notes (old ∷ olds) [] told some as_many each tell = absurd (omega (arith, as_many))
 gathers start notes (old ∷ olds) (new ∷ news) [] some as_many each tell = absurd (omega (arith, each))
 gathers start notes (old ∷ []) (new ∷ []) (items ∷ []) some as_many each tell =
     let here : start + 0 ≡ start = omega arith in
-    let own = subst (λ (n : ℕ). Tells n true notes old.symbols new.symbols items) here ((tell 0 old new items (omega arith) refl refl refl).last (omega arith)) in
+    ∥∥₁_map (tell 0 old new items (omega arith) refl refl refl) (λ part.
+    let own = subst (λ (n : ℕ). Tells n true notes old.symbols new.symbols items) here (part.last (omega arith)) in
     record {
       first = taken start true notes old.symbols new.symbols items own;
       later = [];
@@ -66,22 +70,23 @@ gathers start notes (old ∷ []) (new ∷ []) (items ∷ []) some as_many each t
       old_is = sym (append-nil old.symbols);
       new_is = sym (append-nil new.symbols);
       told_is = ap (λ (ms : List Tagged). ms ∷ []) own.items_are;
-    }
+    })
 gathers start notes (old ∷ []) (new ∷ newer ∷ news) told some as_many each tell = absurd (omega (arith, as_many))
 gathers start notes (old ∷ []) (new ∷ []) (items ∷ more ∷ told) some as_many each tell = absurd (omega (arith, each))
 gathers start notes (old ∷ older ∷ olds) (new ∷ news) (items ∷ told) some as_many each tell =
     let here : start + 0 ≡ start = omega arith in
-    let own = subst (λ (n : ℕ). Tells n false notes old.symbols new.symbols items) here ((tell 0 old new items (omega arith) refl refl refl).inner (omega arith)) in
-    let rest = gathers (start + length old.symbols) notes (older ∷ olds) news told (omega arith) (omega (arith, as_many)) (omega (arith, each))
+    let others = gathers (start + length old.symbols) notes (older ∷ olds) news told (omega arith) (omega (arith, as_many)) (omega (arith, each))
     (behind_first start (length (older ∷ olds)) notes old new items (older ∷ olds) news told tell) in
-    record {
+    ∥∥₁_elim (tell 0 old new items (omega arith) refl refl refl) ∥∥₁_prop (λ part.
+    let own = subst (λ (n : ℕ). Tells n false notes old.symbols new.symbols items) here (part.inner (omega arith)) in
+    ∥∥₁_map others (λ rest. record {
       first = taken start false notes old.symbols new.symbols items own;
       later = rest.first ∷ rest.later;
       takes = (own.takes, rest.takes);
       old_is = ap (λ (xs : List Held). old.symbols ++ xs) rest.old_is;
       new_is = ap (λ (xs : List Held). new.symbols ++ xs) rest.new_is;
       told_is = λ i. own.items_are i ∷ rest.told_is i;
-    }
+    }))
 
 -- each part tells of each record
 
@@ -156,17 +161,26 @@ answered_by capacity applied notes lead last olds news market told leads g stand
       subst (λ (xs : List Held). Represents (market_with last xs) (followed applied (records_of notes))) g.new_is gives.1,
     )
 
-pub answered : (capacity : ℕ) (applied xs : List Record) (turns : List Turn) (lead last : LeadState) (olds news : List SectionState) (market : List Tagged) (told : List (List Tagged)) → length turns ≡ length xs
-    → LeadsTo (noted xs turns) lead last market → 0 < length olds → length news ≡ length olds → length told ≡ length olds → PartsTell 0 (length olds) (noted xs turns) olds news told
-    → Represents (market_with lead (stocks_of olds)) applied → AreAdmissible capacity applied xs → Answered applied xs last news market told
-answered capacity applied xs turns lead last olds news market told same leads some as_many each tell stands lawful =
+answered_prop : (applied xs : List Record) (last : LeadState) (news : List SectionState) (market : List Tagged) (told : List (List Tagged)) → IsProp (Answered applied xs last news market told)
+answered_prop applied xs last news market told = hlevel (props, ⊎_set, represents_prop)
+
+answered_with : (capacity : ℕ) (applied xs : List Record) (turns : List Turn) (lead last : LeadState) (olds news : List SectionState) (market : List Tagged) (told : List (List Tagged)) → length turns ≡ length xs
+    → LeadsTo (noted xs turns) lead last market → Gathers 0 (noted xs turns) olds news told → Represents (market_with lead (stocks_of olds)) applied → AreAdmissible capacity applied xs
+    → Answered applied xs last news market told
+answered_with capacity applied xs turns lead last olds news market told same leads parts stands lawful =
     let notes = noted xs turns in
     let are : records_of notes ≡ xs = records-noted xs turns same in
-    let all = answered_by capacity applied notes lead last olds news market told leads (gathers 0 notes olds news told some as_many each tell) stands
-    (subst (AreAdmissible capacity applied) (sym are) lawful) in
+    let all = answered_by capacity applied notes lead last olds news market told leads parts stands (subst (AreAdmissible capacity applied) (sym are) lawful) in
     let many : length notes ≡ length xs = length-noted xs turns same in
     record {
       first = subst (λ (n : ℕ). AreOfFirst n (market ∷ told)) many all.0;
       gives = subst (λ (n : ℕ). merged n (market ∷ told) ≡ given applied xs) many (subst (λ (ys : List Record). merged (length notes) (market ∷ told) ≡ given applied ys) are all.1);
       stands = subst (λ (ys : List Record). Represents (market_with last (stocks_of news)) (followed applied ys)) are all.2;
     }
+
+pub answered : (capacity : ℕ) (applied xs : List Record) (turns : List Turn) (lead last : LeadState) (olds news : List SectionState) (market : List Tagged) (told : List (List Tagged)) → length turns ≡ length xs
+    → LeadsTo (noted xs turns) lead last market → 0 < length olds → length news ≡ length olds → length told ≡ length olds → PartsTell 0 (length olds) (noted xs turns) olds news told
+    → Represents (market_with lead (stocks_of olds)) applied → AreAdmissible capacity applied xs → Answered applied xs last news market told
+answered capacity applied xs turns lead last olds news market told same leads some as_many each tell stands lawful =
+    ∥∥₁_elim (gathers 0 (noted xs turns) olds news told some as_many each tell) (answered_prop applied xs last news market told)
+    (λ parts. answered_with capacity applied xs turns lead last olds news market told same leads parts stands lawful)

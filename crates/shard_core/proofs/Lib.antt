@@ -9,3 +9,6 @@ pub mod Gathered
 pub mod Working
 pub mod Opening
 pub mod Taking
+pub mod WorkedJobs
+pub mod OneProof
+pub mod Sent

@@ -56,10 +56,22 @@ pub length-map_all : {X Y : Type 0} (f : X → Y) (xs : List X) → length (map 
 length-map_all f [] = refl
 length-map_all f (x ∷ xs) = ap suc (length-map_all f xs)
 
-one_of : {X : Type 0} (o : Option X) (a b : X) → o ≡ Some a → o ≡ Some b → a ≡ b
+pub one_of : {X : Type 0} (o : Option X) (a b : X) → o ≡ Some a → o ≡ Some b → a ≡ b
 one_of o a b is also =
     let both : Some a ≡ Some b = sym is ∙ also in
     cc
+
+-- what a part of a place tells
+pub part_tells : (k start : ℕ) (last : Bool) (notes : List Note) (olds : List SectionState) (was is : SectionState) (items : List Tagged) → start ≡ first_id olds k → last ≡ (k + 1 == length olds)
+    → Tells start last notes was.symbols is.symbols items → PartTells 0 k notes olds was is items
+part_tells k start last notes olds was is items starts lasts tells = record {
+  inner = λ inside.
+      subst (λ (n : ℕ). Tells n false notes was.symbols is.symbols items) (starts ∙ sym (omega arith))
+      (subst (λ (b : Bool). Tells start b notes was.symbols is.symbols items) (lasts ∙ is_inner k (length olds) inside) tells);
+  last = λ end.
+      subst (λ (n : ℕ). Tells n true notes was.symbols is.symbols items) (starts ∙ sym (omega arith))
+      (subst (λ (b : Bool). Tells start b notes was.symbols is.symbols items) (lasts ∙ is_last k (length olds) end) tells);
+}
 
 pub one_worked : (k start : ℕ) (last : Bool) (notes : List Note) (olds now : List SectionState) (told : List (List Tagged)) (d is : SectionState) (items : List Tagged) → k < length olds → length now ≡ length olds
     → length told ≡ length olds → ((j : ℕ) → k ≤ j → slice_get now j ≡ slice_get olds j) → start ≡ first_id olds k → last ≡ (k + 1 == length olds)
@@ -69,17 +81,10 @@ one_worked k start last notes olds now told d is items lt as_many each later sta
   at = sym (later k (omega arith)) ∙ slice_get-get_or now k d (omega (arith, as_many))
 
   here : PartTells 0 k notes olds (get_or now k d) is items
-  here = record {
-    inner = λ inside.
-        subst (λ (n : ℕ). Tells n false notes (get_or now k d).symbols is.symbols items) (starts ∙ sym (omega arith))
-        (subst (λ (b : Bool). Tells start b notes (get_or now k d).symbols is.symbols items) (lasts ∙ is_inner k (length olds) inside) tells);
-    last = λ end.
-        subst (λ (n : ℕ). Tells n true notes (get_or now k d).symbols is.symbols items) (starts ∙ sym (omega arith))
-        (subst (λ (b : Bool). Tells start b notes (get_or now k d).symbols is.symbols items) (lasts ∙ is_last k (length olds) end) tells);
-  }
+  here = part_tells k start last notes olds (get_or now k d) is items starts lasts tells
 
   by : (j : ℕ) (was own : SectionState) (said : List Tagged) → j < k + 1 → slice_get olds j ≡ Some was → slice_get (slice_set now k is) j ≡ Some own → slice_get (slice_set told k items) j ≡ Some said
-      → (b : Bool) → nat_le k j ≡ b → PartTells 0 j notes olds was own said
+      → (b : Bool) → nat_le k j ≡ b → ∥ PartTells 0 j notes olds was own said ∥₁
   by j was own said below found left says false e =
       let lower : j < k = less k j e in
       before j was own said lower found (sym (get-set_other now k is j (omega arith)) ∙ left) (sym (get-set_other told k items j (omega arith)) ∙ says)
@@ -89,9 +94,9 @@ one_worked k start last notes olds now told d is items lt as_many each later sta
       let was_is : get_or now k d ≡ was = one_of (slice_get olds k) (get_or now k d) was at (ap (slice_get olds) (sym same) ∙ found) in
       let own_is : is ≡ own = one_of (slice_get (slice_set now k is) k) is own (get-set_same now k is (omega (arith, as_many))) (ap (slice_get (slice_set now k is)) (sym same) ∙ left) in
       let said_is : items ≡ said = one_of (slice_get (slice_set told k items) k) items said (get-set_same told k items (omega (arith, each))) (ap (slice_get (slice_set told k items)) (sym same) ∙ says) in
-      subst (λ (n : ℕ). PartTells 0 n notes olds was own said) (sym same)
+      ∣ subst (λ (n : ℕ). PartTells 0 n notes olds was own said) (sym same)
       (subst (λ (w : SectionState). PartTells 0 k notes olds w own said) was_is
-      (subst (λ (o : SectionState). PartTells 0 k notes olds (get_or now k d) o said) own_is (subst (λ (ms : List Tagged). PartTells 0 k notes olds (get_or now k d) is ms) said_is here)))
+      (subst (λ (o : SectionState). PartTells 0 k notes olds (get_or now k d) o said) own_is (subst (λ (ms : List Tagged). PartTells 0 k notes olds (get_or now k d) is ms) said_is here))) ∣₁
 
 pub others_stay : (k : ℕ) (olds now : List SectionState) (is : SectionState) → ((j : ℕ) → k ≤ j → slice_get now j ≡ slice_get olds j) → (j : ℕ) → k + 1 ≤ j → slice_get (slice_set now k is) j ≡ slice_get olds j
 others_stay k olds now is later j le = get-set_other now k is j (omega arith) ∙ later j (omega arith)

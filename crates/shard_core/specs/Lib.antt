@@ -4,3 +4,4 @@ pub mod Merged
 pub mod Parts
 pub mod Block
 pub mod Turns
+pub mod Jobs

@@ -99,4 +99,4 @@ pub record PartTells (start k : ℕ) (notes : List Note) (parts : List SectionSt
 -- the parts below one take records
 abbrev pub PartsTell : ℕ → ℕ → List Note → List SectionState → List SectionState → List (List Tagged) → Type 0
 PartsTell start below notes old new told =
-    (k : ℕ) (was is : SectionState) (items : List Tagged) → k < below → slice_get old k ≡ Some was → slice_get new k ≡ Some is → slice_get told k ≡ Some items → PartTells start k notes old was is items
+    (k : ℕ) (was is : SectionState) (items : List Tagged) → k < below → slice_get old k ≡ Some was → slice_get new k ≡ Some is → slice_get told k ≡ Some items → ∥ PartTells start k notes old was is items ∥₁

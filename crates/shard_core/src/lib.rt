@@ -2,6 +2,8 @@
 //! parts in one order.
 #![tactic(auto)]
 
+mod job;
+mod jobs;
 mod order;
 mod part;
 mod ranges;

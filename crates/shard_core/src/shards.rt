@@ -3,22 +3,23 @@ ghost use Rattle.wire_in.specs.declared.record.Record.{Record};
 ghost use Rattle.shard_core.specs.Block.{AreAdmissible, Represents, followed, given};
 ghost use Rattle.shard_core.specs.Turns.{AreEmpty};
 
+use crate::jobs::work_parts;
 use crate::order::merge;
-use crate::part::work_all;
 use crate::tagged::Tagged;
 use crate::turns::{Turn, is_begun, lead_all};
 use market_core::{Lead, Section};
 use price_core::NoMemory;
 use std::alloc::Global;
 use std::marker::Model;
+use std::thread::Threads;
 use wire_in::Record;
 use wire_out::Stamped;
+use yard_core::Gate;
 
 /// One market in parts: the market's part, and sections of symbols whose ranges of ids lie one behind the other. New names
 /// belong to the last part. The room that a block needs is kept for the next one.
 #[derive(Drop)]
 pub struct Shards {
-    alloc: Global,
     lead: Lead,
     parts: Vec<Section>,
     working: bool,
@@ -75,7 +76,6 @@ impl Shards {
         let parts = sections(alloc, workers)?;
         let told = lists(alloc, workers)?;
         Ok(Shards {
-            alloc,
             lead,
             parts,
             working: true,
@@ -97,7 +97,13 @@ impl Shards {
     /// message with the place of its record in the block, from 0. At most 65,536 records, and no block before has failed.
     /// An error leaves the list as it was, and nothing works from then on. Records before any day, which admission refuses,
     /// are passed over.
-    pub fn block(&mut self, xs: &[Record], out: &mut Vec<Tagged>) -> Result<(), NoMemory>
+    pub fn block<Rt: Threads + Sync, G: Gate>(
+        &mut self,
+        rt: &Rt,
+        xs: &[Record],
+        gate: &G,
+        out: &mut Vec<Tagged>,
+    ) -> Result<(), NoMemory>
         requires working { self.old.working ≡ true }
         requires few { length xs.now ≤ 65536 }
         ensures given { (capacity : ℕ) (applied : List Record) → Represents self.old applied → AreAdmissible capacity applied xs.now
@@ -119,8 +125,9 @@ impl Shards {
             &mut self.turns,
             &mut self.market,
         )?;
-        work_all(
-            self.alloc,
+        work_parts(
+            rt,
+            gate,
             &mut self.parts,
             xs,
             &self.turns,

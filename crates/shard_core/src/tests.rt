@@ -1,5 +1,7 @@
 ghost use Rattle.std.specs.Prelude.{◌<◌, ◌≤◌};
 
+mod morning;
+
 use crate::order::merge;
 use crate::ranges::cut;
 use crate::shards::Shards;
@@ -9,9 +11,13 @@ use price_core::{Index, Leverage, Price, Tier};
 use session_core::{Close, Date, Day, Moment, Profile};
 use std::alloc::Global;
 use std::process::Abort;
+use std::sync::atomic::AtomicBool;
+use std::sync::atomic::Ordering::SeqCst;
 use std::test::Fail;
+use std::thread::Threads;
 use wire_in::Record;
 use wire_out::{Message, Stamped};
+use yard_core::{Gate, OpenGate};
 
 /// A message of a symbol, which answers an input.
 fn tagged(input: u32, symbol: u16) -> Tagged {
@@ -182,7 +188,7 @@ fn whole<R: AllocGlobal>(rt: &R, xs: &[Record]) -> Result<Vec<Tagged>, Fail> {
 
 /// Appends what so many parts give for these records, in blocks of at most so many, each message with the place of its
 /// record among all.
-fn in_blocks<R: Abort + AllocGlobal>(
+fn in_blocks<R: Abort + AllocGlobal + Threads + Sync>(
     rt: &R,
     xs: &[Record],
     workers: u32,
@@ -198,7 +204,7 @@ fn in_blocks<R: Abort + AllocGlobal>(
     for block in xs.chunks(most) {
         given.clear();
         assert!(rt; shards.working() && block.len() <= 65_536);
-        shards.block(block, &mut given)?;
+        shards.block(rt, block, &OpenGate, &mut given)?;
         for tagged in &given {
             out.push(Tagged {
                 input: start.wrapping_add(tagged.input),
@@ -212,7 +218,7 @@ fn in_blocks<R: Abort + AllocGlobal>(
 }
 
 /// Blocks of at most so many records in so many parts give what one market gives.
-fn expect_blocks<R: Abort + AllocGlobal>(
+fn expect_blocks<R: Abort + AllocGlobal + Threads + Sync>(
     rt: &R,
     xs: &[Record],
     workers: u32,
@@ -260,14 +266,92 @@ fn one_symbol_gives_the_same_in_many_parts(rt: HostRuntime) -> Result<(), Fail> 
 fn a_block_of_no_records_gives_nothing(rt: HostRuntime) -> Result<(), Fail> {
     let mut shards = Shards::new(rt.alloc(), 3)?;
     let mut out = Vec::new(rt.alloc());
-    shards.block(&[], &mut out)?;
+    shards.block(&rt, &[], &OpenGate, &mut out)?;
     assert!(rt; shards.working() && out.is_empty());
     let xs = records(rt.alloc())?;
     assert!(rt; xs.len() <= 65_536);
-    shards.block(&xs, &mut out)?;
+    shards.block(&rt, &xs, &OpenGate, &mut out)?;
     let given = out.len();
     assert!(rt; shards.working() && given > 0);
-    shards.block(&[], &mut out)?;
+    shards.block(&rt, &[], &OpenGate, &mut out)?;
     assert!(rt; shards.working() && out.len() == given);
+    Ok(())
+}
+
+/// A session of eight symbols of 100 records, and behind them 100 clocks, one a second.
+fn with_clocks(alloc: Global) -> Result<Vec<Record>, Fail> {
+    let mut xs = session(alloc, 8, 91)?;
+    for second in 0..100u64 {
+        let moment = Moment::new(34_300_000_000_000 + second * 1_000_000_000)?;
+        xs.extend_from_slice(&[Record::Clock { moment }])?;
+    }
+    Ok(xs)
+}
+
+/// The same session, and behind it 100 trades of the symbol 3, one a second.
+fn with_trades_of_one(alloc: Global) -> Result<Vec<Record>, Fail> {
+    let mut xs = session(alloc, 8, 91)?;
+    for second in 0..100u64 {
+        let moment = Moment::new(34_300_000_000_000 + second * 1_000_000_000)?;
+        xs.extend_from_slice(&[opening(moment, 3)?])?;
+    }
+    Ok(xs)
+}
+
+#[test]
+fn a_block_of_ticks_alone_gives_the_same_in_any_number_of_parts(
+    rt: HostRuntime,
+) -> Result<(), Fail> {
+    let xs = with_clocks(rt.alloc())?;
+    for workers in [1, 2, 7, 64] {
+        expect_blocks(&rt, &xs, workers, 100)?;
+    }
+    Ok(())
+}
+
+#[test]
+fn a_block_of_one_symbol_alone_gives_the_same_in_any_number_of_parts(
+    rt: HostRuntime,
+) -> Result<(), Fail> {
+    let xs = with_trades_of_one(rt.alloc())?;
+    for workers in [1, 2, 7, 64] {
+        expect_blocks(&rt, &xs, workers, 100)?;
+    }
+    Ok(())
+}
+
+/// Two pieces, each of which raises its own flag at the gate and looks for the other's.
+#[derive(Drop)]
+struct Meeting {
+    here: [AtomicBool; 2],
+    met: [AtomicBool; 2],
+}
+
+impl Gate for Meeting {
+    fn enter(&self, piece: u32) {
+        let mine = piece as usize % 2;
+        self.here[mine].store(true, SeqCst);
+        for _ in 0..100_000_000u32 {
+            if self.here[1 - mine].load(SeqCst) {
+                self.met[mine].store(true, SeqCst);
+                return;
+            }
+        }
+    }
+}
+
+#[test]
+fn two_pieces_meet(rt: HostRuntime) -> Result<(), Fail> {
+    let gate = Meeting {
+        here: [AtomicBool::new(false), AtomicBool::new(false)],
+        met: [AtomicBool::new(false), AtomicBool::new(false)],
+    };
+    let xs = session(rt.alloc(), 8, 400)?;
+    let mut shards = Shards::new(rt.alloc(), 2)?;
+    let mut out = Vec::new(rt.alloc());
+    assert!(rt; shards.working() && xs.len() <= 65_536);
+    shards.block(&rt, &xs, &gate, &mut out)?;
+    assert!(rt; gate.met[0].load(SeqCst) && gate.met[1].load(SeqCst));
+    assert!(rt; shards.working() && !out.is_empty());
     Ok(())
 }

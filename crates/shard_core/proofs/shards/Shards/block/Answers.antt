@@ -14,48 +14,48 @@ use Rattle.shard_core.proofs.Working.{length-map_all}
 use Rattle.shard_core.proofs.shards.Shards.block.Goals as goal
 
 pub returns-then-not-is_begun-clause-given : goal.returns-then-not-is_begun-clause-given
-returns-then-not-is_begun-clause-given c = λ capacity applied stands lawful.
+returns-then-not-is_begun-clause-given g c = λ capacity applied stands lawful.
     let now = subst (λ (s : ShardsState). Represents (market_of s) applied) (sym c.self.view_is) stands in
     absurd (true≢false (sym (begins capacity applied c.args.xs.now c.self.inside.lead (stocks_of c.self.inside.parts.items) now lawful) ∙ sym c.is_begun.ensures ∙ c.if-not-is_begun.true))
 
 pub returns-then-not-is_begun-clause-stands : goal.returns-then-not-is_begun-clause-stands
-returns-then-not-is_begun-clause-stands c = λ capacity applied stands lawful.
+returns-then-not-is_begun-clause-stands g c = λ capacity applied stands lawful.
     let now = subst (λ (s : ShardsState). Represents (market_of s) applied) (sym c.self.view_is) stands in
     absurd (true≢false (sym (begins capacity applied c.args.xs.now c.self.inside.lead (stocks_of c.self.inside.parts.items) now lawful) ∙ sym c.is_begun.ensures ∙ c.if-not-is_begun.true))
 
 pub returns-clause-given : goal.returns-clause-given
-returns-clause-given c = λ capacity applied stands lawful.
+returns-clause-given g c = λ capacity applied stands lawful.
     let xs = c.args.xs.now in
     let olds = c.self.inside.parts.items in
-    let news = c.work_all.new.parts in
+    let news = c.work_parts.new.parts in
     let market = c.lead_all.new.market.items in
-    let told = map (λ (list : Vec Tagged Global). list.items) c.work_all.new.told in
+    let told = map (λ (list : Vec Tagged Global). list.items) c.work_parts.new.told in
     let now = subst (λ (s : ShardsState). Represents (market_of s) applied) (sym c.self.view_is) stands in
-    let work = c.in_ok-work_all.ensures in
+    let work = c.in_ok-work_parts.ensures in
     let tells = subst (λ (ts : List Turn). PartsTell 0 (length olds) (noted xs ts) olds news told) c.deref.ensures.value
     (subst (λ (os : List SectionState). PartsTell 0 (length os) (noted xs c.deref.result.now) os news told) c.deref_mut.ensures.value work.tells) in
     let all = answered capacity applied xs c.lead_all.new.turns.items c.self.inside.lead c.lead_all.new.lead olds news market told (c.in_ok-lead_all.ensures).count (c.in_ok-lead_all.ensures).leads
     c.self.invariant.0 (work.parts ∙ ap length c.deref_mut.ensures.value)
-    (length-map_all (λ (list : Vec Tagged Global). list.items) c.work_all.new.told ∙ work.told ∙ ap length c.deref_mut-2.ensures.value ∙ c.self.invariant.2) tells now lawful in
-    let many : length c.work_all.new.told ≡ c.self.inside.told.len = omega (arith, work.told, ap length c.deref_mut-2.ensures.value, c.self.inside.told.ok.0) in
+    (length-map_all (λ (list : Vec Tagged Global). list.items) c.work_parts.new.told ∙ work.told ∙ ap length c.deref_mut-2.ensures.value ∙ c.self.invariant.2) tells now lawful in
+    let many : length c.work_parts.new.told ≡ c.self.inside.told.len = omega (arith, work.told, ap length c.deref_mut-2.ensures.value, c.self.inside.told.ok.0) in
     let lists : (c.deref-2.result.now ∷ map (λ (list : Vec Tagged Global). list.items) c.deref-3.result.now) ≡ market ∷ told
-    = λ i. c.deref-2.ensures.value i ∷ map (λ (list : Vec Tagged Global). list.items) ((c.deref-3.ensures.value ∙ with_items_is c.self.inside.told c.work_all.new.told many) i) in
+    = λ i. c.deref-2.ensures.value i ∷ map (λ (list : Vec Tagged Global). list.items) ((c.deref-3.ensures.value ∙ with_items_is c.self.inside.told c.work_parts.new.told many) i) in
     (c.in_ok-merge.ensures).merged (length xs) (subst (AreOfFirst (length xs)) (sym lists) all.first)
     ∙ ap (λ (ls : List (List Tagged)). c.args.out.now.items ++ merged (length xs) ls) lists ∙ ap (λ (ms : List Tagged). c.args.out.now.items ++ ms) all.gives
 
 pub returns-clause-stands : goal.returns-clause-stands
-returns-clause-stands c = λ capacity applied stands lawful.
+returns-clause-stands g c = λ capacity applied stands lawful.
     let xs = c.args.xs.now in
     let olds = c.self.inside.parts.items in
-    let news = c.work_all.new.parts in
+    let news = c.work_parts.new.parts in
     let market = c.lead_all.new.market.items in
-    let told = map (λ (list : Vec Tagged Global). list.items) c.work_all.new.told in
+    let told = map (λ (list : Vec Tagged Global). list.items) c.work_parts.new.told in
     let now = subst (λ (s : ShardsState). Represents (market_of s) applied) (sym c.self.view_is) stands in
-    let work = c.in_ok-work_all.ensures in
+    let work = c.in_ok-work_parts.ensures in
     let tells = subst (λ (ts : List Turn). PartsTell 0 (length olds) (noted xs ts) olds news told) c.deref.ensures.value
     (subst (λ (os : List SectionState). PartsTell 0 (length os) (noted xs c.deref.result.now) os news told) c.deref_mut.ensures.value work.tells) in
     let many : length news ≡ c.self.inside.parts.len = omega (arith, work.parts, ap length c.deref_mut.ensures.value, c.self.inside.parts.ok.0) in
     subst (λ (parts : List SectionState). Represents (market_with c.lead_all.new.lead (stocks_of parts)) (followed applied xs)) (sym (with_items_is c.self.inside.parts news many))
     (answered capacity applied xs c.lead_all.new.turns.items c.self.inside.lead c.lead_all.new.lead olds news market told (c.in_ok-lead_all.ensures).count (c.in_ok-lead_all.ensures).leads
     c.self.invariant.0 (work.parts ∙ ap length c.deref_mut.ensures.value)
-    (length-map_all (λ (list : Vec Tagged Global). list.items) c.work_all.new.told ∙ work.told ∙ ap length c.deref_mut-2.ensures.value ∙ c.self.invariant.2) tells now lawful).stands
+    (length-map_all (λ (list : Vec Tagged Global). list.items) c.work_parts.new.told ∙ work.told ∙ ap length c.deref_mut-2.ensures.value ∙ c.self.invariant.2) tells now lawful).stands
