@@ -14,7 +14,7 @@ ghost use Rattle.symbol_core.specs.Taken.{deal_of};
 
 use crate::due::Due;
 use crate::kept::{Kept, Step};
-use crate::passing::{add_one, brings_deal_or_time, deal_in, reserve_deal};
+use crate::passing::{add_one, brings_deal_or_time, deal_in, drop_old, reserve_deal};
 use crate::records::{quoted_by, traded_price};
 use crate::taking::{drop_cancelled, keep_deals};
 use price_core::{NoMemory, Quotation};
@@ -182,7 +182,7 @@ impl Symbol {
         ensures kept { self.new.kept ≡ self.old.kept }
         ensures deals { self.new.deals ≡ live t self.old.deals }
     {
-        self.deals.advance(t);
+        drop_old(t, &mut self.deals);
         self.due = Some(due);
     }
 
@@ -211,7 +211,7 @@ impl Symbol {
         ensures { self.new ≡ quoted self.old t passed.now.quote }
     {
         self.kept.quote = Some(passed.quote);
-        self.deals.advance(t);
+        drop_old(t, &mut self.deals);
         self.due = Some(passed.due);
     }
 
@@ -256,7 +256,7 @@ impl Symbol {
             Err(_) => return Err(NoMemory),
         }
         reserve_deal(&awaited.deal, &mut self.deals)?;
-        self.deals.advance(awaited.due.from);
+        drop_old(awaited.due.from, &mut self.deals);
         if self
             .kept
             .keeps_price(awaited.due.from, &awaited.deal, &self.deals)
@@ -398,7 +398,7 @@ fn take_step(
     ensures due { IsDue result k.new deals.new.deals }
 {
     drop_cancelled(k.id, &step.input, deals);
-    deals.advance(step.moment);
+    drop_old(step.moment, deals);
     k.take(step);
     let deal = k.deal;
     let is_quiet = speak(k, deals, step, waits, out);

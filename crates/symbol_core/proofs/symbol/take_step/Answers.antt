@@ -37,8 +37,8 @@ returns c =
       steps = λ kept same.
           let step = c.args.step.now in
           let k = c.args.k.now in
-          step-evaluates step k spoken.said c.speak-is_quiet.new.k c.take.new.self c.forget_step.new.self kept (filter (leaves k.id step.input) kept) c.advance.new.self.deals c.advance.new.self.deals c.keep_deals.new.deals.deals c.args.out.now.items spoken.between c.speak-is_quiet.new.out.items
-          refl (c.advance.ensures.deals ∙ ap (live step.moment) c.drop_cancelled.ensures.items ∙ left-live step.moment k.id step.input c.args.deals.now.deals kept (sym same)) refl c.take.ensures spoken.announces spoken.obeys c.keep_deals.ensures.same c.forget_step.ensures;
+          step-evaluates step k spoken.said c.speak-is_quiet.new.k c.take.new.self c.forget_step.new.self kept (filter (leaves k.id step.input) kept) c.drop_old.new.deals.deals c.drop_old.new.deals.deals c.keep_deals.new.deals.deals c.args.out.now.items spoken.between c.speak-is_quiet.new.out.items
+          refl (c.drop_old.ensures.deals ∙ ap (live step.moment) c.drop_cancelled.ensures.items ∙ left-live step.moment k.id step.input c.args.deals.now.deals kept (sym same)) refl c.take.ensures spoken.announces spoken.obeys c.keep_deals.ensures.same c.forget_step.ensures;
       few = omega arith;
       capacity = omega arith;
       recent = λ now. c.keep_deals.ensures.recent (live-taken c.args.step.now c.args.k.now c.take.new.self c.take.ensures now);
