@@ -266,7 +266,7 @@ impl Symbol {
             return Ok(());
         }
         let step = step_of(x, market);
-        self.due = take_step(&mut self.kept, &mut self.deals, &step, None, out);
+        self.due = take_moved(&mut self.kept, &mut self.deals, &step, awaited, out);
         Ok(())
     }
 
@@ -391,7 +391,7 @@ fn take_step(
     requires waits { IfSome waits (λ until. WaitsAt k.old step.now until) }
     requires deals { length (option_to_list (deal_of step.now.day k.old.id step.now.input)) ≤ deals.old.spare }
     requires out { vec_len out.old + 15 ≤ vec_capacity out.old }
-    ensures steps { (kept : List Deal) → live step.now.moment kept ≡ live step.now.moment deals.old.deals → Steps step.now k.old k.new kept deals.new.deals out.old.items out.new.items }
+    ensures steps { Steps step.now k.old k.new deals.old.deals deals.new.deals out.old.items out.new.items }
     ensures few { vec_len out.new ≤ vec_len out.old + 15 }
     ensures capacity { vec_capacity out.old ≤ vec_capacity out.new }
     ensures recent { step.now.moment ≡ moment_of step.now.input → live step.now.moment deals.new.deals ≡ deals.new.deals }
@@ -405,4 +405,36 @@ fn take_step(
     keep_deals(k, step.moment, &deal, deals);
     k.forget_step();
     due_after(k, deals, step, waits, is_quiet)
+}
+
+/// Keeps the deal of the open step.
+fn hold(k: &mut Kept, deal: &Option<Deal>)
+    ensures { k.new ≡ record k.old { deal = deal.now } }
+{
+    k.deal = *deal;
+}
+
+/// Takes a trade or a tick in that brings a new reference price, and obeys the rules. The answer is when the stock is next
+/// due.
+fn take_moved(
+    k: &mut Kept,
+    deals: &mut Window,
+    step: &Step,
+    awaited: &Awaited,
+    out: &mut Vec<Message>,
+) -> Option<Due>
+    requires awaited { IsAwaited k.old (record { day = step.now.day; stopped = step.now.stopped }) step.now.input awaited.now.deal awaited.now.due }
+    requires deals { length (option_to_list awaited.now.deal) ≤ deals.old.spare }
+    requires out { vec_len out.old + 15 ≤ vec_capacity out.old }
+    ensures steps { (kept : List Deal) → live step.now.moment kept ≡ deals.old.deals → Steps step.now k.old k.new kept deals.new.deals out.old.items out.new.items }
+    ensures few { vec_len out.new ≤ vec_len out.old + 15 }
+    ensures capacity { vec_capacity out.old ≤ vec_capacity out.new }
+    ensures recent { step.now.moment ≡ moment_of step.now.input → live step.now.moment deals.new.deals ≡ deals.new.deals }
+    ensures due { IsDue result k.new deals.new.deals }
+{
+    hold(k, &awaited.deal);
+    k.obey(step, deals, out);
+    keep_deals(k, step.moment, &awaited.deal, deals);
+    k.forget_step();
+    k.due(step, deals)
 }

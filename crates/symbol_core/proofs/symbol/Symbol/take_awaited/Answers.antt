@@ -1,4 +1,4 @@
-use Rattle.std.proofs.Common.{◌≡◌, List, ◌++◌, refl, sym, ap, subst, ◌∙◌}
+use Rattle.std.proofs.Common.{◌≡◌, ℕ, List, ◌++◌, refl, sym, ap, subst, ◌∙◌}
 use Rattle.std.specs.Prelude.{option_to_list}
 use Rattle.wire_in.specs.Records.{moment_of}
 use Rattle.wire_out.specs.declared.message.Message.{Message}
@@ -8,7 +8,7 @@ use Rattle.symbol_core.specs.declared.kept.Step.{Step}
 use Rattle.symbol_core.specs.Evaluates.{Evaluates}
 use Rattle.symbol_core.specs.Idle.{IsAwaited, IsStill}
 use Rattle.symbol_core.specs.Rests.{Held}
-use Rattle.symbol_core.proofs.Dealt.{awaited-here, awaited-no_day, dealt-evaluated, dealt-recent, dealt-still, gone-live, keeps-at}
+use Rattle.symbol_core.proofs.Dealt.{awaited-here, awaited-no_day, dealt-evaluated, dealt-recent, dealt-still, keeps-at}
 use Rattle.symbol_core.proofs.Evaluated.{step-obeyed}
 use Rattle.symbol_core.proofs.symbol.Symbol.take_awaited.Goals as goal
 
@@ -73,6 +73,13 @@ returns-clause-ok c =
     let moment = ap (λ (s : Step). s.moment) c.step_of-step.ensures in
     let gone : c.drop_old.new.deals.deals ≡ live due.from deals = c.drop_old.ensures.deals ∙ ap (live due.from) c.reserve_deal.ensures.deals in
     step-obeyed market x held c.self.inside.kept deals deals
-    (record { kept = c.take_step-self-inside.new.k; deals = c.take_step-self-inside.new.deals.deals }) c.args.out.now.items c.reserve.new.self.items c.take_step-self-inside.new.out.items step
+    (record { kept = c.take_moved-self-inside.new.k; deals = c.take_moved-self-inside.new.deals.deals }) c.args.out.now.items c.reserve.new.self.items c.take_moved-self-inside.new.out.items step
     c.self.view_is c.step_of-step.ensures refl c.reserve.ensures.items (awaited-no_day held.kept market x deal due c.requires) (awaited-here held.kept market x deal due c.requires)
-    (c.take_step-self-inside.ensures.steps deals (gone-live due.from step.moment deals c.drop_old.new.deals.deals (c.requires.from ∙ sym moment) gone))
+    (c.take_moved-self-inside.ensures.steps deals (sym (gone ∙ ap (λ (t : ℕ). live t deals) (c.requires.from ∙ sym moment))))
+
+pub take_moved-self-inside-requires-clause-awaited : goal.take_moved-self-inside-requires-clause-awaited
+take_moved-self-inside-requires-clause-awaited c =
+    let due = c.args.awaited.now.due in
+    let deal = c.args.awaited.now.deal in
+    subst (λ (s : Step). IsAwaited c.self.inside.kept (record { day = s.day; stopped = s.stopped }) s.input deal due) (sym c.step_of-step.ensures)
+    (subst (λ (held : Held). IsAwaited held.kept c.args.market.now c.args.x.now deal due) (sym c.self.view_is) c.requires)
