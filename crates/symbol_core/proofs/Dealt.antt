@@ -9,6 +9,7 @@ use Rattle.refprice_core.specs.declared.reference.Adoption.{Adoption}
 use Rattle.refprice_core.specs.Prices.{because, forced, has_stood, moved_price}
 use Rattle.rulebook.specs.declared.symbol.Banded.{Banded}
 use Rattle.rulebook.specs.Auction.{indicated_by}
+use Rattle.rulebook.specs.Book.{symbol_rules}
 use Rattle.rulebook.specs.Rules.{or_else}
 use Rattle.wire_in.specs.declared.record.Record.{Record}
 use Rattle.wire_in.specs.declared.record.Record.TheVariants as in_
@@ -16,7 +17,6 @@ use Rattle.wire_in.specs.Records.{is_day, is_tick, moment_of}
 use Rattle.wire_out.specs.declared.message.Message.{Message}
 use Rattle.window_core.specs.declared.window.Deal.{Deal}
 use Rattle.window_core.specs.Deals.{live, mean_of}
-use Rattle.window_core.proofs.Deals.{live-live}
 use Rattle.symbol_core.specs.declared.due.Due.{Due}
 use Rattle.symbol_core.specs.declared.kept.Kept.{Kept}
 use Rattle.symbol_core.specs.declared.kept.Step.{Step}
@@ -25,13 +25,14 @@ use Rattle.symbol_core.specs.Evaluates.{Evaluates}
 use Rattle.symbol_core.specs.Idle.{IsDue, IsIdle, IsRested, IsSettled, IsAwaited, IsStill, PricesFrom, Waits, WaitsAt, brings_deal_or_time, comes_often, is_out, keeps_price}
 use Rattle.symbol_core.specs.Kept.{heard, quoted_by}
 use Rattle.symbol_core.specs.Pricing.{adoption, later_price, reference}
+use Rattle.symbol_core.specs.Stands.{ObeysAll}
 use Rattle.symbol_core.specs.Steps.{Steps}
 use Rattle.symbol_core.specs.Taken.{cancelled_by, deal_of, finished, halted_by, leaves, listed_by, prior_close_by, taken, triggers_by}
 use Rattle.symbol_core.specs.Window.{SameLive, window}
 use Rattle.symbol_core.proofs.Cancels.{leaves-all}
 use Rattle.symbol_core.proofs.Evaluated.{away, step-evaluated, step_for}
 use Rattle.symbol_core.proofs.Live.{live-added, live-own}
-use Rattle.symbol_core.proofs.Quiet.{speaks-quiet, waits-taken}
+use Rattle.symbol_core.proofs.Quiet.{announces-none, speaks-quiet, waits-taken}
 use Rattle.symbol_core.proofs.Steps.{step-evaluates}
 use Rattle.symbol_core.proofs.Waiting.{prices-moved}
 
@@ -136,16 +137,9 @@ awaited market x k deals due t deal at is kind from until same own inside counts
         restricts = restricts;
       }
 
-module _ (market : MarketView) (x : Record) (k : Kept) (deals : List Deal) (due : Due) (deal : Option Deal)
-    (w : IsAwaited k market x deal due) (keeps : keeps_price k (moment_of x) (mean_of (live (moment_of x) (live (moment_of x) deals ++ option_to_list deal))) ≡ true) where
-  abbrev t : ℕ
-  t = moment_of x
-
-  abbrev step : Step
-  step = step_for market x
-
-  abbrev left : List Deal
-  left = live t deals ++ option_to_list deal
+module _ (market : MarketView) (x : Record) (k : Kept) (due : Due) (deal : Option Deal) (w : IsAwaited k market x deal due) where
+  abbrev stepped : Step
+  stepped = step_for market x
 
   of_plain : IsPlain k x
   of_plain = plain k x w.kind
@@ -154,7 +148,7 @@ module _ (market : MarketView) (x : Record) (k : Kept) (deals : List Deal) (due 
   abbrev with_it : Kept
   with_it = record k { left_limit = false; released = None; deal = deal; is_fresh = false; restricts = false }
 
-  took : taken k step ≡ with_it
+  took : taken k stepped ≡ with_it
   took =
       (λ j. record k {
         terms = of_plain.listed j;
@@ -178,30 +172,56 @@ module _ (market : MarketView) (x : Record) (k : Kept) (deals : List Deal) (due 
         restricts = w.restricts j;
       })
 
+  -- the same where nothing was left of the step before
+  holds-deal : record k { deal = deal } ≡ taken k stepped
+  holds-deal =
+      (λ j. record k { deal = deal; left_limit = w.rested.left_limit j; released = w.rested.released j; is_fresh = w.rested.is_fresh j; restricts = w.rested.restricts j })
+      ∙ sym took
+
+module _ (market : MarketView) (x : Record) (k : Kept) (deals : List Deal) (due : Due) (deal : Option Deal)
+    (w : IsAwaited k market x deal due) (keeps : keeps_price k (moment_of x) (mean_of (live (moment_of x) (live (moment_of x) deals ++ option_to_list deal))) ≡ true) where
+  abbrev t : ℕ
+  t = moment_of x
+
+  abbrev step : Step
+  step = step_for market x
+
+  abbrev left : List Deal
+  left = live t deals ++ option_to_list deal
+
+  abbrev with_deal : Kept
+  with_deal = record k { left_limit = false; released = None; deal = deal; is_fresh = false; restricts = false }
+
+  taken_in : taken k step ≡ with_deal
+  taken_in = took market x k due deal w
+
+  plainly : IsPlain k x
+  plainly = of_plain market x k due deal w
+
   -- and once its step is over
   over : k ≡ finished (taken k step)
   over =
       (λ j. record k { left_limit = w.rested.left_limit j; released = w.rested.released j; deal = w.rested.deal j; is_fresh = w.rested.is_fresh j; restricts = w.rested.restricts j })
-      ∙ ap finished (sym took)
+      ∙ ap finished (sym taken_in)
 
   abbrev stayed : List Deal
   stayed = live t (filter (leaves k.id x) deals)
 
   all : stayed ≡ live t deals
-  all = ap (live t) (leaves-all k.id x deals of_plain.cancels)
+  all = ap (live t) (leaves-all k.id x deals plainly.cancels)
 
   waits : WaitsAt k step due.waits
   waits = record {
-    often = of_plain.often;
+    often = plainly.often;
     later = w.until;
     waits = subst (λ (u : ℕ). Waits k market.day market.stopped u due.waits) w.from (subst (λ (m : MarketView). Waits k m.day m.stopped due.from due.waits) w.same w.waits);
   }
 
   settled : IsSettled (taken k step) market.stopped
   settled =
-      subst (λ (kept : Kept). IsSettled kept market.stopped) (sym took) (subst (λ (m : MarketView). IsSettled with_it m.stopped) w.same (by w.settled))
+      subst (λ (kept : Kept). IsSettled kept market.stopped) (sym taken_in) (subst (λ (m : MarketView). IsSettled with_deal m.stopped) w.same (by w.settled))
     where
-      by : IsSettled k due.market.stopped → IsSettled with_it due.market.stopped
+      by : IsSettled k due.market.stopped → IsSettled with_deal due.market.stopped
       by s = record { runs = s.runs; halted = s.halted; stays = s.stays; low = s.low; high = s.high; straddles = s.straddles }
 
   -- the window with the deal
@@ -210,8 +230,8 @@ module _ (market : MarketView) (x : Record) (k : Kept) (deals : List Deal) (due 
 
   no_price : reference (taken k step) step (mean_of (live t (window (taken k step) stayed))) ≡ None
   no_price =
-      subst (λ (kept : Kept). reference kept step (mean_of (live t (window kept stayed))) ≡ None) (sym took)
-      (ap (λ (ds : List Deal). reference with_it step (mean_of (live t ds))) dealt_in ∙ kept-none with_it step (mean_of (live t left)) refl keeps)
+      subst (λ (kept : Kept). reference kept step (mean_of (live t (window kept stayed))) ≡ None) (sym taken_in)
+      (ap (λ (ds : List Deal). reference with_deal step (mean_of (live t ds))) dealt_in ∙ kept-none with_deal step (mean_of (live t left)) refl keeps)
 
   keeps_deals : SameLive t left (stayed ++ (if is_some k.begun then option_to_list (deal_of market.day k.id x) else []))
   keeps_deals =
@@ -220,13 +240,13 @@ module _ (market : MarketView) (x : Record) (k : Kept) (deals : List Deal) (due 
 
   deal-steps : (before : List Message) → Steps step k k deals left before before
   deal-steps before =
-      let spoken = speaks-quiet (taken k step) stayed step before (Some due.waits) refl (waits-taken k step (Some due.waits) waits) settled no_price (ap (λ (kept : Kept). kept.restricts) took) in
+      let spoken = speaks-quiet (taken k step) stayed step before (Some due.waits) refl (waits-taken k step (Some due.waits) waits) settled no_price (ap (λ (kept : Kept). kept.restricts) taken_in) in
       step-evaluates step k spoken.said (taken k step) (taken k step) k deals (filter (leaves k.id x) deals) stayed stayed left before spoken.between before
       refl refl refl refl spoken.announces spoken.obeys keeps_deals over
 
   pub dealt-evaluated : (before : List Message) → Evaluates market x (record { kept = k; deals = deals }) (record { kept = k; deals = left }) before before
   dealt-evaluated before =
-      step-evaluated market x (record { kept = k; deals = deals }) (record { kept = k; deals = left }) before before of_plain.no_day (is_here k x w.inside) (deal-steps before)
+      step-evaluated market x (record { kept = k; deals = deals }) (record { kept = k; deals = left }) before before plainly.no_day (is_here k x w.inside) (deal-steps before)
 
   -- deals that are live with the new one
   pub dealt-recent : live t left ≡ left
@@ -252,5 +272,18 @@ pub keeps-at : (k : Kept) (gone deals : List Deal) (deal : Option Deal) (t u : �
     → keeps_price k u (mean_of (live u (deals ++ option_to_list deal))) ≡ true
 keeps-at k gone deals deal t u answer at same is passes = (λ i. keeps_price k (sym at i) (mean_of (live (sym at i) (sym same i ++ option_to_list deal)))) ∙ sym is ∙ passes
 
-pub gone-live : (t u : ℕ) (deals gone : List Deal) → t ≡ u → gone ≡ live t deals → live u deals ≡ live u gone
-gone-live t u deals gone at is = sym (ap (live u) (is ∙ ap (λ (v : ℕ). live v deals) at) ∙ live-live u u (omega arith) deals)
+-- a record that brings a new reference price, whose deal is all that it leaves for the rules
+pub moved-steps : (k mid new : Kept) (step : Step) (deal : Option Deal) (due : Due) (kept lent left : List Deal) (before after : List Message) → IsAwaited k (record { day = step.day; stopped = step.stopped }) step.input deal due → live step.moment kept ≡ lent
+    → ObeysAll lent symbol_rules step (record k { deal = deal }) mid before after
+    → SameLive step.moment left ((if mid.is_fresh then [] else lent) ++ (if is_some mid.begun then option_to_list deal else []))
+    → new ≡ finished mid → Steps step k new kept left before after
+moved-steps k mid new step deal due kept lent left before after w gone obeys keeps over =
+    let of_plain = plain k step.input w.kind in
+    step-evaluates step k (record k { deal = deal }) mid (record k { deal = deal }) new kept (filter (leaves k.id step.input) kept) lent lent left before before after
+    refl (sym gone ∙ ap (live step.moment) (sym (leaves-all k.id step.input kept of_plain.cancels))) refl (holds-deal (record { day = step.day; stopped = step.stopped }) step.input k due deal w)
+    (announces-none (record k { deal = deal }) step before of_plain.often) obeys keeps over
+
+pub moved-recent : (k : Kept) (market : MarketView) (x : Record) (deal : Option Deal) (due : Due) (t : ℕ) → IsAwaited k market x deal due → t ≡ moment_of x → live t (option_to_list deal) ≡ option_to_list deal
+moved-recent k market x deal due t w at =
+    subst (λ (u : ℕ). live u (option_to_list deal) ≡ option_to_list deal) (sym at)
+    (subst (λ (o : Option Deal). live (moment_of x) (option_to_list o) ≡ option_to_list o) (sym w.own) (live-own market.day k.id x))

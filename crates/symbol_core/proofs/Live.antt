@@ -1,6 +1,6 @@
 -- Kept deals for which the same are live.
 use Rattle.std.proofs.Common.{◌≡◌, ℕ, ◌+◌, ◌≤◌, Bool, true, false, Some, None, List, [], ◌∷◌, ◌++◌, refl, sym, ap, subst, ◌∙◌, arith}
-use Rattle.std.specs.Prelude.{cond, if◌then◌else◌, ◌==◌, ◌&&◌, filter, option_to_list}
+use Rattle.std.specs.Prelude.{cond, if◌then◌else◌, ◌==◌, ◌&&◌, option_to_list}
 use Rattle.std.proofs.lemmas.List.Elements.{filter-append}
 use Rattle.std.proofs.lemmas.Bool.{lt-ltb}
 use Rattle.session_core.specs.declared.day.Day.{Day}
@@ -11,10 +11,10 @@ use Rattle.wire_in.specs.Records.{moment_of}
 use Rattle.eligible_core.specs.Conditions.{eligible}
 use Rattle.window_core.specs.declared.window.Deal.{Deal}
 use Rattle.window_core.specs.Deals.{is_live, live}
-use Rattle.window_core.proofs.Deals.{filter_swap, live-live}
+use Rattle.window_core.proofs.Deals.{live-live}
 use Rattle.symbol_core.specs.declared.kept.Kept.{Kept}
 use Rattle.symbol_core.specs.declared.kept.Step.{Step}
-use Rattle.symbol_core.specs.Taken.{deal_of, leaves, taken}
+use Rattle.symbol_core.specs.Taken.{deal_of, taken}
 use Rattle.symbol_core.specs.Window.{SameLive}
 
 -- deals are added in place of those that are five minutes old
@@ -76,7 +76,3 @@ same_then t a b c p q = record { at = λ u le. p.at u le ∙ q.at u le }
 -- from a later moment on
 pub same_later : (t u : ℕ) (a b : List Deal) → t ≤ u → SameLive t a b → SameLive u a b
 same_later t u a b le p = record { at = λ v lv. p.at v (omega arith) }
-
--- where the same are live, the same are after a cancel
-pub left-live : (t s : ℕ) (x : Record) (a b : List Deal) → live t a ≡ live t b → live t (filter (leaves s x) a) ≡ live t (filter (leaves s x) b)
-left-live t s x a b same = filter_swap (is_live t) (leaves s x) a ∙ ap (λ (ds : List Deal). filter (leaves s x) ds) same ∙ sym (filter_swap (is_live t) (leaves s x) b)

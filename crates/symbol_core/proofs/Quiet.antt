@@ -1,6 +1,6 @@
 -- A stock at a quotation, a trade or a tick at which no rule says anything.
 use Rattle.std.proofs.Common.{arith, ◌≡◌, ℕ, ◌<◌, ◌≤◌, Bool, true, false, List, [], ◌∷◌, ◌++◌, refl, sym, ap, ◌∙◌, subst}
-use Rattle.std.specs.Prelude.{Option, Some, None, IfSome, ◌&&◌, not, is_some}
+use Rattle.std.specs.Prelude.{Option, Some, None, IfSome, is_some}
 use Rattle.wire_in.specs.declared.record.Record.{Record}
 use Rattle.wire_in.specs.declared.record.Record.TheVariants as in_
 use Rattle.wire_out.specs.declared.message.Message.{Message}
@@ -101,6 +101,10 @@ quiet_at k deals step until w settled prices restricts = record {
 append_nothing : (xs : List Message) → xs ≡ xs ++ []
 append_nothing [] = refl
 append_nothing (m ∷ xs) = ap (λ (ys : List Message). m ∷ ys) (append_nothing xs)
+
+-- nothing is announced at such a record
+pub announces-none : (k : Kept) (step : Step) (before : List Message) → comes_often step.input ≡ true → Says (announcing k step.input) step k k before before
+announces-none k step before often = subst (λ (ms : List Message). Says ms step k k before before) (sym (announces_nothing k step.input often)) (none step k before)
 
 obeys_quiet : (k : Kept) (deals : List Deal) (step : Step) (before : List Message) → IsQuiet k deals step → ObeysAll deals symbol_rules step k k before before
 obeys_quiet k deals step before quiet =

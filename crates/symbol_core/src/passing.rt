@@ -51,6 +51,16 @@ pub fn deal_in(id: u16, x: &Record, day: &Day) -> Option<Deal>
     }
 }
 
+/// Removes the deals that are five minutes old. Mostly there are none, which two comparisons tell.
+pub fn drop_old(t: Moment, deals: &mut Window)
+    ensures deals { deals.new.deals ≡ live t deals.old.deals }
+    ensures spare { deals.old.spare ≤ deals.new.spare }
+{
+    if !deals.are_live(t) {
+        deals.advance(t);
+    }
+}
+
 /// Takes room for a deal, where there is one.
 pub fn reserve_deal(deal: &Option<Deal>, deals: &mut Window) -> Result<(), NoMemory>
     ensures ok { OnOk result (length (option_to_list deal.now) ≤ deals.new.spare) }

@@ -14,7 +14,7 @@ ghost use Rattle.symbol_core.specs.Taken.{deal_of};
 
 use crate::due::Due;
 use crate::kept::{Kept, Step};
-use crate::passing::{add_one, brings_deal_or_time, deal_in, reserve_deal};
+use crate::passing::{add_one, brings_deal_or_time, deal_in, drop_old, reserve_deal};
 use crate::records::{quoted_by, traded_price};
 use crate::taking::{drop_cancelled, keep_deals};
 use price_core::{NoMemory, Quotation};
@@ -182,7 +182,7 @@ impl Symbol {
         ensures kept { self.new.kept ≡ self.old.kept }
         ensures deals { self.new.deals ≡ live t self.old.deals }
     {
-        self.deals.advance(t);
+        drop_old(t, &mut self.deals);
         self.due = Some(due);
     }
 
@@ -211,7 +211,7 @@ impl Symbol {
         ensures { self.new ≡ quoted self.old t passed.now.quote }
     {
         self.kept.quote = Some(passed.quote);
-        self.deals.advance(t);
+        drop_old(t, &mut self.deals);
         self.due = Some(passed.due);
     }
 
@@ -256,7 +256,7 @@ impl Symbol {
             Err(_) => return Err(NoMemory),
         }
         reserve_deal(&awaited.deal, &mut self.deals)?;
-        self.deals.advance(awaited.due.from);
+        drop_old(awaited.due.from, &mut self.deals);
         if self
             .kept
             .keeps_price(awaited.due.from, &awaited.deal, &self.deals)
@@ -266,7 +266,7 @@ impl Symbol {
             return Ok(());
         }
         let step = step_of(x, market);
-        self.due = take_step(&mut self.kept, &mut self.deals, &step, None, out);
+        self.due = take_moved(&mut self.kept, &mut self.deals, &step, awaited, out);
         Ok(())
     }
 
@@ -391,18 +391,50 @@ fn take_step(
     requires waits { IfSome waits (λ until. WaitsAt k.old step.now until) }
     requires deals { length (option_to_list (deal_of step.now.day k.old.id step.now.input)) ≤ deals.old.spare }
     requires out { vec_len out.old + 15 ≤ vec_capacity out.old }
-    ensures steps { (kept : List Deal) → live step.now.moment kept ≡ live step.now.moment deals.old.deals → Steps step.now k.old k.new kept deals.new.deals out.old.items out.new.items }
+    ensures steps { Steps step.now k.old k.new deals.old.deals deals.new.deals out.old.items out.new.items }
     ensures few { vec_len out.new ≤ vec_len out.old + 15 }
     ensures capacity { vec_capacity out.old ≤ vec_capacity out.new }
     ensures recent { step.now.moment ≡ moment_of step.now.input → live step.now.moment deals.new.deals ≡ deals.new.deals }
     ensures due { IsDue result k.new deals.new.deals }
 {
     drop_cancelled(k.id, &step.input, deals);
-    deals.advance(step.moment);
+    drop_old(step.moment, deals);
     k.take(step);
     let deal = k.deal;
     let is_quiet = speak(k, deals, step, waits, out);
     keep_deals(k, step.moment, &deal, deals);
     k.forget_step();
     due_after(k, deals, step, waits, is_quiet)
+}
+
+/// Keeps the deal of the open step.
+fn hold(k: &mut Kept, deal: &Option<Deal>)
+    ensures { k.new ≡ record k.old { deal = deal.now } }
+{
+    k.deal = *deal;
+}
+
+/// Takes a trade or a tick in that brings a new reference price, and obeys the rules. The answer is when the stock is next
+/// due.
+fn take_moved(
+    k: &mut Kept,
+    deals: &mut Window,
+    step: &Step,
+    awaited: &Awaited,
+    out: &mut Vec<Message>,
+) -> Option<Due>
+    requires awaited { IsAwaited k.old (record { day = step.now.day; stopped = step.now.stopped }) step.now.input awaited.now.deal awaited.now.due }
+    requires deals { length (option_to_list awaited.now.deal) ≤ deals.old.spare }
+    requires out { vec_len out.old + 15 ≤ vec_capacity out.old }
+    ensures steps { (kept : List Deal) → live step.now.moment kept ≡ deals.old.deals → Steps step.now k.old k.new kept deals.new.deals out.old.items out.new.items }
+    ensures few { vec_len out.new ≤ vec_len out.old + 15 }
+    ensures capacity { vec_capacity out.old ≤ vec_capacity out.new }
+    ensures recent { step.now.moment ≡ moment_of step.now.input → live step.now.moment deals.new.deals ≡ deals.new.deals }
+    ensures due { IsDue result k.new deals.new.deals }
+{
+    hold(k, &awaited.deal);
+    k.obey(step, deals, out);
+    keep_deals(k, step.moment, &awaited.deal, deals);
+    k.forget_step();
+    k.due(step, deals)
 }

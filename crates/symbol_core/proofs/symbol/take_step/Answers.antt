@@ -1,10 +1,8 @@
-use Rattle.std.proofs.Common.{refl, sym, ap, ◌∙◌, subst, arith}
-use Rattle.symbol_core.proofs.Live.{left-live, live-taken}
-use Rattle.std.specs.Prelude.{IfSome, filter}
+use Rattle.std.proofs.Common.{refl, sym, subst, arith}
+use Rattle.symbol_core.proofs.Live.{live-taken}
+use Rattle.std.specs.Prelude.{IfSome}
 use Rattle.symbol_core.specs.declared.kept.Kept.{Kept}
 use Rattle.symbol_core.specs.Idle.{IsSettled, WaitsAt}
-use Rattle.symbol_core.specs.Taken.{leaves}
-use Rattle.window_core.specs.Deals.{live}
 use Rattle.symbol_core.proofs.Quiet.{settled-finished, waits-finished, waits-taken}
 use Rattle.symbol_core.proofs.Steps.{step-evaluates}
 use Rattle.symbol_core.proofs.Unmoved.{rested-finished}
@@ -34,11 +32,8 @@ pub returns : goal.returns
 returns c =
     let spoken = c.speak-is_quiet.ensures.speaks in
     record {
-      steps = λ kept same.
-          let step = c.args.step.now in
-          let k = c.args.k.now in
-          step-evaluates step k spoken.said c.speak-is_quiet.new.k c.take.new.self c.forget_step.new.self kept (filter (leaves k.id step.input) kept) c.advance.new.self.deals c.advance.new.self.deals c.keep_deals.new.deals.deals c.args.out.now.items spoken.between c.speak-is_quiet.new.out.items
-          refl (c.advance.ensures.deals ∙ ap (live step.moment) c.drop_cancelled.ensures.items ∙ left-live step.moment k.id step.input c.args.deals.now.deals kept (sym same)) refl c.take.ensures spoken.announces spoken.obeys c.keep_deals.ensures.same c.forget_step.ensures;
+      steps = step-evaluates c.args.step.now c.args.k.now spoken.said c.speak-is_quiet.new.k c.take.new.self c.forget_step.new.self c.args.deals.now.deals c.drop_cancelled.new.deals.deals c.drop_old.new.deals.deals c.drop_old.new.deals.deals c.keep_deals.new.deals.deals c.args.out.now.items spoken.between c.speak-is_quiet.new.out.items
+          c.drop_cancelled.ensures.items c.drop_old.ensures.deals refl c.take.ensures spoken.announces spoken.obeys c.keep_deals.ensures.same c.forget_step.ensures;
       few = omega arith;
       capacity = omega arith;
       recent = λ now. c.keep_deals.ensures.recent (live-taken c.args.step.now c.args.k.now c.take.new.self c.take.ensures now);

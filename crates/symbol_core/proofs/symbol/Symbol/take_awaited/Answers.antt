@@ -1,4 +1,4 @@
-use Rattle.std.proofs.Common.{◌≡◌, List, ◌++◌, refl, sym, ap, subst, ◌∙◌}
+use Rattle.std.proofs.Common.{◌≡◌, ℕ, List, ◌++◌, refl, sym, ap, subst, ◌∙◌}
 use Rattle.std.specs.Prelude.{option_to_list}
 use Rattle.wire_in.specs.Records.{moment_of}
 use Rattle.wire_out.specs.declared.message.Message.{Message}
@@ -8,7 +8,7 @@ use Rattle.symbol_core.specs.declared.kept.Step.{Step}
 use Rattle.symbol_core.specs.Evaluates.{Evaluates}
 use Rattle.symbol_core.specs.Idle.{IsAwaited, IsStill}
 use Rattle.symbol_core.specs.Rests.{Held}
-use Rattle.symbol_core.proofs.Dealt.{awaited-here, awaited-no_day, dealt-evaluated, dealt-recent, dealt-still, gone-live, keeps-at}
+use Rattle.symbol_core.proofs.Dealt.{awaited-here, awaited-no_day, dealt-evaluated, dealt-recent, dealt-still, keeps-at}
 use Rattle.symbol_core.proofs.Evaluated.{step-obeyed}
 use Rattle.symbol_core.proofs.symbol.Symbol.take_awaited.Goals as goal
 
@@ -21,11 +21,11 @@ due_still-requires c =
     let due = c.args.awaited.now.due in
     let deal = c.args.awaited.now.deal in
     let at : due.from ≡ moment_of x = c.requires.from in
-    let gone : c.advance.new.self.deals ≡ live (moment_of x) deals = c.advance.ensures.deals ∙ (λ i. live (at i) (c.reserve_deal.ensures.deals i)) in
+    let gone : c.drop_old.new.deals.deals ≡ live (moment_of x) deals = c.drop_old.ensures.deals ∙ (λ i. live (at i) (c.reserve_deal.ensures.deals i)) in
     let added : c.add_one.new.deals.deals ≡ live (moment_of x) deals ++ option_to_list deal = c.add_one.ensures ∙ ap (λ (ds : List Deal). ds ++ option_to_list deal) gone in
     let w = subst (λ (held : Held). IsAwaited held.kept market x deal due) (sym c.self.view_is) c.requires in
     subst (λ (ds : List Deal). IsStill k ds due) (sym added)
-    (dealt-still market x k deals due deal w (keeps-at k c.advance.new.self.deals (live (moment_of x) deals) deal due.from (moment_of x) c.keeps_price.result at gone c.keeps_price.ensures c.if-keeps_price.true))
+    (dealt-still market x k deals due deal w (keeps-at k c.drop_old.new.deals.deals (live (moment_of x) deals) deal due.from (moment_of x) c.keeps_price.result at gone c.keeps_price.ensures c.if-keeps_price.true))
 
 pub returns-then-keeps_price-clause-ok : goal.returns-then-keeps_price-clause-ok
 returns-then-keeps_price-clause-ok c =
@@ -37,13 +37,13 @@ returns-then-keeps_price-clause-ok c =
     let deal = c.args.awaited.now.deal in
     let before = c.args.out.now.items in
     let at : due.from ≡ moment_of x = c.requires.from in
-    let gone : c.advance.new.self.deals ≡ live (moment_of x) deals = c.advance.ensures.deals ∙ (λ i. live (at i) (c.reserve_deal.ensures.deals i)) in
+    let gone : c.drop_old.new.deals.deals ≡ live (moment_of x) deals = c.drop_old.ensures.deals ∙ (λ i. live (at i) (c.reserve_deal.ensures.deals i)) in
     let added : c.add_one.new.deals.deals ≡ live (moment_of x) deals ++ option_to_list deal = c.add_one.ensures ∙ ap (λ (ds : List Deal). ds ++ option_to_list deal) gone in
     let w = subst (λ (held : Held). IsAwaited held.kept market x deal due) (sym c.self.view_is) c.requires in
     subst (λ (ms : List Message). Evaluates market x c.args.self.now (record { kept = k; deals = c.add_one.new.deals.deals }) before ms) (sym c.reserve.ensures.items)
     (subst (λ (ds : List Deal). Evaluates market x c.args.self.now (record { kept = k; deals = ds }) before before) (sym added)
     (subst (λ (held : Held). Evaluates market x held (record { kept = k; deals = live (moment_of x) deals ++ option_to_list deal }) before before) c.self.view_is
-    (dealt-evaluated market x k deals due deal w (keeps-at k c.advance.new.self.deals (live (moment_of x) deals) deal due.from (moment_of x) c.keeps_price.result at gone c.keeps_price.ensures c.if-keeps_price.true) before)))
+    (dealt-evaluated market x k deals due deal w (keeps-at k c.drop_old.new.deals.deals (live (moment_of x) deals) deal due.from (moment_of x) c.keeps_price.result at gone c.keeps_price.ensures c.if-keeps_price.true) before)))
 
 pub returns-then-keeps_price-clause-recent : goal.returns-then-keeps_price-clause-recent
 returns-then-keeps_price-clause-recent c =
@@ -54,11 +54,11 @@ returns-then-keeps_price-clause-recent c =
     let due = c.args.awaited.now.due in
     let deal = c.args.awaited.now.deal in
     let at : due.from ≡ moment_of x = c.requires.from in
-    let gone : c.advance.new.self.deals ≡ live (moment_of x) deals = c.advance.ensures.deals ∙ (λ i. live (at i) (c.reserve_deal.ensures.deals i)) in
+    let gone : c.drop_old.new.deals.deals ≡ live (moment_of x) deals = c.drop_old.ensures.deals ∙ (λ i. live (at i) (c.reserve_deal.ensures.deals i)) in
     let added : c.add_one.new.deals.deals ≡ live (moment_of x) deals ++ option_to_list deal = c.add_one.ensures ∙ ap (λ (ds : List Deal). ds ++ option_to_list deal) gone in
     let w = subst (λ (held : Held). IsAwaited held.kept market x deal due) (sym c.self.view_is) c.requires in
     ap (live (moment_of x)) added
-    ∙ dealt-recent market x k deals due deal w (keeps-at k c.advance.new.self.deals (live (moment_of x) deals) deal due.from (moment_of x) c.keeps_price.result at gone c.keeps_price.ensures c.if-keeps_price.true)
+    ∙ dealt-recent market x k deals due deal w (keeps-at k c.drop_old.new.deals.deals (live (moment_of x) deals) deal due.from (moment_of x) c.keeps_price.result at gone c.keeps_price.ensures c.if-keeps_price.true)
     ∙ sym added
 
 pub returns-clause-ok : goal.returns-clause-ok
@@ -71,8 +71,15 @@ returns-clause-ok c =
     let deal = c.args.awaited.now.deal in
     let step = c.step_of-step.result in
     let moment = ap (λ (s : Step). s.moment) c.step_of-step.ensures in
-    let gone : c.advance.new.self.deals ≡ live due.from deals = c.advance.ensures.deals ∙ ap (live due.from) c.reserve_deal.ensures.deals in
+    let gone : c.drop_old.new.deals.deals ≡ live due.from deals = c.drop_old.ensures.deals ∙ ap (live due.from) c.reserve_deal.ensures.deals in
     step-obeyed market x held c.self.inside.kept deals deals
-    (record { kept = c.take_step-self-inside.new.k; deals = c.take_step-self-inside.new.deals.deals }) c.args.out.now.items c.reserve.new.self.items c.take_step-self-inside.new.out.items step
+    (record { kept = c.take_moved-self-inside.new.k; deals = c.take_moved-self-inside.new.deals.deals }) c.args.out.now.items c.reserve.new.self.items c.take_moved-self-inside.new.out.items step
     c.self.view_is c.step_of-step.ensures refl c.reserve.ensures.items (awaited-no_day held.kept market x deal due c.requires) (awaited-here held.kept market x deal due c.requires)
-    (c.take_step-self-inside.ensures.steps deals (gone-live due.from step.moment deals c.advance.new.self.deals (c.requires.from ∙ sym moment) gone))
+    (c.take_moved-self-inside.ensures.steps deals (sym (gone ∙ ap (λ (t : ℕ). live t deals) (c.requires.from ∙ sym moment))))
+
+pub take_moved-self-inside-requires-clause-awaited : goal.take_moved-self-inside-requires-clause-awaited
+take_moved-self-inside-requires-clause-awaited c =
+    let due = c.args.awaited.now.due in
+    let deal = c.args.awaited.now.deal in
+    subst (λ (s : Step). IsAwaited c.self.inside.kept (record { day = s.day; stopped = s.stopped }) s.input deal due) (sym c.step_of-step.ensures)
+    (subst (λ (held : Held). IsAwaited held.kept c.args.market.now c.args.x.now deal due) (sym c.self.view_is) c.requires)
