@@ -37,8 +37,12 @@ where
 }
 
 fn main(rt: HostRuntime) -> ExitCode {
-    // Words that can't be read ask for nothing that is understood.
-    let status = start_here(&rt).unwrap_or(Status::Usage);
+    let status = match start_here(&rt) {
+        Ok(status) => status,
+        Err(error) if error.kind() == io::ErrorKind::OutOfMemory => Status::NoMemory,
+        // Words that can't be read ask for nothing that is understood.
+        Err(_) => Status::Usage,
+    };
     let stderr = rt.stderr();
     end(&mut io::writer(&stderr), status).code
 }

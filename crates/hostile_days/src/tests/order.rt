@@ -17,18 +17,17 @@ use wire_in::Refusal;
 const FREE_TRADE: &[u8] =
     b"\x1d\x03\0\0\x1f\x1a\xce\xd9\xf0\0\0\x07\0\0\0\x01\0\0\0\0\0\0\0\0\0\0\0\x64\0\0";
 
-/// A journal for so many records answers the lines as they say.
+/// A journal for so many records answers the lines as they say, in batches of at most so many.
 fn expect<Rt: Abort + AllocGlobal + Threads + Sync>(
     rt: &Rt,
     limit: u64,
+    batch: u32,
     lines: &[Line],
 ) -> Result<(), Fail> {
     let session = Session::of(rt.alloc(), lines)?;
-    for batch in [1, 64] {
-        let mut host = MemoryHost::new(rt.alloc(), &session.input, &fresh(rt.alloc(), limit)?)?;
-        assert_eq!(rt; serves(rt, &mut host, batch, None), Status::Done);
-        assert!(rt; host.sent() == session.served.as_slice());
-    }
+    let mut host = MemoryHost::new(rt.alloc(), &session.input, &fresh(rt.alloc(), limit)?)?;
+    assert_eq!(rt; serves(rt, &mut host, batch, None), Status::Done);
+    assert!(rt; host.sent() == session.served.as_slice());
     Ok(())
 }
 
@@ -36,7 +35,7 @@ fn expect<Rt: Abort + AllocGlobal + Threads + Sync>(
 fn of_several_reasons_to_refuse_the_one_with_the_least_code_is_told(
     rt: HostRuntime,
 ) -> Result<(), Fail> {
-    let t = at(10, 0, 0);
+    let t = at(5, 0, 0);
     let early = before(t);
     let lines = [
         bytes(FREE_TRADE),
@@ -71,7 +70,8 @@ fn of_several_reasons_to_refuse_the_one_with_the_least_code_is_told(
         day(4),
         refused(Refusal::JournalFull),
     ];
-    expect(&rt, 3, &lines)
+    expect(&rt, 3, 1, &lines)?;
+    expect(&rt, 3, 64, &lines)
 }
 
 /// A day and listings of all 16,384 names that a directory takes, and then other listings.
@@ -99,5 +99,5 @@ fn all_names<R: AllocGlobal>(rt: &R) -> Result<Vec<Line>, Fail> {
 
 #[test]
 fn a_full_directory_is_told_before_a_full_journal(rt: HostRuntime) -> Result<(), Fail> {
-    expect(&rt, 16_385, &all_names(&rt)?)
+    expect(&rt, 16_385, 64, &all_names(&rt)?)
 }

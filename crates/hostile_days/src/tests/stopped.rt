@@ -120,8 +120,8 @@ fn whatever_a_stop_leaves_the_next_session_gives_the_messages_of_the_day(
     Ok(())
 }
 
-/// A sync fails, and a second session goes on over the same host up to a stop. Answers whether a sync failed and a session was
-/// stopped.
+/// A sync fails, and a second session goes on over the same host up to a stop. Answers whether the first session ended at the
+/// sync, and whether the second one told how many records are held.
 fn goes_on_with_writes_pending<Rt: Abort + AllocGlobal + Threads + Sync>(
     rt: &Rt,
     day: &Session,
@@ -140,7 +140,8 @@ fn goes_on_with_writes_pending<Rt: Abort + AllocGlobal + Threads + Sync>(
     if let Some(nth) = stop {
         host.stop_at(host.calls().saturating_add(nth).max(1));
     }
-    let second = serves(rt, &mut host, way.batch, None);
+    // What is left of the input may begin inside a frame.
+    let _ = serves(rt, &mut host, way.batch, None);
     let after = Sent::of(alloc, host.sent().get(len..).unwrap_or(&[]))?;
     assert!(rt; after.held.unwrap_or(u64::MAX) >= before.acknowledged);
     for pick in PICKS {
@@ -148,7 +149,7 @@ fn goes_on_with_writes_pending<Rt: Abort + AllocGlobal + Threads + Sync>(
         let held = held_by(rt, left.disk())?;
         assert!(rt; before.acknowledged <= held && after.acknowledged <= held);
     }
-    Ok((first != Status::Done, second != Status::Done))
+    Ok((first != Status::Done, after.held.is_some()))
 }
 
 #[test]
@@ -159,10 +160,10 @@ fn a_session_after_a_failed_sync_counts_each_acknowledged_record(
     for way in WAYS {
         let mut failed = 0u64;
         for sync in 1..30u64 {
-            let (was_failed, was_stopped) = goes_on_with_writes_pending(
+            let (was_failed, was_greeted) = goes_on_with_writes_pending(
                 &rt, &day, way, sync, None,
             )?;
-            assert!(rt; !was_failed || !was_stopped);
+            assert!(rt; !was_failed || was_greeted);
             failed = failed.saturating_add(u64::from(was_failed));
         }
         assert!(rt; failed >= 3 && failed < 29);
