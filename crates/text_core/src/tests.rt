@@ -1,3 +1,4 @@
+mod bad_frames;
 mod streams;
 
 use super::*;
