@@ -309,7 +309,8 @@ impl Symbol {
         self.obey(x, market, out)
     }
 
-    /// Evaluates a record to which the rules apply.
+    /// Evaluates a record to which the rules apply. It stays a call of its own, whose large frame the other records don't pay for.
+    #[inline(never)]
     fn obey(
         &mut self,
         x: &Record,

@@ -49,7 +49,7 @@ impl Kept {
             self.quote = quoted_by(self.id, &step.input).or(self.quote);
         }
         self.halted = halted_by(self.id, &step.input, self.halted);
-        self.auction = heard(indicated_by(self.id, &step.input), self.auction);
+        hear(indicated_by(self.id, &step.input), &mut self.auction);
         self.forget_step();
         self.deal = deal_of(self.id, step);
         self.take_short(&step.input);
@@ -80,15 +80,15 @@ impl Kept {
     }
 }
 
-/// An auction with what is indicated.
-fn heard(indication: Option<Indication>, auction: Option<Auction>) -> Option<Auction>
-    ensures { result ≡ heard indication auction }
+/// Takes what is indicated to an auction, where there is one.
+fn hear(indication: Option<Indication>, auction: &mut Option<Auction>)
+    ensures { auction.new ≡ heard indication auction.old }
 {
-    let mut heard = auction?;
     if let Some(i) = indication {
-        heard.indicate(i.price, i.unmatched);
+        if let Some(heard) = auction {
+            heard.indicate(i.price, i.unmatched);
+        }
     }
-    Some(heard)
 }
 
 /// A cancel takes its deals away.
