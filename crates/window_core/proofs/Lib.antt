@@ -1,5 +1,6 @@
 pub mod Bounded
 pub mod Deals
+pub mod Lasting
 pub mod Moves
 pub mod Near
 pub mod Order

@@ -1,6 +1,7 @@
 -- Deals with the sum of their prices and bounds on them. Private words: no public clause cites them.
-use Rattle.std.specs.Prelude.{◌≡◌, ℕ, ◌≤◌, Bool, true, List, [], ◌∷◌, length}
+use Rattle.std.specs.Prelude.{◌≡◌, ℕ, ◌+◌, ◌≤◌, Bool, true, List, [], ◌∷◌, All, length}
 use Rattle.price_core.specs.Ranges.{IsPrice}
+use Rattle.session_core.specs.Durations.{five_minutes}
 use Rattle.window_core.specs.declared.bounds.PriceBounds.{PriceBounds}
 use Rattle.window_core.specs.declared.window.Deal.{Deal}
 use Rattle.window_core.specs.Bounds.{AreBounded}
@@ -33,7 +34,12 @@ pub record IsSummed (sum newest : ℕ) (is_ordered : Bool) (deals : List Deal) :
   pub late : AllUpTo newest deals
   pub order : is_ordered ≡ true → InOrder deals
 
--- and their prices are within bounds
-pub record AccountsFor (sum newest : ℕ) (is_ordered : Bool) (bounds : PriceBounds) (deals : List Deal) : Type 0 where
+-- none of the deals is five minutes old before a moment
+abbrev pub LastUntil : ℕ → List Deal → Type 0
+LastUntil until deals = All (λ d. until ≤ d.moment + five_minutes) deals
+
+-- and their prices are within bounds, and none of them is five minutes old before a moment
+pub record AccountsFor (sum newest : ℕ) (is_ordered : Bool) (bounds : PriceBounds) (until : ℕ) (deals : List Deal) : Type 0 where
   pub summed : IsSummed sum newest is_ordered deals
   pub bounded : AreBounded bounds deals
+  pub lasting : LastUntil until deals

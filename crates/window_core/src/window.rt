@@ -34,7 +34,8 @@ impl Deal {
 }
 
 /// The deals of the last five minutes (LULD Plan, Section V), and beside them the sum of their prices, a moment that none of
-/// them is after, whether they are known to be in order, and bounds on their prices.
+/// them is after, whether they are known to be in order, bounds on their prices, and until when none of them is five minutes
+/// old.
 #[derive(Debug, Drop)]
 pub struct Window {
     items: VecDeque<Deal>,
@@ -42,6 +43,9 @@ pub struct Window {
     newest: Moment,
     is_ordered: bool,
     bounds: PriceBounds,
+    /// In nanoseconds of the day, and without an end where there are no deals. It is kept here because the first deal lies
+    /// elsewhere in memory, and to read that at each record takes longer than all else that a window is asked.
+    until: u64,
 }
 
 impl Model for Window {
@@ -54,7 +58,7 @@ impl Model for Window {
 
     ghost view = { λ w. record { deals = w.items.items; spare = deque_capacity w.items - deque_len w.items } };
 
-    ghost invariant = { λ w. AccountsFor w.sum w.newest w.is_ordered w.bounds w.items.items };
+    ghost invariant = { λ w. AccountsFor w.sum w.newest w.is_ordered w.bounds w.until w.items.items };
 }
 
 impl Window {
@@ -70,6 +74,7 @@ impl Window {
             newest: midnight(),
             is_ordered: true,
             bounds: PriceBounds::none(),
+            until: u64::MAX,
         })
     }
 
@@ -98,21 +103,15 @@ impl Window {
         self.is_ordered = stays_ordered(self.is_ordered, self.newest, &d);
         self.newest = later(self.newest, d.moment);
         self.bounds = self.bounds.with(d.price);
+        self.until = self.until.min(d.moment.nanos() + FIVE_MINUTES);
         push_deal(d, &mut self.items);
     }
 
-    /// Whether each deal is known to be less than five minutes old: the first of them is, and they are in order. It takes
-    /// two comparisons, however many deals there are.
+    /// Whether each deal is known to be less than five minutes old. It takes one comparison, however many deals there are.
     pub fn are_live(&self, t: Moment) -> bool
         ensures { result ≡ true → live t self.now.deals ≡ self.now.deals }
     {
-        if !self.is_ordered {
-            return false;
-        }
-        match first(&self.items) {
-            Some(deal) => deal.is_live(t),
-            None => true,
-        }
+        t.nanos() < self.until
     }
 
     /// Until when each deal is known to be less than five minutes old, in nanoseconds of the day: by the first of them, where
@@ -120,12 +119,18 @@ impl Window {
     pub fn live_until(&self) -> u64
         ensures { (u : ℕ) → u < result → live u self.now.deals ≡ self.now.deals }
     {
-        if !self.is_ordered {
-            return 0;
-        }
-        match first(&self.items) {
-            Some(deal) => deal.moment.nanos() + FIVE_MINUTES,
-            None => u64::MAX,
+        self.until
+    }
+
+    /// Finds that end anew, once deals have left: by the first deal, where they are in order.
+    fn renew_until(&mut self)
+        ensures { self.new ≡ self.old }
+    {
+        if self.is_ordered {
+            self.until = match first(&self.items) {
+                Some(deal) => deal.moment.nanos() + FIVE_MINUTES,
+                None => u64::MAX,
+            };
         }
     }
 
@@ -190,6 +195,7 @@ impl Window {
                 break;
             }
         }
+        self.renew_until();
         self.drop_others(t);
         self.narrow(t);
     }
@@ -213,6 +219,7 @@ impl Window {
         }
         remove(number, &mut self.items);
         self.sum -= removed.sum;
+        self.renew_until();
     }
 
     /// Removes all deals, so that a new run or a new day can begin.
@@ -226,6 +233,7 @@ impl Window {
         self.newest = midnight();
         self.is_ordered = true;
         self.bounds = PriceBounds::none();
+        self.until = u64::MAX;
     }
 
     /// The moment of the first deal, which is the least moment of those that the mean counts. None exactly where the mean is

@@ -1,8 +1,9 @@
-use Rattle.std.proofs.Common.{subst, sym, ◌∙◌}
+use Rattle.std.proofs.Common.{arith, subst, sym, ◌∙◌}
 use Rattle.price_core.specs.Ranges.{IsPrice}
 use Rattle.window_core.specs.declared.bounds.PriceBounds.{PriceBounds}
 use Rattle.window_core.specs.Bounds.{AreBounded}
 use Rattle.window_core.proofs.Bounded.{bounded_push}
+use Rattle.window_core.proofs.Lasting.{lasts_push}
 use Rattle.window_core.proofs.Sums.{summed_push}
 use Rattle.window_core.proofs.window.Window.add.Goals as goal
 
@@ -13,4 +14,5 @@ invariant_of-self c = record {
       c.stays_ordered-self-inside.ensures c.self.invariant.summed;
   bounded = subst (λ (bounds : PriceBounds). AreBounded bounds c.push_deal.new.deals.items) (sym c.with-self-inside.ensures)
       (bounded_push c.self.inside.bounds c.self.inside.items.items c.push_deal.new.deals.items c.args.d c.push_deal.ensures.items c.self.invariant.bounded);
+  lasting = lasts_push c.self.inside.until _ c.self.inside.items.items c.push_deal.new.deals.items c.args.d c.push_deal.ensures.items (omega arith) (omega arith) c.self.invariant.lasting;
 }

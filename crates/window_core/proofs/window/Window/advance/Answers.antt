@@ -11,12 +11,13 @@ returns-then-are_live-clause-stands c = λ calls later stands.
 
 pub narrow-requires : goal.narrow-requires
 narrow-requires c =
-    ap (live c.args.t) c.drop_others.ensures.deals ∙ live-live c.args.t c.args.t (omega arith) c.loop-test.self.deals ∙ sym c.drop_others.ensures.deals
+    ap (live c.args.t) c.drop_others.ensures.deals ∙ live-live c.args.t c.args.t (omega arith) c.renew_until.new.self.deals ∙ sym c.drop_others.ensures.deals
 
 pub returns-clause-deals : goal.returns-clause-deals
 returns-clause-deals c =
     let same : live c.args.t c.loop-test.self.deals ≡ live c.args.t c.args.self.now.deals = search rules in
-    ap (λ (held : WindowState). held.deals) c.narrow.ensures ∙ c.drop_others.ensures.deals ∙ same
+    ap (λ (held : WindowState). held.deals) c.narrow.ensures ∙ c.drop_others.ensures.deals
+    ∙ ap (λ (held : WindowState). live c.args.t held.deals) c.renew_until.ensures ∙ same
 
 pub returns-clause-stands : goal.returns-clause-stands
 returns-clause-stands c = λ calls later stands.

@@ -4,6 +4,7 @@ use Rattle.window_core.specs.Deals.{is_numbered, stays}
 use Rattle.window_core.specs.WindowState.{WindowState}
 use Rattle.window_core.specs.Tallies.{Tallies}
 use Rattle.window_core.proofs.Bounded.{bounded_some}
+use Rattle.window_core.proofs.Lasting.{lasts_some}
 use Rattle.window_core.proofs.RepresentsCalls.{represents-cancelled}
 use Rattle.window_core.proofs.Sums.{none_numbered, numbered_most, summed_removed}
 use Rattle.window_core.proofs.window.Window.cancel.Goals as goal
@@ -26,6 +27,7 @@ invariant_of-self c =
       summed = summed_removed c.args.number removed.sum removed.count c.self.inside.newest c.self.inside.sum c.self.inside.is_ordered c.self.inside.items.items c.remove.new.deals.items
           c.remove.ensures.items gone c.self.invariant.summed;
       bounded = bounded_some c.self.inside.bounds (stays c.args.number) c.self.inside.items.items c.remove.new.deals.items c.remove.ensures.items c.self.invariant.bounded;
+      lasting = lasts_some c.self.inside.until (stays c.args.number) c.self.inside.items.items c.remove.new.deals.items c.remove.ensures.items c.self.invariant.lasting;
     }
 
 pub returns-then-removed-eq0-clause-stands : goal.returns-then-removed-eq0-clause-stands
@@ -34,4 +36,4 @@ returns-then-removed-eq0-clause-stands c = λ calls stands.
 
 pub returns-clause-stands : goal.returns-clause-stands
 returns-clause-stands c = λ calls stands.
-    represents-cancelled c.args.self.now _ c.args.number calls (c.remove.ensures.items ∙ ap (λ (held : WindowState). filter (stays c.args.number) held.deals) c.self.view_is) stands
+    represents-cancelled c.args.self.now _ c.args.number calls (ap (λ (held : WindowState). held.deals) c.renew_until.ensures ∙ c.remove.ensures.items ∙ ap (λ (held : WindowState). filter (stays c.args.number) held.deals) c.self.view_is) stands

@@ -18,4 +18,5 @@ invariant_of-self c =
         | else-is_empty w ↦ subst (λ (bounds : PriceBounds). AreBounded bounds deals) (sym (w.self-is ∙ w.turned-self-inside.ensures))
             (bounded_turned c.self.inside.bounds c.args.t c.self.inside.newest deals are_live c.self.invariant.summed.late c.self.invariant.bounded)
       ];
+      lasting = c.self.invariant.lasting;
     }
