@@ -3,5 +3,6 @@ pub mod Listed
 pub mod Behind
 pub mod Ranges
 pub mod Given
+pub mod Reciprocals
 pub mod Sending
 pub mod Counting

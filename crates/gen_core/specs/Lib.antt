@@ -4,5 +4,6 @@ pub mod Sent
 pub mod Tallies
 pub mod SummaryLines
 pub mod InternalState
+pub mod Reciprocals
 pub mod InternalSending
 pub mod InternalTally

@@ -2,6 +2,8 @@
 ghost use Rattle.std.specs.Prelude.{◌≡◌, ◌<◌, ◌%◌};
 ghost use Rattle.gen_core.specs.Draws.{next_number, answer_of};
 
+use crate::modulus::Modulus;
+
 /// The number of 64 bits at which the draws stand.
 #[derive(Clone, Copy, Debug, PartialEq, Eq)]
 pub struct Draws {
@@ -29,5 +31,15 @@ impl Draws {
     {
         self.step();
         (self.number >> 33) % bound
+    }
+
+    /// One draw, modulo a number that is kept for many draws.
+    pub fn modulo(&mut self, modulus: &Modulus) -> u64
+        ensures number { self.new.number ≡ next_number self.old.number }
+        ensures answer { result ≡ answer_of self.new.number % modulus.now }
+        ensures range { result < modulus.now }
+    {
+        self.step();
+        modulus.remainder(self.number >> 33)
     }
 }

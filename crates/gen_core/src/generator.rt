@@ -5,6 +5,7 @@ ghost use Rattle.gen_core.specs.Generated.{IsPlan, GivesFirst, generated};
 ghost use Rattle.gen_core.specs.InternalState.{IsGap, IsGenerator, Steps};
 
 use crate::draws::Draws;
+use crate::modulus::Modulus;
 use crate::plan::DayPlan;
 use crate::session::{gap_of, session_record};
 use crate::start::{day_record, listing};
@@ -19,6 +20,8 @@ pub struct Generator {
     plan: DayPlan,
     /// How many nanoseconds the records of the session are apart.
     gap: u64,
+    /// How many symbols there are.
+    symbols: Modulus,
     given: u32,
     draws: Draws,
     /// For each symbol the flags of its next trade.
@@ -26,7 +29,7 @@ pub struct Generator {
 }
 
 impl Model for Generator {
-    ghost use Rattle.std.specs.Prelude.{List, drop};
+    ghost use Rattle.std.specs.Prelude.{◌≡◌, List, drop};
     ghost use Rattle.wire_in.specs.declared.record.Record.{Record};
     ghost use Rattle.gen_core.specs.Generated.{generated};
     ghost use Rattle.gen_core.specs.InternalState.{IsGap, IsGenerator};
@@ -35,7 +38,7 @@ impl Model for Generator {
 
     ghost view = { λ g. drop g.given (generated g.plan) };
 
-    ghost invariant = { λ g. IsGenerator g.plan g.given g.draws.number g.flags.items × IsGap g.plan g.gap };
+    ghost invariant = { λ g. IsGenerator g.plan g.given g.draws.number g.flags.items × IsGap g.plan g.gap × (g.symbols ≡ g.plan.symbols) };
 }
 
 /// The day, or the listing of a symbol.
@@ -57,21 +60,31 @@ fn start_record(plan: &DayPlan, given: u32, draws: &Draws, flags: &[u16]) -> Rec
 fn later_record(
     plan: &DayPlan,
     gap: u64,
+    symbols: &Modulus,
     given: u32,
     draws: &mut Draws,
     flags: &mut [u16],
 ) -> Record
+    requires symbols { symbols.now ≡ plan.now.symbols }
     requires state { IsGenerator plan.now given draws.old.number flags.old }
     requires gap { IsGap plan.now gap }
     requires later { plan.now.symbols < given }
     requires within { given < 1 + plan.now.symbols + plan.now.records }
     ensures { Steps plan.now given result draws.new.number flags.new }
 {
-    session_record(plan, gap, given - 1 - plan.symbols, draws, flags)
+    session_record(plan, gap, symbols, given - 1 - plan.symbols, draws, flags)
 }
 
 /// The record behind so many others.
-fn next_record(plan: &DayPlan, gap: u64, given: u32, draws: &mut Draws, flags: &mut [u16]) -> Record
+fn next_record(
+    plan: &DayPlan,
+    gap: u64,
+    symbols: &Modulus,
+    given: u32,
+    draws: &mut Draws,
+    flags: &mut [u16],
+) -> Record
+    requires symbols { symbols.now ≡ plan.now.symbols }
     requires state { IsGenerator plan.now given draws.old.number flags.old }
     requires gap { IsGap plan.now gap }
     requires within { given < 1 + plan.now.symbols + plan.now.records }
@@ -80,7 +93,7 @@ fn next_record(plan: &DayPlan, gap: u64, given: u32, draws: &mut Draws, flags: &
     if given <= plan.symbols {
         start_record(plan, given, draws, flags)
     } else {
-        later_record(plan, gap, given, draws, flags)
+        later_record(plan, gap, symbols, given, draws, flags)
     }
 }
 
@@ -95,6 +108,7 @@ impl Generator {
         Ok(Generator {
             plan: *plan,
             gap: gap_of(plan),
+            symbols: Modulus::new(u64::from(plan.symbols)),
             given: 0,
             draws: Draws { number: plan.seed },
             flags,
@@ -112,6 +126,7 @@ impl Generator {
         let record = next_record(
             &self.plan,
             self.gap,
+            &self.symbols,
             self.given,
             &mut self.draws,
             &mut self.flags,

@@ -4,6 +4,7 @@
 mod draws;
 mod generator;
 mod law;
+mod modulus;
 mod plan;
 mod send;
 mod session;

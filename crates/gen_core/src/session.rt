@@ -7,6 +7,7 @@ ghost use Rattle.gen_core.specs.InternalState.{IsGap, flags_after};
 ghost use Rattle.wire_in.specs.declared.record.Record.TheVariants as records;
 
 use crate::draws::Draws;
+use crate::modulus::Modulus;
 use crate::plan::DayPlan;
 use crate::start::close_of;
 use price_core::{Index, Price};
@@ -69,13 +70,13 @@ fn index_tick(moment: Moment, draws: &mut Draws) -> Record
 }
 
 /// Draws a symbol.
-fn symbol(symbols: u32, draws: &mut Draws) -> u16
-    requires { (0 < symbols) × (symbols ≤ 16384) }
-    ensures value { result ≡ draw draws.old.number 1 % symbols }
-    ensures range { result < symbols }
+fn symbol(symbols: &Modulus, draws: &mut Draws) -> u16
+    requires { symbols.now ≤ 16384 }
+    ensures value { result ≡ draw draws.old.number 1 % symbols.now }
+    ensures range { result < symbols.now }
     ensures number { draws.new.number ≡ number_after draws.old.number 1 }
 {
-    draws.below(u64::from(symbols)) as u16
+    draws.modulo(symbols) as u16
 }
 
 /// Draws the middle of a quotation.
@@ -89,9 +90,9 @@ fn middle(close: u64, draws: &mut Draws) -> u64
 }
 
 /// Draws a quotation.
-fn quote(moment: Moment, symbols: u32, draws: &mut Draws) -> Record
-    requires { (0 < symbols) × (symbols ≤ 16384) }
-    ensures record { result ≡ quote moment (draw draws.old.number 1 % symbols) (draw draws.old.number 2) }
+fn quote(moment: Moment, symbols: &Modulus, draws: &mut Draws) -> Record
+    requires { symbols.now ≤ 16384 }
+    ensures record { result ≡ quote moment (draw draws.old.number 1 % symbols.now) (draw draws.old.number 2) }
     ensures number { draws.new.number ≡ number_after draws.old.number 2 }
 {
     let symbol = symbol(symbols, draws);
@@ -117,13 +118,20 @@ fn traded_price(close: u64, draws: &mut Draws) -> u64
 }
 
 /// Draws a trade. The next trade of its symbol has no flags.
-fn trade(moment: Moment, number: u32, draws: &mut Draws, flags: &mut [u16]) -> Record
-    requires { (0 < length flags.old) × (length flags.old ≤ 16384) }
+fn trade(
+    moment: Moment,
+    symbols: &Modulus,
+    number: u32,
+    draws: &mut Draws,
+    flags: &mut [u16],
+) -> Record
+    requires symbols { symbols.now ≡ length flags.old }
+    requires few { length flags.old ≤ 16384 }
     ensures record { result ≡ trade moment (draw draws.old.number 1 % length flags.old) number (slice_index flags.old (draw draws.old.number 1 % length flags.old)) (draw draws.old.number 2) }
     ensures number { draws.new.number ≡ number_after draws.old.number 2 }
     ensures flags { flags.new ≡ slice_set flags.old (draw draws.old.number 1 % length flags.old) 0 }
 {
-    let symbol = symbol(flags.len() as u32, draws);
+    let symbol = symbol(symbols, draws);
     let price = Price::of(traded_price(close_of(symbol), draws));
     let own_flags = flags[usize::from(symbol)];
     flags[usize::from(symbol)] = 0;
@@ -138,8 +146,16 @@ fn trade(moment: Moment, number: u32, draws: &mut Draws, flags: &mut [u16]) -> R
 }
 
 /// Draws the record k of a kind.
-fn record_of_kind(kind: u64, moment: Moment, k: u32, draws: &mut Draws, flags: &mut [u16]) -> Record
-    requires { (0 < length flags.old) × (length flags.old ≤ 16384) }
+fn record_of_kind(
+    kind: u64,
+    moment: Moment,
+    symbols: &Modulus,
+    k: u32,
+    draws: &mut Draws,
+    flags: &mut [u16],
+) -> Record
+    requires symbols { symbols.now ≡ length flags.old }
+    requires few { length flags.old ≤ 16384 }
     ensures record { result ≡ record_of_kind kind moment k (draw draws.old.number 1 % length flags.old) (slice_index flags.old (draw draws.old.number 1 % length flags.old)) (draw draws.old.number 1) (draw draws.old.number 2) }
     ensures number { draws.new.number ≡ number_after draws.old.number (draws_of result - 1) }
     ensures flags { flags.new ≡ flags_after result flags.old }
@@ -147,9 +163,9 @@ fn record_of_kind(kind: u64, moment: Moment, k: u32, draws: &mut Draws, flags: &
     if kind == 0 {
         index_tick(moment, draws)
     } else if kind <= 9 {
-        quote(moment, flags.len() as u32, draws)
+        quote(moment, symbols, draws)
     } else {
-        trade(moment, k, draws, flags)
+        trade(moment, symbols, k, draws, flags)
     }
 }
 
@@ -157,12 +173,14 @@ fn record_of_kind(kind: u64, moment: Moment, k: u32, draws: &mut Draws, flags: &
 pub fn session_record(
     plan: &DayPlan,
     gap: u64,
+    symbols: &Modulus,
     k: u32,
     draws: &mut Draws,
     flags: &mut [u16],
 ) -> Record
     requires plan { IsPlan plan.now }
     requires gap { IsGap plan.now gap }
+    requires symbols { symbols.now ≡ plan.now.symbols }
     requires record { k < plan.now.records }
     requires flags { length flags.old ≡ plan.now.symbols }
     ensures record { result ≡ session_record plan.now k draws.old.number (slice_index flags.old (symbol_drawn plan.now draws.old.number)) }
@@ -174,5 +192,5 @@ pub fn session_record(
         return Record::Clock { moment };
     }
     let kind = draws.below(16);
-    record_of_kind(kind, moment, k, draws, flags)
+    record_of_kind(kind, moment, symbols, k, draws, flags)
 }
