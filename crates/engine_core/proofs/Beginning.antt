@@ -5,6 +5,7 @@ use Rattle.host_core.specs.Outside.{Outside}
 use Rattle.wire_in.specs.declared.record.Record.{Record}
 use Rattle.wire_in.specs.Cutting.{pending}
 use Rattle.engine_core.specs.declared.session.Session.{Session}
+use Rattle.evaluator_core.specs.Evaluating.{workers_of, IsIdle}
 use Rattle.engine_core.specs.EngineState.{Represents}
 use Rattle.stream_core.specs.Pending.{Expects}
 use Rattle.engine_core.specs.Sessions.{Start}
@@ -14,14 +15,14 @@ use Rattle.stream_core.proofs.Pending.{expects_same}
 
 -- it has the records of its start, and what is sent before the first answer waits or was sent
 pub begins : (holds : List Record → Outside → Type 0) (start : Start) (input : List ℕ) (session : Session) (now : Outside)
-    → session.cutter ≡ [] → session.round ≡ [] → session.answered ≡ 0 → Represents session.engine start.capacity start.held start.held → holds start.held now
+    → session.cutter ≡ [] → session.round.outcomes ≡ [] → session.answered ≡ 0 → Represents session.engine start.capacity start.held start.held → workers_of session.engine.evaluator ≡ start.workers → IsIdle session.engine.evaluator → holds start.held now
     → Expects start.sent now.sent session.outbox start.opening → now.input ≡ Some input → Reads holds start input 0 session now
-begins holds start input session now cutter round fresh engine held expects left = record {
+begins holds start input session now cutter round fresh engine workers idle held expects left = record {
   input_left = left;
   there = omega arith;
   serves = record {
     answered = [];
-    judges = record { cutter = ap pending cutter; waits = record { waiting = []; whole = refl; number_is = fresh; outcomes_are = round; engine_is = engine } };
+    judges = record { cutter = ap pending cutter; waits = record { waiting = []; whole = refl; number_is = fresh; outcomes_are = round; engine_is = engine; workers = workers }; idle = idle };
     held = held;
     pending_is = expects_same _ _ (sym (expected-none start)) expects;
   };

@@ -116,13 +116,12 @@ starved_further {front = front} begins starved =
     let more = bodies_of (rest_of front ++ begins.more) in
     record {
       answered = starved.answered;
-      body = starved.body;
-      later = starved.later ++ more;
+      waiting = starved.waiting ++ more;
       frames = ap bodies_of (sym begins.whole) ∙ bodies_of-append front begins.more ∙ ap (λ (b : List (List ℕ)). b ++ more) starved.frames
-          ∙ append_assoc starved.answered (starved.body ∷ starved.later) more;
-      x = starved.x;
-      accepted = starved.accepted;
-      takes = starved.takes;
+          ∙ append_assoc starved.answered starved.waiting more;
+      short = λ one.
+          let next = starved.short one in
+          record { body = next.body; later = next.later ++ more; first = ap (λ (b : List (List ℕ)). b ++ more) next.first; x = next.x; accepted = next.accepted; takes = next.takes };
       sent = starved.sent;
     }
 

@@ -21,20 +21,20 @@ use Rattle.engine_core.proofs.Expecting.{added, expected-more, held-more, Begins
 
 module _ {holds : List Record → Outside → Type 0} {start : Start} {read : List ℕ} {session : Session} {now : Outside} (serves : Serves holds start read session now) where
   -- what the accepted records of the round make of those that are held
-  pub kept_is : with_batch (held_after start serves.answered) (records_in session.round) ≡ held_after start (bodies_of read)
+  pub kept_is : with_batch (held_after start serves.answered) (records_in session.round.outcomes) ≡ held_after start (bodies_of read)
   kept_is =
       rw (serves.judges.waits.outcomes_are, ← serves.judges.waits.whole)
       (batch_of start.capacity (held_after start serves.answered) serves.judges.waits.waiting ∙ sym (held-more start serves.answered serves.judges.waits.waiting))
 
-  pub answers_of : (sent : Option (List ℕ)) → sent ≡ now.sent → Answers start (bodies_of read) session.answered session.round session.engine session.outbox sent
-  answers_of sent same = record { answered = serves.answered; waits = serves.judges.waits; pending_is = expects_still sent same serves.pending_is }
+  pub answers_of : (sent : Option (List ℕ)) → sent ≡ now.sent → Answers start (bodies_of read) session.answered session.round.outcomes [] session.engine session.outbox sent
+  answers_of sent same = record { answered = serves.answered; waits = serves.judges.waits; pending_is = expects_still sent same serves.pending_is; ahead = serves.judges.idle }
 
   -- after the round was answered
-  pub settled : (keeps : List Record → Outside → Type 0) (next : Session) (new : Outside) → next.round ≡ [] → next.cutter ≡ session.cutter → keeps (held_after start (bodies_of read)) new
-      → Answers start (bodies_of read) next.answered next.round next.engine next.outbox new.sent → Serves keeps start read next new
+  pub settled : (keeps : List Record → Outside → Type 0) (next : Session) (new : Outside) → next.round.outcomes ≡ [] → next.cutter ≡ session.cutter → keeps (held_after start (bodies_of read)) new
+      → Answers start (bodies_of read) next.answered next.round.outcomes [] next.engine next.outbox new.sent → Serves keeps start read next new
   settled keeps next new empty cutter held answers = record {
     answered = answers.answered;
-    judges = record { cutter = ap pending cutter ∙ serves.judges.cutter; waits = answers.waits };
+    judges = record { cutter = ap pending cutter ∙ serves.judges.cutter; waits = answers.waits; idle = answers.ahead };
     held = subst (λ (b : List (List ℕ)). keeps (held_after start b) new) (sym (none_waits answers.waits empty)) held;
     pending_is = answers.pending_is;
   }
@@ -56,9 +56,9 @@ module _ {holds : List Record → Outside → Type 0} {start : Start} {read : Li
 
   -- or the round kept
   pub leaves_keeps : (recovers : List Record → List (List Record) → List ℕ → Type 0) (image bytes : List ℕ)
-      → Keeps recovers (held_after start serves.answered) (records_in session.round) now image bytes → Leaves recovers start (bodies_of read) image bytes
+      → Keeps recovers (held_after start serves.answered) (records_in session.round.outcomes) now image bytes → Leaves recovers start (bodies_of read) image bytes
   leaves_keeps recovers image bytes stop =
-      let batch = records_in session.round in
+      let batch = records_in session.round.outcomes in
       let more = added start serves.answered serves.judges.waits.waiting in
       let whole = sym (expected-more start serves.answered serves.judges.waits.waiting) ∙ ap (expected start) serves.judges.waits.whole in
       let sent = sym (append_assoc _ _ more) ∙ ap (λ (b : List ℕ). b ++ more) serves.pending_is.whole ∙ whole in

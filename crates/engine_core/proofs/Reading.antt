@@ -23,7 +23,7 @@ pub up_to : (n m : ℕ) (input : List ℕ) → n ≤ m → Begins (take n input)
 up_to n m input le = record { more = take (m - n) (drop n input); whole = sym (take-add n (m - n) input) ∙ ap (λ (k : ℕ). take k input) (omega arith) }
 
 module _ {holds : List Record → Outside → Type 0} {start : Start} {input : List ℕ} {count : ℕ} {session : Session} {old : Outside}
-    (reads : Reads holds start input count session old) (empty : session.round ≡ []) where
+    (reads : Reads holds start input count session old) (empty : session.round.outcomes ≡ []) where
   all_answered : reads.serves.answered ≡ bodies_of (take count input)
   all_answered = none_waits reads.serves.judges.waits empty
 
@@ -39,7 +39,7 @@ module _ {holds : List Record → Outside → Type 0} {start : Start} {input : L
       → Serves holds start (take count input) (record session { outbox = outbox }) new
   serves_sent outbox new held none sent = record {
     answered = reads.serves.answered;
-    judges = record { cutter = reads.serves.judges.cutter; waits = reads.serves.judges.waits };
+    judges = record { cutter = reads.serves.judges.cutter; waits = reads.serves.judges.waits; idle = reads.serves.judges.idle };
     held = held;
     pending_is = expects_nothing start.sent new.sent outbox _ none (sent ∙ ap (λ (b : List (List ℕ)). append_known start.sent (expected start b)) (sym all_answered));
   }

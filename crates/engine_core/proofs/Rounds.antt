@@ -1,9 +1,11 @@
 -- The outcomes of a round, and the records that it accepts.
 use Rattle.std.proofs.Common.{◌≡◌, ℕ, ◌≤◌, List, [], ◌∷◌, ◌++◌, length, refl, sym, ap, ◌∙◌, append_assoc, arith}
-use Rattle.std.specs.Prelude.{Option, Some, None, Result, Ok, Err}
+use Rattle.std.specs.Prelude.{Option, Some, None, Result, Ok, Err, IfOk, All}
 use Rattle.std.proofs.lemmas.List.{reverse-append}
+use Rattle.std.proofs.lemmas.List.Elements.{All-nil, All-cons}
 use Rattle.wire_in.specs.declared.record.Record.{Record}
 use Rattle.wire_in.specs.declared.record.Refusal.{Refusal}
+use Rattle.wire_in.specs.Spelling.{InRange}
 use Rattle.wire_in.specs.Reading.{record_of}
 use Rattle.wire_in.specs.Cutting.{bodies_of, rest_of}
 use Rattle.wire_in.proofs.Cuts.{bodies_of-append, rest_of-append, cut_framed}
@@ -11,6 +13,7 @@ use Rattle.wire_core.specs.Frames.{framed}
 use Rattle.journal_core.specs.Layout.{with_batch}
 use Rattle.rulebook.specs.Admission.{verdict}
 use Rattle.rulebook.specs.Sent.{record_or_refusal, admitted, judged, with_record, accepted_of}
+use Rattle.shard_core.specs.Block.{AreAdmissible}
 use Rattle.engine_core.specs.Rounds.{Outcome, outcomes_of, records_in, IsAdmissible}
 
 pub outcomes-append : (capacity : ℕ) (held : List Record) (a b : List (List ℕ)) → outcomes_of capacity held (a ++ b) ≡ outcomes_of capacity held a ++ outcomes_of capacity (accepted_of capacity held a) b
@@ -45,6 +48,18 @@ admissible_admitted capacity held (Err refusal) = tt
 pub admissible_judged : (capacity : ℕ) (held : List Record) (body : List ℕ) → IsAdmissible capacity held (judged capacity held body)
 admissible_judged capacity held body = admissible_admitted capacity held (record_of body)
 
+one_admissible : (capacity : ℕ) (held : List Record) (outcome : Outcome) (later : List Outcome) → IsAdmissible capacity held outcome → AreAdmissible capacity (with_record held outcome) (records_in later)
+    → AreAdmissible capacity held (records_in (outcome ∷ later))
+one_admissible capacity held (Ok x) later one rest = (one, rest)
+one_admissible capacity held (Err refusal) later one rest = rest
+
+-- the accepted records of a round may follow one after the other
+pub admissible_records : (capacity : ℕ) (held : List Record) (bodies : List (List ℕ)) → AreAdmissible capacity held (records_in (outcomes_of capacity held bodies))
+admissible_records capacity held [] = tt
+admissible_records capacity held (body ∷ later) =
+    let next = with_record held (judged capacity held body) in
+    one_admissible capacity held (judged capacity held body) (outcomes_of capacity next later) (admissible_judged capacity held body) (admissible_records capacity next later)
+
 -- the first frame of a round
 pub judged_first : (capacity : ℕ) (held : List Record) (outcome : Outcome) (later : List Outcome) (waiting : List (List ℕ)) → outcome ∷ later ≡ outcomes_of capacity held waiting
     → (body : List ℕ) × (rest : List (List ℕ)) × (waiting ≡ body ∷ rest) × (outcome ≡ judged capacity held body)
@@ -61,6 +76,10 @@ pub few_records : (outcomes : List Outcome) → length (records_in outcomes) ≤
 few_records [] = omega arith
 few_records (Ok x ∷ later) = let le = few_records later in omega (arith, le)
 few_records (Err refusal ∷ later) = let le = few_records later in omega (arith, le)
+
+pub ranges_one : (outcome : Outcome) → IfOk outcome InRange → All InRange (records_in (outcome ∷ []))
+ranges_one (Ok x) range = All-cons InRange x [] range (All-nil InRange)
+ranges_one (Err refusal) range = All-nil InRange
 
 -- a whole frame behind whole frames
 pub whole_on : (read taken body : List ℕ) → rest_of read ≡ [] → framed body ≡ taken → (bodies_of (read ++ taken) ≡ bodies_of read ++ body ∷ []) × (rest_of (read ++ taken) ≡ [])

@@ -15,5 +15,5 @@ pub not_read : {T : Type 0} (r : Result T Fault) → IfErr r (λ f. f ≡ fault.
 not_read r sends = grind arith
 
 -- the record at which memory was short
-pub takes_of : (x : Record) {begin now : Option (List ℕ)} {text : List ℕ} → IsShort (Ok x) begin now text → TakesMemory x
-takes_of x short = let is : short.x ≡ x = cc in subst TakesMemory is short.takes
+pub takes_of : {workers : ℕ} (x : Record) {begin now : Option (List ℕ)} {text : List ℕ} → IsShort workers (Ok x) begin now text → workers ≡ 1 → TakesMemory x
+takes_of x short one = let is : short.x ≡ x = cc in subst TakesMemory is (short.takes one)

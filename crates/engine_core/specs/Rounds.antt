@@ -1,7 +1,8 @@
 -- The frames of a round: judged one after the other, kept together, and then answered.
-use Rattle.std.specs.Prelude.{◌≡◌, ℕ, ◌≤◌, List, [], ◌∷◌, length, None, Result, Ok, Err}
+use Rattle.std.specs.Prelude.{◌≡◌, ℕ, ◌≤◌, List, [], ◌∷◌, length, None, Result, Ok, Err, All}
 use Rattle.wire_in.specs.declared.record.Record.{Record}
 use Rattle.wire_in.specs.declared.record.Refusal.{Refusal}
+use Rattle.wire_in.specs.Spelling.{InRange}
 use Rattle.rulebook.specs.Admission.{verdict}
 use Rattle.rulebook.specs.Sent.{judged, with_record}
 
@@ -25,8 +26,16 @@ abbrev pub IsAdmissible : ℕ → List Record → Outcome → Type 0
 IsAdmissible capacity held (Ok x) = verdict capacity held x ≡ None
 IsAdmissible capacity held (Err refusal) = Unit {0}
 
--- at most 64 outcomes
-pub record IsRound (outcomes : List Outcome) (accepted : List Record) (reserved : ℕ) : Type 0 where
-  pub most : length outcomes ≤ 64
-  pub reserve : 64 ≤ reserved
-  pub accepted_are : accepted ≡ records_in outcomes
+-- the outcomes of up to so many frames, the oldest first
+pub record RoundState : Type 0 where
+  pub outcomes : List Outcome
+  pub most : ℕ
+
+-- at most 65,536 outcomes, for which room was taken, as for their records
+pub record IsRound (round : RoundState) (accepted : List Record) (reserved reserved_records : ℕ) : Type 0 where
+  pub few : length round.outcomes ≤ round.most
+  pub within : round.most ≤ 65536
+  pub reserve : round.most ≤ reserved
+  pub reserve_records : round.most ≤ reserved_records
+  pub accepted_are : accepted ≡ records_in round.outcomes
+  pub ranges : All InRange accepted

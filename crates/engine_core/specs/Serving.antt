@@ -6,6 +6,7 @@ use Rattle.wire_in.specs.Cutting.{pending, bodies_of, rest_of}
 use Rattle.journal_core.specs.Layout.{records_of}
 use Rattle.journal_core.specs.Journal.{Adds}
 use Rattle.market_core.specs.MarketState.{most_messages}
+use Rattle.evaluator_core.specs.Evaluating.{IsIdle}
 use Rattle.engine_core.specs.declared.engine.Engine.{Engine}
 use Rattle.engine_core.specs.declared.session.Session.{Session}
 use Rattle.engine_core.specs.Answering.{Waits}
@@ -15,10 +16,11 @@ use Rattle.engine_core.specs.Rounds.{Outcome, records_in}
 use Rattle.engine_core.specs.Sessions.{Start, IsSafe, held_after, expected}
 
 -- The whole frames of the bytes read were judged, these of them were answered, and the others wait in the session's round;
--- the rest of the bytes is the frame begun.
+-- the rest of the bytes is the frame begun. No record is evaluated ahead.
 pub record Judges (start : Start) (answered : List (List ℕ)) (read : List ℕ) (session : Session) : Type 0 where
   pub cutter : pending session.cutter ≡ rest_of read
-  pub waits : Waits start answered (bodies_of read) session.answered session.round session.engine
+  pub waits : Waits start answered (bodies_of read) session.answered session.round.outcomes session.engine
+  pub idle : IsIdle session.engine.evaluator
 
 -- and what the answered frames gave is held, and was sent but for what is pending
 pub record Serves (holds : List Record → Outside → Type 0) (start : Start) (read : List ℕ) (session : Session) (now : Outside) : Type 0 where
@@ -42,10 +44,12 @@ pub record IsSound (engine : Engine) (outcomes : List Outcome) (answered : ℕ) 
   pub small : engine.evaluated ≤ 2 ^ 32 + answered
   pub roomy : IsRoomy engine
 
--- and the keeper has room for every record that admission may still accept
-pub record IsReady (has_room : ℕ → Type 0) (session : Session) : Type 0 where
-  pub sound : IsSound session.engine session.round session.answered
+-- and the keeper has room for every record that admission may still accept, and keeps as many at once as a round has frames
+pub record IsReady (has_room : ℕ → Type 0) (at_once : ℕ) (session : Session) : Type 0 where
+  pub sound : IsSound session.engine session.round.outcomes session.answered
   pub room : has_room (session.engine.admission.capacity - session.engine.evaluated)
+  pub some : 1 ≤ session.round.most
+  pub most : session.round.most ≤ at_once
 
 -- a keep leaves the records as they were, before the batch is kept or meanwhile, or with the batch, and sends nothing
 pub record Keeps (recovers : List Record → List (List Record) → List ℕ → Type 0) (records batch : List Record) (old : Outside) (image bytes : List ℕ) : Type 0 where

@@ -8,9 +8,11 @@ use Rattle.wire_out.specs.declared.message.Frame.{Frame}
 use Rattle.rulebook.specs.Sent.{accepted_of, judged, replies, unacknowledged, spelled}
 use Rattle.market_core.specs.Kinds.{TakesMemory}
 
--- What a session begins with: the capacity of records, the records that are held, the newest first, whether accepted
--- records are acknowledged, what is sent before the first frame is answered, and what was sent before, where it is known.
+-- What a session begins with: how many workers it has, the capacity of records, the records that are held, the newest first,
+-- whether accepted records are acknowledged, what is sent before the first frame is answered, and what was sent before, where
+-- it is known.
 pub record Start : Type 0 where
+  pub workers : ℕ
   pub capacity : ℕ
   pub held : List Record
   pub acknowledges : Bool
@@ -48,16 +50,22 @@ pub record Answered (holds : List Record → Outside → Type 0) (start : Start)
   pub sent : now.sent ≡ append_known start.sent (expected start (bodies_of (take count input)))
   pub held : holds (held_after start (bodies_of (take count input))) now
 
--- All that is expected for some of the first frames, and no more, was sent, and the frame behind them brings a Listing or a
--- Trade that is accepted.
-pub record Starved (start : Start) (bodies : List (List ℕ)) (now : Outside) : Type 0 where
-  pub answered : List (List ℕ)
+-- The first of these frames, behind the answered ones, brings a Listing or a Trade that is accepted.
+pub record TakesNext (start : Start) (answered waiting : List (List ℕ)) : Type 0 where
   pub body : List ℕ
   pub later : List (List ℕ)
-  pub frames : bodies ≡ answered ++ body ∷ later
+  pub first : waiting ≡ body ∷ later
   pub x : Record
   pub accepted : judged start.capacity (held_after start answered) body ≡ Ok x
   pub takes : TakesMemory x
+
+-- All that is expected for some of the first frames, and no more, was sent; where there is one worker, the frame behind them
+-- brings a Listing or a Trade that is accepted.
+pub record Starved (start : Start) (bodies : List (List ℕ)) (now : Outside) : Type 0 where
+  pub answered : List (List ℕ)
+  pub waiting : List (List ℕ)
+  pub frames : bodies ≡ answered ++ waiting
+  pub short : start.workers ≡ 1 → TakesNext start answered waiting
   pub sent : now.sent ≡ append_known start.sent (expected start answered)
 
 -- When a read began, some of the first bytes of the input had been read, and all that is expected for the whole frames

@@ -1,6 +1,6 @@
-//! Admission and the market, kept from record to record.
+//! Admission and the evaluator, kept from record to record.
 
-ghost use Rattle.std.specs.Prelude.{◌≡◌, ◌+◌, ◌*◌, ◌<◌, ◌≤◌, ◌^◌, ◌∷◌, [], ℕ, List, None, IfOk, IfErr, OnOk, OnErr, length, vec_len, vec_capacity};
+ghost use Rattle.std.specs.Prelude.{◌≡◌, ◌+◌, ◌*◌, ◌<◌, ◌≤◌, ◌^◌, ◌∷◌, [], ℕ, List, None, IfOk, IfErr, IsOk, OnOk, OnErr, length, vec_len, vec_capacity};
 ghost use Rattle.wire_in.specs.declared.record.Record.{Record};
 ghost use Rattle.wire_in.specs.Spelling.{InRange};
 ghost use Rattle.rulebook.specs.Admission.{verdict};
@@ -10,21 +10,26 @@ ghost use Rattle.market_core.specs.AdmissionState as admissions;
 ghost use Rattle.market_core.specs.AdmissionState.{refusal_of};
 ghost use Rattle.market_core.specs.Kinds.{TakesMemory};
 ghost use Rattle.market_core.specs.MarketState.{most_messages};
+ghost use Rattle.shard_core.specs.Block.{AreAdmissible};
+ghost use Rattle.evaluator_core.specs.Evaluating.{workers_of, names_of, IsAhead, IsIdle};
 ghost use Rattle.engine_core.specs.EngineState.{HasRoomFor};
 
 use crate::round::Outcome;
-use market_core::{Admission, Market, most_messages_of};
+use evaluator_core::Evaluator;
+use market_core::{Admission, most_messages_of};
 use price_core::NoMemory;
 use std::alloc::Global;
+use std::thread::Threads;
 use wire_in::Record;
 use wire_out::Stamped;
+use yard_core::Gate;
 
-/// The accepted records as admission and the market have them, the messages of the record that was evaluated last, and
+/// The accepted records as admission and the evaluator have them, the messages of the record that was evaluated last, and
 /// how many records were evaluated and messages given.
 #[derive(Drop)]
 pub struct Engine {
     pub admission: Admission,
-    pub market: Market,
+    pub evaluator: Evaluator,
     pub messages: Vec<Stamped>,
     pub evaluated: u64,
     pub published: u64,
@@ -45,37 +50,40 @@ pub fn judge(admission: &Admission, outcome: &mut Outcome)
 }
 
 /// Empties a list of messages, and at a Listing takes room for those of one stock more.
-fn make_room(messages: &mut Vec<Stamped>, market: &Market, x: &Record) -> Result<(), NoMemory>
+fn make_room(messages: &mut Vec<Stamped>, evaluator: &Evaluator, x: &Record) -> Result<(), NoMemory>
     ensures items { OnOk result (messages.new.items ≡ []) }
     ensures kept { vec_capacity messages.old ≤ vec_capacity messages.new }
-    ensures room { OnOk result (HasRoomFor x.now (length market.now.directory) (vec_capacity messages.new)) }
+    ensures room { OnOk result (HasRoomFor x.now (names_of evaluator.now) (vec_capacity messages.new)) }
     ensures starved { OnErr result (TakesMemory x.now) }
 {
     messages.clear();
     let Record::Listing { .. } = x else {
         return Ok(());
     };
-    messages.reserve(most_messages_of(market.names() + 1))?;
+    messages.reserve(most_messages_of(evaluator.names() + 1))?;
     Ok(())
 }
 
 impl Engine {
     ghost use Rattle.engine_core.specs.EngineState.{Represents, IsRoomy};
 
-    /// An engine of no records, under a capacity of records.
-    pub fn new(alloc: Global, capacity: u64) -> Result<Engine, NoMemory>
+    /// An engine of no records, under a capacity of records, with 1 to 64 workers.
+    pub fn new(alloc: Global, capacity: u64, workers: u32) -> Result<Engine, NoMemory>
+        requires workers { (1 ≤ workers) × (workers ≤ 64) }
         ensures represents { IfOk result (λ engine. Represents engine capacity [] []) }
         ensures roomy { IfOk result IsRoomy }
+        ensures idle { IfOk result (λ engine. IsIdle engine.evaluator) }
+        ensures workers { IfOk result (λ engine. workers_of engine.evaluator ≡ workers) }
         ensures none { IfOk result (λ engine. engine.admission.count ≡ 0) }
         ensures evaluated { IfOk result (λ engine. engine.evaluated ≡ 0) }
         ensures published { IfOk result (λ engine. engine.published ≡ 0) }
     {
         let admission = Admission::new(alloc, capacity)?;
-        let market = Market::new(alloc)?;
-        let messages = Vec::with_capacity(alloc, most_messages_of(market.names()))?;
+        let evaluator = Evaluator::new(alloc, workers)?;
+        let messages = Vec::with_capacity(alloc, most_messages_of(evaluator.names()))?;
         Ok(Engine {
             admission,
-            market,
+            evaluator,
             messages,
             evaluated: 0,
             published: 0,
@@ -102,24 +110,49 @@ impl Engine {
         self.admission.admit(x).unwrap();
     }
 
-    /// Evaluates the oldest of the accepted records that wait, and keeps its messages. It takes memory at a Listing and a
-    /// Trade alone. After an error the engine is of no further use.
+    /// Evaluates the oldest of the accepted records that wait ahead, which are at most 65,536, by all workers: `evaluate` then
+    /// takes one after the other. One worker evaluates nothing ahead. After an error the engine is of no further use.
+    pub fn prepare<Rt: Threads + Sync, G: Gate>(
+        &mut self,
+        rt: &Rt,
+        gate: &G,
+        xs: &Vec<Record>,
+    ) -> Result<(), NoMemory>
+        requires few { length xs.now.items ≤ 65536 }
+        ensures represents { (capacity : ℕ) (accepted evaluated : List Record) → Represents self.old capacity accepted evaluated → IsIdle self.old.evaluator
+            → AreAdmissible capacity evaluated xs.now.items → OnOk result (Represents self.new capacity accepted evaluated) }
+        ensures ahead { IsIdle self.old.evaluator → OnOk result (IsAhead self.new.evaluator xs.now.items) }
+        ensures alone { workers_of self.old.evaluator ≡ 1 → IsOk result }
+        ensures rest { self.new ≡ record self.old { evaluator = self.new.evaluator } }
+        ensures workers { workers_of self.new.evaluator ≡ workers_of self.old.evaluator }
+        ensures roomy { IsRoomy self.old → IsRoomy self.new }
+    {
+        if xs.is_empty() {
+            return Ok(());
+        }
+        self.evaluator.prepare(rt, gate, xs)
+    }
+
+    /// Evaluates the oldest of the accepted records that wait, and keeps its messages. Where there is one worker, it takes
+    /// memory at a Listing and a Trade alone. After an error the engine is of no further use.
     pub fn evaluate(&mut self, x: &Record) -> Result<(), NoMemory>
         requires room { self.old.published + most_messages < 2 ^ 64 }
         requires count { self.old.evaluated + 1 < 2 ^ 64 }
-        ensures represents { (capacity : ℕ) (accepted evaluated : List Record) → Represents self.old capacity accepted evaluated → verdict capacity evaluated x.now ≡ None
-            → OnOk result (Represents self.new capacity accepted (x.now ∷ evaluated)) }
-        ensures messages { (capacity : ℕ) (accepted evaluated : List Record) → Represents self.old capacity accepted evaluated → verdict capacity evaluated x.now ≡ None
-            → OnOk result (self.new.messages.items ≡ newest_messages (x.now ∷ evaluated)) }
+        ensures represents { (capacity : ℕ) (accepted evaluated later : List Record) → Represents self.old capacity accepted evaluated → IsAhead self.old.evaluator (x.now ∷ later)
+            → verdict capacity evaluated x.now ≡ None → OnOk result (Represents self.new capacity accepted (x.now ∷ evaluated)) }
+        ensures messages { (capacity : ℕ) (accepted evaluated later : List Record) → Represents self.old capacity accepted evaluated → IsAhead self.old.evaluator (x.now ∷ later)
+            → verdict capacity evaluated x.now ≡ None → OnOk result (self.new.messages.items ≡ newest_messages (x.now ∷ evaluated)) }
+        ensures ahead { (later : List Record) → IsAhead self.old.evaluator (x.now ∷ later) → OnOk result (IsAhead self.new.evaluator later) }
+        ensures workers { workers_of self.new.evaluator ≡ workers_of self.old.evaluator }
         ensures admission { self.new.admission ≡ self.old.admission }
         ensures evaluated { OnOk result (self.new.evaluated ≡ self.old.evaluated + 1) }
         ensures published { OnOk result (self.new.published ≡ self.old.published + vec_len self.new.messages) }
         ensures few { OnOk result (vec_len self.new.messages ≤ most_messages) }
         ensures roomy { IsRoomy self.old → OnOk result (IsRoomy self.new) }
-        ensures starved { IsRoomy self.old → OnErr result (TakesMemory x.now) }
+        ensures starved { IsRoomy self.old → workers_of self.old.evaluator ≡ 1 → OnErr result (TakesMemory x.now) }
     {
-        make_room(&mut self.messages, &self.market, x)?;
-        self.market.apply(x, &mut self.messages)?;
+        make_room(&mut self.messages, &self.evaluator, x)?;
+        self.evaluator.apply(x, &mut self.messages)?;
         self.evaluated += 1;
         self.published += self.messages.len() as u64;
         Ok(())

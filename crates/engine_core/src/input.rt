@@ -18,8 +18,9 @@ ghost use Rattle.engine_core.specs.Serving.{Reads, Leaves, IsReady};
 use crate::keeper::Keeper;
 use crate::session::{Session, feed};
 use host_core::{Fault, Host, Status};
-use journal_core::BATCH_MAX;
+use std::thread::Threads;
 use stream_core::exchange;
+use yard_core::Gate;
 
 /// How a session ends that has read so many bytes of at most so many, and all that the input has where they are fewer.
 fn ending(session: &Session, read: u64, most: u64) -> Status
@@ -36,20 +37,21 @@ fn ending(session: &Session, read: u64, most: u64) -> Status
     }
 }
 
-/// Answers the input up to its end, or up to so many bytes, in rounds of at most so many frames. It answers Done,
+/// Answers the input up to its end, or up to so many bytes, in rounds of as many frames as the session's takes. It
+/// answers Done,
 /// Truncated or SessionFull, or the fault that ended the session.
-pub fn serve_input<K: Keeper, H: Host>(
+pub fn serve_input<Rt: Threads + Sync, K: Keeper, H: Host, G: Gate>(
+    rt: &Rt,
     session: &mut Session,
     keeper: &mut K,
     host: &mut H,
-    frames: usize,
+    gate: &G,
     buffer: &mut [u8],
     most: u64,
 ) -> Result<Status, Fault>
-    requires frames { (1 ≤ frames) × (frames ≤ BATCH_MAX) }
     requires buffer { 0 < length buffer.old }
-    requires empty { session.old.round ≡ [] }
-    requires ready { IsReady (K.has_room keeper.old (H.outside host.old).disk) session.old }
+    requires empty { session.old.round.outcomes ≡ [] }
+    requires ready { IsReady (K.has_room keeper.old (H.outside host.old).disk) K.most session.old }
     requires fresh { session.old.answered ≡ 0 }
     requires small { most < 2 ^ 41 }
     ensures exact { (start : Start) (input : List ℕ) → start.acknowledges ≡ K.acknowledges → Reads (K.holds keeper.old) start input 0 session.old (H.outside host.old)
@@ -76,7 +78,7 @@ pub fn serve_input<K: Keeper, H: Host>(
     while open {
         let room = buffer.len().min((most - read) as usize);
         let count = exchange(&mut session.outbox, host, buffer, room)?;
-        feed(session, keeper, host, frames, &buffer[..count])?;
+        feed(rt, session, keeper, host, gate, &buffer[..count])?;
         open = count > 0;
         read += count as u64;
     }

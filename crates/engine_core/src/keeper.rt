@@ -1,20 +1,24 @@
 //! What keeps the accepted records of a session.
 
-ghost use Rattle.std.specs.Prelude.{◌≡◌, ◌≢◌, ◌<◌, ◌≤◌, ◌+◌, [], ℕ, Bool, List, Option, length, Err, OnOk};
+ghost use Rattle.std.specs.Prelude.{◌≡◌, ◌≢◌, ◌<◌, ◌≤◌, ◌+◌, [], ℕ, Bool, List, Option, All, length, Err, OnOk};
 ghost use Rattle.host_core.specs.Outside.{Outside, MayLeave, Elapses};
 ghost use Rattle.host_core.specs.Frames.{OnlyWrites};
 ghost use Rattle.host_core.specs.Faults.{Causes};
 ghost use Rattle.wire_in.specs.declared.record.Record.{Record};
+ghost use Rattle.wire_in.specs.Spelling.{InRange};
 ghost use Rattle.journal_core.specs.Layout.{with_batch};
 ghost use Rattle.engine_core.specs.Serving.{Keeps};
 
 use host_core::{Fault, Host};
-use journal_core::Batch;
+use wire_in::Record;
 
 /// Keeps the accepted records of a batch before they are evaluated, and says whether they are acknowledged then.
 pub trait Keeper {
     /// Whether accepted records are acknowledged.
     ghost acknowledges: { Bool };
+
+    /// The most records that it keeps at once.
+    ghost most: { ℕ };
 
     /// These records are held, the newest first.
     ghost holds: { Self → List Record → Outside → Type 0 };
@@ -55,9 +59,11 @@ pub trait Keeper {
     fn acknowledges(&self) -> bool
         ensures { result ≡ acknowledges };
 
-    /// Keeps the records of a batch, the oldest first. A stop at any moment leaves them all or none.
-    fn keep<H: Host>(&mut self, host: &mut H, batch: &Batch) -> Result<(), Fault>
+    /// Keeps the records of a batch at once, the oldest first. A stop at any moment leaves them all or none.
+    fn keep<H: Host>(&mut self, host: &mut H, batch: &[Record]) -> Result<(), Fault>
         requires some { 0 < length batch.now }
+        requires few { length batch.now ≤ most }
+        requires ranges { All InRange batch.now }
         requires room { has_room self.old (H.outside host.old).disk (length batch.now) }
         ensures moments { (records : List Record) → holds self.old records (H.outside host.old)
             → Elapses (H.outside host.old) (H.outside host.new) (Keeps (recovers self.old (H.outside host.old)) records batch.now (H.outside host.old)) }

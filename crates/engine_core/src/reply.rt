@@ -10,18 +10,22 @@ ghost use Rattle.rulebook.specs.Admission.{verdict};
 ghost use Rattle.rulebook.specs.Sent.{spelled, numbered, refused, accepted, reply, with_record};
 ghost use Rattle.rulebook.specs.Book.{messages_of, newest_messages};
 ghost use Rattle.market_core.specs.MarketState.{most_messages};
+ghost use Rattle.shard_core.specs.Block.{AreAdmissible};
 ghost use Rattle.stream_core.specs.Pending.{Expects, SendsPrefix};
 ghost use Rattle.engine_core.specs.EngineState.{Represents, IsRoomy};
 ghost use Rattle.engine_core.specs.Answering.{IsShort};
-ghost use Rattle.engine_core.specs.Rounds.{IsAdmissible, records_in};
+ghost use Rattle.evaluator_core.specs.Evaluating.{workers_of, IsAhead, IsIdle};
+ghost use Rattle.engine_core.specs.Rounds.{Outcome, IsAdmissible, records_in};
 ghost use Rattle.engine_core.specs.Sessions.{with_acknowledgements};
 
 use crate::engine::Engine;
 use crate::round::Outcome;
 use host_core::{Fault, Host};
+use std::thread::Threads;
 use stream_core::Outbox;
 use wire_in::{Record, Refusal};
 use wire_out::{Frame, Stamped};
+use yard_core::Gate;
 
 /// Appends messages, numbered on from those before them.
 pub fn append_messages<H: Host>(
@@ -89,6 +93,40 @@ fn give_up<H: Host>(outbox: &mut Outbox, host: &mut H) -> Fault
     }
 }
 
+/// Evaluates accepted records ahead. Where memory is short, what waits is sent before that is told.
+pub fn prepare<Rt: Threads + Sync, H: Host, G: Gate>(
+    rt: &Rt,
+    engine: &mut Engine,
+    outbox: &mut Outbox,
+    host: &mut H,
+    gate: &G,
+    xs: &Vec<Record>,
+) -> Result<(), Fault>
+    requires few { length xs.now.items ≤ 65536 }
+    ensures represents { (capacity : ℕ) (accepted evaluated : List Record) → Represents engine.old capacity accepted evaluated → IsIdle engine.old.evaluator
+        → AreAdmissible capacity evaluated xs.now.items → OnOk result (Represents engine.new capacity accepted evaluated) }
+    ensures ahead { IsIdle engine.old.evaluator → OnOk result (IsAhead engine.new.evaluator xs.now.items) }
+    ensures alone { workers_of engine.old.evaluator ≡ 1 → result ≢ Err Fault.Memory }
+    ensures rest { engine.new ≡ record engine.old { evaluator = engine.new.evaluator } }
+    ensures workers { workers_of engine.new.evaluator ≡ workers_of engine.old.evaluator }
+    ensures roomy { IsRoomy engine.old → IsRoomy engine.new }
+    ensures pending { (begin : Option (List ℕ)) (text : List ℕ) → Expects begin (H.outside host.old).sent outbox.old text
+        → OnOk result (Expects begin (H.outside host.new).sent outbox.new text) }
+    ensures moments { (begin : Option (List ℕ)) (text : List ℕ) → Expects begin (H.outside host.old).sent outbox.old text
+        → Elapses (H.outside host.old) (H.outside host.new) (SendsPrefix begin text (H.outside host.old)) }
+    ensures sent { (begin : Option (List ℕ)) (text : List ℕ) → Expects begin (H.outside host.old).sent outbox.old text
+        → result ≡ Err Fault.Memory → (H.outside host.new).sent ≡ append_known begin text }
+    ensures keeps { OnlySends (H.outside host.old) (H.outside host.new) }
+    ensures causes { Causes result (H.outside host.old) (H.outside host.new) }
+    ensures unread { result ≢ Err Fault.Read }
+    ensures unkept { result ≢ Err Fault.Disk }
+{
+    match engine.prepare(rt, gate, xs) {
+        Ok(()) => Ok(()),
+        Err(_) => Err(give_up(outbox, host)),
+    }
+}
+
 /// Evaluates a record. Where memory is short, what waits is sent before that is told.
 pub fn evaluate<H: Host>(
     engine: &mut Engine,
@@ -98,10 +136,12 @@ pub fn evaluate<H: Host>(
 ) -> Result<(), Fault>
     requires room { engine.old.published + most_messages < 2 ^ 64 }
     requires count { engine.old.evaluated + 1 < 2 ^ 64 }
-    ensures represents { (capacity : ℕ) (accepted evaluated : List Record) → Represents engine.old capacity accepted evaluated → verdict capacity evaluated x.now ≡ None
+    ensures represents { (capacity : ℕ) (accepted evaluated later : List Record) → Represents engine.old capacity accepted evaluated → IsAhead engine.old.evaluator (x.now ∷ later) → verdict capacity evaluated x.now ≡ None
         → OnOk result (Represents engine.new capacity accepted (x.now ∷ evaluated)) }
-    ensures messages { (capacity : ℕ) (accepted evaluated : List Record) → Represents engine.old capacity accepted evaluated → verdict capacity evaluated x.now ≡ None
+    ensures messages { (capacity : ℕ) (accepted evaluated later : List Record) → Represents engine.old capacity accepted evaluated → IsAhead engine.old.evaluator (x.now ∷ later) → verdict capacity evaluated x.now ≡ None
         → OnOk result (engine.new.messages.items ≡ newest_messages (x.now ∷ evaluated)) }
+    ensures ahead { (later : List Record) → IsAhead engine.old.evaluator (x.now ∷ later) → OnOk result (IsAhead engine.new.evaluator later) }
+    ensures workers { workers_of engine.new.evaluator ≡ workers_of engine.old.evaluator }
     ensures admission { engine.new.admission ≡ engine.old.admission }
     ensures evaluated { OnOk result (engine.new.evaluated ≡ engine.old.evaluated + 1) }
     ensures published { OnOk result (engine.new.published ≡ engine.old.published + vec_len engine.new.messages) }
@@ -116,7 +156,7 @@ pub fn evaluate<H: Host>(
     ensures unkept { result ≢ Err Fault.Disk }
     ensures roomy { IsRoomy engine.old → OnOk result (IsRoomy engine.new) }
     ensures starved { (begin : Option (List ℕ)) (text : List ℕ) → IsRoomy engine.old → Expects begin (H.outside host.old).sent outbox.old text
-        → result ≡ Err Fault.Memory → IsShort (Ok x.now) begin (H.outside host.new).sent text }
+        → result ≡ Err Fault.Memory → IsShort (workers_of engine.old.evaluator) (Ok x.now) begin (H.outside host.new).sent text }
 {
     match engine.evaluate(x) {
         Ok(()) => Ok(()),
@@ -133,14 +173,16 @@ fn publish<H: Host>(
 ) -> Result<(), Fault>
     requires room { engine.old.published + 2 * most_messages < 2 ^ 64 }
     requires count { engine.old.evaluated + 1 < 2 ^ 64 }
-    ensures represents { (capacity : ℕ) (accepted evaluated : List Record) → Represents engine.old capacity accepted evaluated → verdict capacity evaluated x.now ≡ None
+    ensures represents { (capacity : ℕ) (accepted evaluated later : List Record) → Represents engine.old capacity accepted evaluated → IsAhead engine.old.evaluator (x.now ∷ later) → verdict capacity evaluated x.now ≡ None
         → OnOk result (Represents engine.new capacity accepted (x.now ∷ evaluated)) }
-    ensures pending { (capacity : ℕ) (accepted evaluated : List Record) (begin : Option (List ℕ)) (text : List ℕ) → Represents engine.old capacity accepted evaluated
-        → verdict capacity evaluated x.now ≡ None → Expects begin (H.outside host.old).sent outbox.old text
+    ensures pending { (capacity : ℕ) (accepted evaluated later : List Record) (begin : Option (List ℕ)) (text : List ℕ) → Represents engine.old capacity accepted evaluated
+        → IsAhead engine.old.evaluator (x.now ∷ later) → verdict capacity evaluated x.now ≡ None → Expects begin (H.outside host.old).sent outbox.old text
         → OnOk result (Expects begin (H.outside host.new).sent outbox.new (text ++ spelled (numbered (length (messages_of evaluated)) (newest_messages (x.now ∷ evaluated))))) }
-    ensures moments { (capacity : ℕ) (accepted evaluated : List Record) (begin : Option (List ℕ)) (text : List ℕ) → Represents engine.old capacity accepted evaluated
-        → verdict capacity evaluated x.now ≡ None → Expects begin (H.outside host.old).sent outbox.old text
+    ensures moments { (capacity : ℕ) (accepted evaluated later : List Record) (begin : Option (List ℕ)) (text : List ℕ) → Represents engine.old capacity accepted evaluated
+        → IsAhead engine.old.evaluator (x.now ∷ later) → verdict capacity evaluated x.now ≡ None → Expects begin (H.outside host.old).sent outbox.old text
         → Elapses (H.outside host.old) (H.outside host.new) (SendsPrefix begin (text ++ spelled (numbered (length (messages_of evaluated)) (newest_messages (x.now ∷ evaluated)))) (H.outside host.old)) }
+    ensures ahead { (later : List Record) → IsAhead engine.old.evaluator (x.now ∷ later) → OnOk result (IsAhead engine.new.evaluator later) }
+    ensures workers { workers_of engine.new.evaluator ≡ workers_of engine.old.evaluator }
     ensures admission { engine.new.admission ≡ engine.old.admission }
     ensures evaluated { OnOk result (engine.new.evaluated ≡ engine.old.evaluated + 1) }
     ensures published { OnOk result (engine.new.published ≤ engine.old.published + most_messages) }
@@ -150,7 +192,7 @@ fn publish<H: Host>(
     ensures unkept { result ≢ Err Fault.Disk }
     ensures roomy { IsRoomy engine.old → OnOk result (IsRoomy engine.new) }
     ensures starved { (begin : Option (List ℕ)) (text : List ℕ) → IsRoomy engine.old → Expects begin (H.outside host.old).sent outbox.old text
-        → result ≡ Err Fault.Memory → IsShort (Ok x.now) begin (H.outside host.new).sent text }
+        → result ≡ Err Fault.Memory → IsShort (workers_of engine.old.evaluator) (Ok x.now) begin (H.outside host.new).sent text }
 {
     let before = engine.published;
     evaluate(engine, outbox, host, x)?;
@@ -167,14 +209,16 @@ fn answer_record<H: Host>(
 ) -> Result<(), Fault>
     requires room { engine.old.published + 2 * most_messages < 2 ^ 64 }
     requires count { engine.old.evaluated + 1 < 2 ^ 64 }
-    ensures represents { (capacity : ℕ) (accepted evaluated : List Record) → Represents engine.old capacity accepted evaluated → verdict capacity evaluated x.now ≡ None
+    ensures represents { (capacity : ℕ) (accepted evaluated later : List Record) → Represents engine.old capacity accepted evaluated → IsAhead engine.old.evaluator (x.now ∷ later) → verdict capacity evaluated x.now ≡ None
         → OnOk result (Represents engine.new capacity accepted (x.now ∷ evaluated)) }
-    ensures pending { (capacity : ℕ) (held evaluated : List Record) (begin : Option (List ℕ)) (text : List ℕ) → Represents engine.old capacity held evaluated
-        → verdict capacity evaluated x.now ≡ None → Expects begin (H.outside host.old).sent outbox.old text
+    ensures pending { (capacity : ℕ) (held evaluated later : List Record) (begin : Option (List ℕ)) (text : List ℕ) → Represents engine.old capacity held evaluated
+        → IsAhead engine.old.evaluator (x.now ∷ later) → verdict capacity evaluated x.now ≡ None → Expects begin (H.outside host.old).sent outbox.old text
         → OnOk result (Expects begin (H.outside host.new).sent outbox.new (text ++ spelled (with_acknowledgements acknowledges (accepted evaluated x.now)))) }
-    ensures moments { (capacity : ℕ) (held evaluated : List Record) (begin : Option (List ℕ)) (text : List ℕ) → Represents engine.old capacity held evaluated
-        → verdict capacity evaluated x.now ≡ None → Expects begin (H.outside host.old).sent outbox.old text
+    ensures moments { (capacity : ℕ) (held evaluated later : List Record) (begin : Option (List ℕ)) (text : List ℕ) → Represents engine.old capacity held evaluated
+        → IsAhead engine.old.evaluator (x.now ∷ later) → verdict capacity evaluated x.now ≡ None → Expects begin (H.outside host.old).sent outbox.old text
         → Elapses (H.outside host.old) (H.outside host.new) (SendsPrefix begin (text ++ spelled (with_acknowledgements acknowledges (accepted evaluated x.now))) (H.outside host.old)) }
+    ensures ahead { (later : List Record) → IsAhead engine.old.evaluator (x.now ∷ later) → OnOk result (IsAhead engine.new.evaluator later) }
+    ensures workers { workers_of engine.new.evaluator ≡ workers_of engine.old.evaluator }
     ensures admission { engine.new.admission ≡ engine.old.admission }
     ensures evaluated { OnOk result (engine.new.evaluated ≡ engine.old.evaluated + 1) }
     ensures published { OnOk result (engine.new.published ≤ engine.old.published + most_messages) }
@@ -184,7 +228,7 @@ fn answer_record<H: Host>(
     ensures unkept { result ≢ Err Fault.Disk }
     ensures roomy { IsRoomy engine.old → OnOk result (IsRoomy engine.new) }
     ensures starved { (begin : Option (List ℕ)) (text : List ℕ) → IsRoomy engine.old → Expects begin (H.outside host.old).sent outbox.old text
-        → result ≡ Err Fault.Memory → IsShort (Ok x.now) begin (H.outside host.new).sent text }
+        → result ≡ Err Fault.Memory → IsShort (workers_of engine.old.evaluator) (Ok x.now) begin (H.outside host.new).sent text }
 {
     publish(engine, outbox, host, x)?;
     acknowledge(outbox, host, acknowledges, engine.evaluated)
@@ -224,14 +268,16 @@ pub fn answer<H: Host>(
 ) -> Result<(), Fault>
     requires room { engine.old.published + 2 * most_messages < 2 ^ 64 }
     requires count { engine.old.evaluated + 1 < 2 ^ 64 }
-    ensures represents { (capacity : ℕ) (accepted evaluated : List Record) → Represents engine.old capacity accepted evaluated → IsAdmissible capacity evaluated outcome.now
+    ensures represents { (capacity : ℕ) (accepted evaluated : List Record) (later : List Outcome) → Represents engine.old capacity accepted evaluated → IsAhead engine.old.evaluator (records_in (outcome.now ∷ later)) → IsAdmissible capacity evaluated outcome.now
         → OnOk result (Represents engine.new capacity accepted (with_record evaluated outcome.now)) }
-    ensures pending { (capacity : ℕ) (accepted evaluated : List Record) (begin : Option (List ℕ)) (text : List ℕ) → Represents engine.old capacity accepted evaluated
-        → IsAdmissible capacity evaluated outcome.now → Expects begin (H.outside host.old).sent outbox.old text
+    ensures pending { (capacity : ℕ) (accepted evaluated : List Record) (later : List Outcome) (begin : Option (List ℕ)) (text : List ℕ) → Represents engine.old capacity accepted evaluated
+        → IsAhead engine.old.evaluator (records_in (outcome.now ∷ later)) → IsAdmissible capacity evaluated outcome.now → Expects begin (H.outside host.old).sent outbox.old text
         → OnOk result (Expects begin (H.outside host.new).sent outbox.new (text ++ spelled (with_acknowledgements acknowledges (reply number evaluated outcome.now)))) }
-    ensures moments { (capacity : ℕ) (accepted evaluated : List Record) (begin : Option (List ℕ)) (text : List ℕ) → Represents engine.old capacity accepted evaluated
-        → IsAdmissible capacity evaluated outcome.now → Expects begin (H.outside host.old).sent outbox.old text
+    ensures moments { (capacity : ℕ) (accepted evaluated : List Record) (later : List Outcome) (begin : Option (List ℕ)) (text : List ℕ) → Represents engine.old capacity accepted evaluated
+        → IsAhead engine.old.evaluator (records_in (outcome.now ∷ later)) → IsAdmissible capacity evaluated outcome.now → Expects begin (H.outside host.old).sent outbox.old text
         → Elapses (H.outside host.old) (H.outside host.new) (SendsPrefix begin (text ++ spelled (with_acknowledgements acknowledges (reply number evaluated outcome.now))) (H.outside host.old)) }
+    ensures ahead { (later : List Outcome) → IsAhead engine.old.evaluator (records_in (outcome.now ∷ later)) → OnOk result (IsAhead engine.new.evaluator (records_in later)) }
+    ensures workers { workers_of engine.new.evaluator ≡ workers_of engine.old.evaluator }
     ensures admission { engine.new.admission ≡ engine.old.admission }
     ensures evaluated { OnOk result (engine.new.evaluated ≡ engine.old.evaluated + length (records_in (outcome.now ∷ []))) }
     ensures published { OnOk result (engine.new.published ≤ engine.old.published + most_messages * length (records_in (outcome.now ∷ []))) }
@@ -241,7 +287,7 @@ pub fn answer<H: Host>(
     ensures unkept { result ≢ Err Fault.Disk }
     ensures roomy { IsRoomy engine.old → OnOk result (IsRoomy engine.new) }
     ensures starved { (begin : Option (List ℕ)) (text : List ℕ) → IsRoomy engine.old → Expects begin (H.outside host.old).sent outbox.old text
-        → result ≡ Err Fault.Memory → IsShort outcome.now begin (H.outside host.new).sent text }
+        → result ≡ Err Fault.Memory → IsShort (workers_of engine.old.evaluator) outcome.now begin (H.outside host.new).sent text }
 {
     match outcome {
         Ok(x) => answer_record(engine, outbox, host, acknowledges, x),

@@ -1,65 +1,70 @@
 //! Frames that were judged and wait to be kept and answered together.
 
-ghost use Rattle.std.specs.Prelude.{◌≡◌, ◌<◌, ◌≤◌, ◌++◌, ◌∷◌, [], IfOk, IsTrue, ◌↔◌, length};
+ghost use Rattle.std.specs.Prelude.{◌≡◌, ◌<◌, ◌≤◌, ◌+◌, ◌++◌, ◌∷◌, [], All, IfOk, length, vec_len, vec_capacity};
 ghost use Rattle.wire_in.specs.Spelling.{InRange};
 ghost use Rattle.engine_core.specs.Rounds.{records_in};
 
-use journal_core::{BATCH_MAX, Batch};
 use price_core::NoMemory;
 use std::alloc::Global;
 use std::marker::Model;
 use std::slice;
 use wire_in::{Record, Refusal};
 
+/// The most frames of a round.
+pub const ROUND_MAX: usize = 65_536;
+
 /// What was found of a frame: its record, which is accepted, or the first refusal that applies.
 pub type Outcome = Result<Record, Refusal>;
 
-/// The outcomes of up to 64 frames, the oldest first, and the batch of their accepted records. Its room is taken when it
-/// is made.
+/// The outcomes of up to so many frames, the oldest first, and their accepted records. Its room is taken when it is made.
 #[derive(Drop)]
 pub struct Round {
     outcomes: Vec<Outcome>,
-    accepted: Batch,
+    accepted: Vec<Record>,
+    most: usize,
 }
 
 impl Model for Round {
     ghost use Rattle.std.specs.Prelude.{List, vec_capacity};
-    ghost use Rattle.engine_core.specs.Rounds.{Outcome, IsRound};
+    ghost use Rattle.engine_core.specs.Rounds.{RoundState, IsRound};
 
-    ghost Value = { List Outcome };
+    ghost Value = { RoundState };
 
-    ghost view = { λ round. round.outcomes.items };
+    ghost view = { λ round. record { outcomes = round.outcomes.items; most = round.most } };
 
-    ghost invariant = { λ round. IsRound round.outcomes.items round.accepted (vec_capacity round.outcomes) };
+    ghost invariant = { λ round. IsRound (record { outcomes = round.outcomes.items; most = round.most }) round.accepted.items (vec_capacity round.outcomes) (vec_capacity round.accepted) };
 }
 
-/// Adds the record of a frame, where it is accepted, to a batch.
-fn accept(batch: &mut Batch, outcome: &Outcome)
-    requires room { length batch.old < BATCH_MAX }
-    requires range { IfOk outcome.now InRange }
-    ensures { batch.new ≡ batch.old ++ records_in (outcome.now ∷ []) }
+/// Adds the record of a frame, where it is accepted, to a list that has room.
+fn accept(accepted: &mut Vec<Record>, outcome: &Outcome)
+    requires room { vec_len accepted.old < vec_capacity accepted.old }
+    ensures items { accepted.new.items ≡ accepted.old.items ++ records_in (outcome.now ∷ []) }
+    ensures capacity { vec_capacity accepted.old ≤ vec_capacity accepted.new }
 {
     if let Ok(x) = outcome {
-        batch.push(*x);
+        accepted.extend_from_slice(slice::from_ref(x)).unwrap();
     }
 }
 
 impl Round {
-    /// A round of no frames.
-    pub fn new(alloc: Global) -> Result<Round, NoMemory>
-        ensures { IfOk result (λ round. round ≡ []) }
+    /// A round of no frames, which takes up to so many.
+    pub fn new(alloc: Global, most: usize) -> Result<Round, NoMemory>
+        requires most { most ≤ ROUND_MAX }
+        ensures empty { IfOk result (λ round. round.outcomes ≡ []) }
+        ensures most { IfOk result (λ round. round.most ≡ most) }
     {
         Ok(Round {
-            outcomes: Vec::with_capacity(alloc, BATCH_MAX)?,
-            accepted: Batch::new(alloc)?,
+            outcomes: Vec::with_capacity(alloc, most)?,
+            accepted: Vec::with_capacity(alloc, most)?,
+            most,
         })
     }
 
     /// Adds the outcome of a frame behind the others.
     pub fn push(&mut self, outcome: &Outcome)
-        requires room { length self.old < BATCH_MAX }
+        requires room { length self.old.outcomes < self.old.most }
         requires range { IfOk outcome.now InRange }
-        ensures { self.new ≡ self.old ++ outcome.now ∷ [] }
+        ensures { self.new ≡ record self.old { outcomes = self.old.outcomes ++ outcome.now ∷ [] } }
     {
         accept(&mut self.accepted, outcome);
         // It has room for them all.
@@ -70,30 +75,40 @@ impl Round {
 
     /// The outcomes, the oldest first.
     pub fn outcomes(&self) -> &[Outcome]
-        ensures outcomes { result.now ≡ self.now }
-        ensures most { length self.now ≤ BATCH_MAX }
+        ensures outcomes { result.now ≡ self.now.outcomes }
+        ensures most { length self.now.outcomes ≤ ROUND_MAX }
     {
         &self.outcomes
     }
 
     /// The accepted records among them, the oldest first.
-    pub fn accepted(&self) -> &Batch
-        ensures { result.now ≡ records_in self.now }
+    pub fn accepted(&self) -> &Vec<Record>
+        ensures accepted { result.now.items ≡ records_in self.now.outcomes }
+        ensures few { length result.now.items ≤ self.now.most }
+        ensures most { self.now.most ≤ ROUND_MAX }
+        ensures ranges { All InRange result.now.items }
     {
         &self.accepted
     }
 
     /// How many frames it has.
     pub fn len(&self) -> usize
-        ensures len { result ≡ length self.now }
-        ensures most { length self.now ≤ BATCH_MAX }
+        ensures len { result ≡ length self.now.outcomes }
+        ensures most { length self.now.outcomes ≤ ROUND_MAX }
     {
         self.outcomes.len()
     }
 
+    /// The most frames that it takes.
+    pub fn most(&self) -> usize
+        ensures { result ≡ self.now.most }
+    {
+        self.most
+    }
+
     /// Removes all outcomes. The room stays.
     pub fn clear(&mut self)
-        ensures { self.new ≡ [] }
+        ensures { self.new ≡ record self.old { outcomes = [] } }
     {
         self.outcomes.clear();
         self.accepted.clear();

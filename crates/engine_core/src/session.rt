@@ -21,12 +21,13 @@ ghost use Rattle.engine_core.specs.Serving.{Serves, IsSound, IsReady, Keeps, Lea
 
 use crate::engine::{Engine, judge};
 use crate::keeper::Keeper;
-use crate::reply::answer;
-use crate::round::{Outcome, Round};
+use crate::reply::{answer, prepare};
+use crate::round::{Outcome, ROUND_MAX, Round};
 use host_core::{Fault, Host};
-use journal_core::BATCH_MAX;
+use std::thread::Threads;
 use stream_core::Outbox;
 use wire_in::{Cutter, decode};
+use yard_core::Gate;
 
 /// What is kept from piece to piece: the frame begun, the accepted records' engine, the frames that were judged and wait to
 /// be answered, what waits to be sent, and how many frames were answered.
@@ -73,11 +74,12 @@ fn whole_frame<'a>(cutter: &Cutter, piece: &'a [u8]) -> Option<&'a [u8]>
 /// Judges the frame of a body, and admits its record where it is accepted. It waits to be answered.
 fn judge_next(engine: &mut Engine, round: &mut Round, body: &[u8])
     requires short { length body.now ≤ 255 }
-    requires room { length round.old < BATCH_MAX }
-    ensures waits { (start : Start) (answered all : List (List ℕ)) (number : ℕ) → Waits start answered all number round.old engine.old
-        → Waits start answered (all ++ body.now ∷ []) number round.new engine.new }
-    ensures more { length round.new ≡ length round.old + 1 }
-    ensures sound { (answered : ℕ) → IsSound engine.old round.old answered → IsSound engine.new round.new answered }
+    requires room { length round.old.outcomes < round.old.most }
+    ensures waits { (start : Start) (answered all : List (List ℕ)) (number : ℕ) → Waits start answered all number round.old.outcomes engine.old
+        → Waits start answered (all ++ body.now ∷ []) number round.new.outcomes engine.new }
+    ensures more { length round.new.outcomes ≡ length round.old.outcomes + 1 }
+    ensures most { round.new.most ≡ round.old.most }
+    ensures sound { (answered : ℕ) → IsSound engine.old round.old.outcomes answered → IsSound engine.new round.new.outcomes answered }
     ensures rest { engine.new ≡ record engine.old { admission = engine.new.admission } }
     ensures capacity { engine.new.admission.capacity ≡ engine.old.admission.capacity }
 {
@@ -87,7 +89,8 @@ fn judge_next(engine: &mut Engine, round: &mut Round, body: &[u8])
     round.push(&outcome);
 }
 
-/// Answers the frames of a round, the first of which comes behind so many answered ones.
+/// Answers the frames of a round, the first of which comes behind so many answered ones, and whose accepted records were
+/// evaluated ahead.
 fn answer_each<H: Host>(
     engine: &mut Engine,
     outbox: &mut Outbox,
@@ -96,14 +99,14 @@ fn answer_each<H: Host>(
     answered: u64,
     outcomes: &[Outcome],
 ) -> Result<(), Fault>
-    requires most { length outcomes.now ≤ BATCH_MAX }
+    requires most { length outcomes.now ≤ ROUND_MAX }
     requires sound { IsSound engine.old outcomes.now answered }
     requires answered { answered < 2 ^ 42 }
     ensures answers { (start : Start) (all : List (List ℕ)) → acknowledges ≡ start.acknowledges
-        → Answers start all answered outcomes.now engine.old outbox.old (H.outside host.old).sent
-        → OnOk result (Answers start all (answered + length outcomes.now) [] engine.new outbox.new (H.outside host.new).sent) }
+        → Answers start all answered outcomes.now (records_in outcomes.now) engine.old outbox.old (H.outside host.old).sent
+        → OnOk result (Answers start all (answered + length outcomes.now) [] [] engine.new outbox.new (H.outside host.new).sent) }
     ensures moments { (start : Start) (all : List (List ℕ)) → acknowledges ≡ start.acknowledges
-        → Answers start all answered outcomes.now engine.old outbox.old (H.outside host.old).sent
+        → Answers start all answered outcomes.now (records_in outcomes.now) engine.old outbox.old (H.outside host.old).sent
         → Elapses (H.outside host.old) (H.outside host.new) (SendsPrefix start.sent (expected start all) (H.outside host.old)) }
     ensures admission { engine.new.admission ≡ engine.old.admission }
     ensures sound { OnOk result (IsSound engine.new [] (answered + length outcomes.now)) }
@@ -112,7 +115,7 @@ fn answer_each<H: Host>(
     ensures unread { result ≢ Err Fault.Read }
     ensures unkept { result ≢ Err Fault.Disk }
     ensures starved { (start : Start) (all : List (List ℕ)) → acknowledges ≡ start.acknowledges
-        → Answers start all answered outcomes.now engine.old outbox.old (H.outside host.old).sent
+        → Answers start all answered outcomes.now (records_in outcomes.now) engine.old outbox.old (H.outside host.old).sent
         → result ≡ Err Fault.Memory → Starved start all (H.outside host.new) }
 {
     let mut number = answered;
@@ -123,33 +126,68 @@ fn answer_each<H: Host>(
     Ok(())
 }
 
-/// Answers the frames that wait, whose accepted records are kept.
-fn answer_round<H: Host>(
+/// Evaluates the accepted records of the frames that wait ahead.
+fn prepare_round<Rt: Threads + Sync, H: Host, G: Gate>(
+    rt: &Rt,
     session: &mut Session,
     host: &mut H,
+    gate: &G,
+) -> Result<(), Fault>
+    ensures answers { (start : Start) (all : List (List ℕ)) → Answers start all session.old.answered session.old.round.outcomes [] session.old.engine session.old.outbox (H.outside host.old).sent
+        → OnOk result (Answers start all session.new.answered session.new.round.outcomes (records_in session.new.round.outcomes) session.new.engine session.new.outbox (H.outside host.new).sent) }
+    ensures moments { (start : Start) (all : List (List ℕ)) → Answers start all session.old.answered session.old.round.outcomes [] session.old.engine session.old.outbox (H.outside host.old).sent
+        → Elapses (H.outside host.old) (H.outside host.new) (SendsPrefix start.sent (expected start all) (H.outside host.old)) }
+    ensures rest { session.new ≡ record session.old { engine = session.new.engine; outbox = session.new.outbox } }
+    ensures admission { session.new.engine.admission ≡ session.old.engine.admission }
+    ensures sound { IsSound session.old.engine session.old.round.outcomes session.old.answered → IsSound session.new.engine session.new.round.outcomes session.new.answered }
+    ensures keeps { OnlySends (H.outside host.old) (H.outside host.new) }
+    ensures causes { Causes result (H.outside host.old) (H.outside host.new) }
+    ensures unread { result ≢ Err Fault.Read }
+    ensures unkept { result ≢ Err Fault.Disk }
+    ensures starved { (start : Start) (all : List (List ℕ)) → Answers start all session.old.answered session.old.round.outcomes [] session.old.engine session.old.outbox (H.outside host.old).sent
+        → result ≡ Err Fault.Memory → Starved start all (H.outside host.new) }
+{
+    prepare(
+        rt,
+        &mut session.engine,
+        &mut session.outbox,
+        host,
+        gate,
+        session.round.accepted(),
+    )
+}
+
+/// Evaluates the frames that wait, whose accepted records are kept, and answers them.
+fn answer_round<Rt: Threads + Sync, H: Host, G: Gate>(
+    rt: &Rt,
+    session: &mut Session,
+    host: &mut H,
+    gate: &G,
     acknowledges: bool,
 ) -> Result<(), Fault>
-    requires sound { IsSound session.old.engine session.old.round session.old.answered }
+    requires sound { IsSound session.old.engine session.old.round.outcomes session.old.answered }
     requires answered { session.old.answered < 2 ^ 42 }
     ensures answers { (start : Start) (all : List (List ℕ)) → acknowledges ≡ start.acknowledges
-        → Answers start all session.old.answered session.old.round session.old.engine session.old.outbox (H.outside host.old).sent
-        → OnOk result (Answers start all session.new.answered session.new.round session.new.engine session.new.outbox (H.outside host.new).sent) }
+        → Answers start all session.old.answered session.old.round.outcomes [] session.old.engine session.old.outbox (H.outside host.old).sent
+        → OnOk result (Answers start all session.new.answered session.new.round.outcomes [] session.new.engine session.new.outbox (H.outside host.new).sent) }
     ensures moments { (start : Start) (all : List (List ℕ)) → acknowledges ≡ start.acknowledges
-        → Answers start all session.old.answered session.old.round session.old.engine session.old.outbox (H.outside host.old).sent
+        → Answers start all session.old.answered session.old.round.outcomes [] session.old.engine session.old.outbox (H.outside host.old).sent
         → Elapses (H.outside host.old) (H.outside host.new) (SendsPrefix start.sent (expected start all) (H.outside host.old)) }
-    ensures empty { OnOk result (session.new.round ≡ []) }
-    ensures answered { OnOk result (session.new.answered ≡ session.old.answered + length session.old.round) }
+    ensures empty { OnOk result (session.new.round.outcomes ≡ []) }
+    ensures answered { OnOk result (session.new.answered ≡ session.old.answered + length session.old.round.outcomes) }
+    ensures most { session.new.round.most ≡ session.old.round.most }
     ensures cutter { session.new.cutter ≡ session.old.cutter }
     ensures admission { session.new.engine.admission ≡ session.old.engine.admission }
-    ensures sound { OnOk result (IsSound session.new.engine session.new.round session.new.answered) }
+    ensures sound { OnOk result (IsSound session.new.engine session.new.round.outcomes session.new.answered) }
     ensures keeps { OnlySends (H.outside host.old) (H.outside host.new) }
     ensures causes { Causes result (H.outside host.old) (H.outside host.new) }
     ensures unread { result ≢ Err Fault.Read }
     ensures unkept { result ≢ Err Fault.Disk }
     ensures starved { (start : Start) (all : List (List ℕ)) → acknowledges ≡ start.acknowledges
-        → Answers start all session.old.answered session.old.round session.old.engine session.old.outbox (H.outside host.old).sent
+        → Answers start all session.old.answered session.old.round.outcomes [] session.old.engine session.old.outbox (H.outside host.old).sent
         → result ≡ Err Fault.Memory → Starved start all (H.outside host.new) }
 {
+    prepare_round(rt, session, host, gate)?;
     answer_each(
         &mut session.engine,
         &mut session.outbox,
@@ -169,16 +207,17 @@ fn keep_round<K: Keeper, H: Host>(
     keeper: &mut K,
     host: &mut H,
 ) -> Result<(), Fault>
-    requires room { K.has_room keeper.old (H.outside host.old).disk (length (records_in session.now.round)) }
+    requires room { K.has_room keeper.old (H.outside host.old).disk (length (records_in session.now.round.outcomes)) }
+    requires most { session.now.round.most ≤ K.most }
     ensures moments { (records : List Record) → K.holds keeper.old records (H.outside host.old)
-        → Elapses (H.outside host.old) (H.outside host.new) (Keeps (K.recovers keeper.old (H.outside host.old)) records (records_in session.now.round) (H.outside host.old)) }
+        → Elapses (H.outside host.old) (H.outside host.new) (Keeps (K.recovers keeper.old (H.outside host.old)) records (records_in session.now.round.outcomes) (H.outside host.old)) }
     ensures held { OnOk result ((records : List Record) → K.holds keeper.old records (H.outside host.old)
-        → K.holds keeper.new (with_batch records (records_in session.now.round)) (H.outside host.new)) }
+        → K.holds keeper.new (with_batch records (records_in session.now.round.outcomes)) (H.outside host.new)) }
     ensures before { OnOk result ((records : List Record) (pending : List (List Record)) (image : List ℕ) → K.recovers keeper.new (H.outside host.new) records pending image
         → K.recovers keeper.old (H.outside host.old) records pending image) }
-    ensures room { OnOk result ((more : ℕ) → K.has_room keeper.old (H.outside host.old).disk (length (records_in session.now.round) + more)
+    ensures room { OnOk result ((more : ℕ) → K.has_room keeper.old (H.outside host.old).disk (length (records_in session.now.round.outcomes) + more)
         → K.has_room keeper.new (H.outside host.new).disk more) }
-    ensures nothing { records_in session.now.round ≡ [] → WritesNothing (H.outside host.old) (H.outside host.new) }
+    ensures nothing { records_in session.now.round.outcomes ≡ [] → WritesNothing (H.outside host.old) (H.outside host.new) }
     ensures touches { K.touches (H.outside host.old) (H.outside host.new) }
     ensures keeps { OnlyWrites (H.outside host.old) (H.outside host.new) }
     ensures causes { Causes result (H.outside host.old) (H.outside host.new) }
@@ -194,24 +233,26 @@ fn keep_round<K: Keeper, H: Host>(
 }
 
 /// Keeps the accepted records of the frames that wait, evaluates them, and answers the frames.
-fn settle<K: Keeper, H: Host>(
+fn settle<Rt: Threads + Sync, K: Keeper, H: Host, G: Gate>(
+    rt: &Rt,
     session: &mut Session,
     keeper: &mut K,
     host: &mut H,
+    gate: &G,
 ) -> Result<(), Fault>
-    requires ready { IsReady (K.has_room keeper.old (H.outside host.old).disk) session.old }
+    requires ready { IsReady (K.has_room keeper.old (H.outside host.old).disk) K.most session.old }
     requires few { session.old.answered < 2 ^ 42 }
     ensures serves { (start : Start) (read : List ℕ) → start.acknowledges ≡ K.acknowledges → Serves (K.holds keeper.old) start read session.old (H.outside host.old)
         → OnOk result (Serves (K.holds keeper.new) start read session.new (H.outside host.new)) }
-    ensures empty { OnOk result (session.new.round ≡ []) }
+    ensures empty { OnOk result (session.new.round.outcomes ≡ []) }
     ensures moments { (start : Start) (read : List ℕ) → start.acknowledges ≡ K.acknowledges → Serves (K.holds keeper.old) start read session.old (H.outside host.old)
         → Elapses (H.outside host.old) (H.outside host.new) (Leaves (K.recovers keeper.old (H.outside host.old)) start (bodies_of read)) }
     ensures before { OnOk result ((records : List Record) (pending : List (List Record)) (image : List ℕ) → K.recovers keeper.new (H.outside host.new) records pending image
         → K.recovers keeper.old (H.outside host.old) records pending image) }
     ensures nothing { (start : Start) (read : List ℕ) → start.acknowledges ≡ K.acknowledges → Serves (K.holds keeper.old) start read session.old (H.outside host.old)
-        → records_in session.old.round ≡ [] → WritesNothing (H.outside host.old) (H.outside host.new) }
-    ensures ready { OnOk result (IsReady (K.has_room keeper.new (H.outside host.new).disk) session.new) }
-    ensures answered { OnOk result (session.new.answered ≡ session.old.answered + length session.old.round) }
+        → records_in session.old.round.outcomes ≡ [] → WritesNothing (H.outside host.old) (H.outside host.new) }
+    ensures ready { OnOk result (IsReady (K.has_room keeper.new (H.outside host.new).disk) K.most session.new) }
+    ensures answered { OnOk result (session.new.answered ≡ session.old.answered + length session.old.round.outcomes) }
     ensures keeps { OnlyAnswers K.touches (H.outside host.old) (H.outside host.new) }
     ensures causes { Causes result (H.outside host.old) (H.outside host.new) }
     ensures unread { result ≢ Err Fault.Read }
@@ -220,7 +261,7 @@ fn settle<K: Keeper, H: Host>(
         → result ≡ Err Fault.Memory → Starved start (bodies_of read) (H.outside host.new) }
 {
     keep_round(session, keeper, host)?;
-    answer_round(session, host, keeper.acknowledges())
+    answer_round(rt, session, host, gate, keeper.acknowledges())
 }
 
 impl Session {
@@ -246,12 +287,13 @@ impl Session {
     /// Takes bytes up to the end of a frame or of the piece, and judges the frame if it is whole. Answers how many bytes
     /// it took.
     fn advance(&mut self, piece: &[u8]) -> usize
-        requires room { length self.old.round < BATCH_MAX }
+        requires room { length self.old.round.outcomes < self.old.round.most }
         ensures used { (result ≤ length piece.now) × (0 < length piece.now → 0 < result) }
         ensures judges { (start : Start) (answered : List (List ℕ)) (read : List ℕ) → Judges start answered read self.old
             → Judges start answered (read ++ take result piece.now) self.new }
-        ensures more { length self.new.round ≤ length self.old.round + 1 }
-        ensures sound { IsSound self.old.engine self.old.round self.old.answered → IsSound self.new.engine self.new.round self.new.answered }
+        ensures more { length self.new.round.outcomes ≤ length self.old.round.outcomes + 1 }
+        ensures most { self.new.round.most ≡ self.old.round.most }
+        ensures sound { IsSound self.old.engine self.old.round.outcomes self.old.answered → IsSound self.new.engine self.new.round.outcomes self.new.answered }
         ensures capacity { self.new.engine.admission.capacity ≡ self.old.engine.admission.capacity }
         ensures evaluated { self.new.engine.evaluated ≡ self.old.engine.evaluated }
         ensures outbox { self.new.outbox ≡ self.old.outbox }
@@ -269,40 +311,41 @@ impl Session {
         cut.used
     }
 
-    /// Takes bytes of a piece from a place on, up to its end or until so many frames wait. Answers the place behind them.
-    fn fill(&mut self, frames: usize, piece: &[u8], from: usize) -> usize
-        requires frames { (1 ≤ frames) × (frames ≤ BATCH_MAX) }
-        requires empty { self.old.round ≡ [] }
-        requires some { from < length piece.now }
+    /// Takes bytes of a piece from a place on, up to its end or until as many frames wait as the round takes. Answers the place behind them.
+    fn fill(&mut self, piece: &[u8], from: usize) -> usize
+        requires some { 1 ≤ self.old.round.most }
+        requires empty { self.old.round.outcomes ≡ [] }
+        requires left { from < length piece.now }
         ensures place { (from < result) × (result ≤ length piece.now) }
         ensures judges { (start : Start) (answered : List (List ℕ)) (read : List ℕ) → Judges start answered (read ++ take from piece.now) self.old
             → Judges start answered (read ++ take result piece.now) self.new }
-        ensures few { from + length self.new.round ≤ result }
-        ensures sound { IsSound self.old.engine self.old.round self.old.answered → IsSound self.new.engine self.new.round self.new.answered }
+        ensures few { from + length self.new.round.outcomes ≤ result }
+        ensures most { self.new.round.most ≡ self.old.round.most }
+        ensures sound { IsSound self.old.engine self.old.round.outcomes self.old.answered → IsSound self.new.engine self.new.round.outcomes self.new.answered }
         ensures capacity { self.new.engine.admission.capacity ≡ self.old.engine.admission.capacity }
         ensures evaluated { self.new.engine.evaluated ≡ self.old.engine.evaluated }
         ensures outbox { self.new.outbox ≡ self.old.outbox }
         ensures answered { self.new.answered ≡ self.old.answered }
     {
         let mut at = from;
-        while at < piece.len() && self.round.len() < frames {
+        while at < piece.len() && self.round.len() < self.round.most() {
             at += self.advance(&piece[at..]);
         }
         at
     }
 }
 
-/// Takes all bytes of a piece, and answers each frame that is whole, in rounds of at most so many frames.
-pub fn feed<K: Keeper, H: Host>(
+/// Takes all bytes of a piece, and answers each frame that is whole, in rounds of as many frames as the session's takes.
+pub fn feed<Rt: Threads + Sync, K: Keeper, H: Host, G: Gate>(
+    rt: &Rt,
     session: &mut Session,
     keeper: &mut K,
     host: &mut H,
-    frames: usize,
+    gate: &G,
     piece: &[u8],
 ) -> Result<(), Fault>
-    requires frames { (1 ≤ frames) × (frames ≤ BATCH_MAX) }
-    requires empty { session.old.round ≡ [] }
-    requires ready { IsReady (K.has_room keeper.old (H.outside host.old).disk) session.old }
+    requires empty { session.old.round.outcomes ≡ [] }
+    requires ready { IsReady (K.has_room keeper.old (H.outside host.old).disk) K.most session.old }
     requires few { session.old.answered + length piece.now < 2 ^ 42 }
     ensures serves { (start : Start) (read : List ℕ) → start.acknowledges ≡ K.acknowledges → Serves (K.holds keeper.old) start read session.old (H.outside host.old)
         → OnOk result (Serves (K.holds keeper.new) start (read ++ piece.now) session.new (H.outside host.new)) }
@@ -313,8 +356,8 @@ pub fn feed<K: Keeper, H: Host>(
     ensures nothing { (start : Start) (read : List ℕ) → start.acknowledges ≡ K.acknowledges → Serves (K.holds keeper.old) start read session.old (H.outside host.old)
         → AcceptsNone start (bodies_of (read ++ piece.now)) → WritesNothing (H.outside host.old) (H.outside host.new) }
     ensures still { length piece.now ≡ 0 → OnOk result ((H.outside host.new).sent ≡ (H.outside host.old).sent) }
-    ensures empty { OnOk result (session.new.round ≡ []) }
-    ensures ready { OnOk result (IsReady (K.has_room keeper.new (H.outside host.new).disk) session.new) }
+    ensures empty { OnOk result (session.new.round.outcomes ≡ []) }
+    ensures ready { OnOk result (IsReady (K.has_room keeper.new (H.outside host.new).disk) K.most session.new) }
     ensures few { OnOk result (session.new.answered ≤ session.old.answered + length piece.now) }
     ensures keeps { OnlyAnswers K.touches (H.outside host.old) (H.outside host.new) }
     ensures causes { Causes result (H.outside host.old) (H.outside host.new) }
@@ -325,8 +368,8 @@ pub fn feed<K: Keeper, H: Host>(
 {
     let mut at = 0;
     while at < piece.len() {
-        at = session.fill(frames, piece, at);
-        settle(session, keeper, host)?;
+        at = session.fill(piece, at);
+        settle(rt, session, keeper, host, gate)?;
     }
     Ok(())
 }

@@ -8,6 +8,7 @@ use std::rt::Files;
 use std::thread::Threads;
 use std::{fs, io};
 use text_core::{Kind, pack_stream, print_stream};
+use yard_core::OpenGate;
 
 /// What the files of a day hold.
 #[derive(Debug, Drop)]
@@ -38,7 +39,11 @@ pub fn published_lines<Rt: Threads + Sync>(
     frames: &[u8],
 ) -> Result<PublishedLines, NoMemory> {
     let mut host = MemoryHost::new(alloc, frames, b"")?;
-    let replayed = replay(rt, alloc, &mut host, &ReplayOptions { bytes: BYTES_MAX });
+    let options = ReplayOptions {
+        workers: 1,
+        bytes: BYTES_MAX,
+    };
+    let replayed = replay(rt, alloc, &mut host, &OpenGate, &options);
     let mut printer = MemoryHost::new(alloc, host.sent(), b"")?;
     let printed = print_stream(alloc, &mut printer, Kind::Published);
     let status = if replayed == Status::Done {

@@ -3,8 +3,7 @@ ghost use Rattle.std.specs.Prelude.{◌≡◌, ◌%◌, ◌^◌, ◌<◌};
 
 use std::marker::Model;
 
-/// A number by which others are divided often: a remainder takes two multiplications, and no division, which takes three
-/// times as long.
+/// A number by which others are divided often: a remainder takes two multiplications, and no division, which takes longer.
 #[derive(Drop)]
 pub struct Modulus {
     number: u64,

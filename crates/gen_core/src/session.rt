@@ -2,7 +2,7 @@
 ghost use Rattle.std.specs.Prelude.{◌≡◌, ◌+◌, ◌-◌, ◌%◌, ◌<◌, ◌≤◌, length, slice_index, slice_set};
 ghost use Rattle.session_core.specs.Moments.{IsMoment};
 ghost use Rattle.gen_core.specs.Draws.{next_number, answer_of, number_after, draw};
-ghost use Rattle.gen_core.specs.Generated.{IsPlan, moment_of, second_of, is_clock, close_of, middle, traded_price, index_tick, quote, trade, record_of_kind, session_record, symbol_drawn, draws_of};
+ghost use Rattle.gen_core.specs.Generated.{IsPlan, moment_of, is_clock, close_of, middle, traded_price, index_tick, quote, trade, record_of_kind, session_record, symbol_drawn, draws_of};
 ghost use Rattle.gen_core.specs.InternalState.{IsGap, flags_after};
 ghost use Rattle.wire_in.specs.declared.record.Record.TheVariants as records;
 
@@ -16,6 +16,9 @@ use wire_in::Record;
 
 /// Over how many nanoseconds the records are spread.
 const SPREAD: u64 = 23_400_000_000_000;
+
+/// In nanoseconds.
+const SECOND: u64 = 1_000_000_000;
 
 /// How many nanoseconds the records are apart, where there are any.
 pub fn gap_of(plan: &DayPlan) -> u64
@@ -39,22 +42,13 @@ fn nanos_of(plan: &DayPlan, gap: u64, k: u32) -> u64
     SESSION_OPEN + u64::from(k) * gap
 }
 
-/// The whole second of the record k.
-fn second_of(plan: &DayPlan, gap: u64, k: u32) -> u64
-    requires record { k < plan.now.records }
-    requires gap { IsGap plan.now gap }
-    ensures { result ≡ second_of (moment_of plan.now k) }
-{
-    nanos_of(plan, gap, k) / 1_000_000_000
-}
-
-/// Whether the record k is a clock.
+/// Whether the record k is a clock: its second began less than a gap before it, and so behind the record before it.
 fn is_clock(plan: &DayPlan, gap: u64, k: u32) -> bool
     requires record { k < plan.now.records }
     requires gap { IsGap plan.now gap }
     ensures { result ≡ is_clock plan.now k }
 {
-    k == 0 || second_of(plan, gap, k) != second_of(plan, gap, k - 1)
+    k == 0 || nanos_of(plan, gap, k) % SECOND < gap
 }
 
 /// Draws an index tick.

@@ -15,13 +15,13 @@ use Rattle.halts.specs.Runs.{Ran, Did, Obeyed, Answered}
 -- a command never answers Usage
 pub understood : (unbegun : Type 0) (command : Command) (status : status.Status) (old new : Outside) → Ran unbegun command status old new → status ≢ statuses.Usage
 understood unbegun (Format limit) status old new ran is = grind (arith, ran.kind, is)
-understood unbegun (Serve from batch bytes) status old new ran is = ran.kind.understood is
-understood unbegun (Replay bytes) status old new ran is = grind (arith, ran.kind, is)
+understood unbegun (Serve from workers batch bytes) status old new ran is = ran.kind.understood is
+understood unbegun (Replay workers bytes) status old new ran is = grind (arith, ran.kind, is)
 understood unbegun Status status old new ran is = grind (arith, ran.kind, is)
 understood unbegun (Print kind) status old new ran is = grind (arith, ran.kind, is)
 understood unbegun (Pack kind) status old new ran is = grind (arith, ran.kind, is)
-understood unbegun (Generate seed symbols records true) status old new ran is = grind (arith, ran.kind, is)
-understood unbegun (Generate seed symbols records false) status old new ran is = grind (arith, ran.kind, is)
+understood unbegun (Generate seed symbols records workers true) status old new ran is = grind (arith, ran.kind, is)
+understood unbegun (Generate seed symbols records workers false) status old new ran is = grind (arith, ran.kind, is)
 
 -- where the answer is Usage, no call was made
 pub untouched : (unbegun : Type 0) (answer : Result Asked WordsError) (status : status.Status) (old new : Outside) → Did unbegun answer status old new → status ≡ statuses.Usage → unbegun

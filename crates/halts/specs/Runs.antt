@@ -29,12 +29,12 @@ Generates plan false status old new = SentDay plan status old new
 -- what a command promises; what says that no call of the host was made is given
 abbrev pub Ran : Type 0 → Command → status.Status → Outside → Outside → Type 0
 Ran unbegun (Format limit) status old new = Formatted limit status old new
-Ran unbegun (Serve from batch bytes) status old new = Served unbegun from bytes status old new
-Ran unbegun (Replay bytes) status old new = Replayed unbegun bytes status old new
+Ran unbegun (Serve from workers batch bytes) status old new = Served unbegun workers from bytes status old new
+Ran unbegun (Replay workers bytes) status old new = Replayed unbegun workers bytes status old new
 Ran unbegun Status status old new = Reported status old new
 Ran unbegun (Print kind) status old new = Printed kind status old new
 Ran unbegun (Pack kind) status old new = Packed kind status old new
-Ran unbegun (Generate seed symbols records summary) status old new = Generates (record { seed = seed; symbols = symbols; records = records }) summary status old new
+Ran unbegun (Generate seed symbols records workers summary) status old new = Generates (record { seed = seed; symbols = symbols; records = records }) summary status old new
 
 -- a text was sent, or the first of its bytes, and nothing else was done
 pub record Shown (text : List ℕ) (status : status.Status) (old new : Outside) : Type 0 where

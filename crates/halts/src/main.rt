@@ -16,6 +16,7 @@ use std::process::ExitCode;
 use std::rt::Files;
 use std::thread::Threads;
 use told::end;
+use yard_core::OpenGate;
 
 /// Does what the words of this process say, over the standard streams.
 fn start_here<Rt: Env + Input + Print + Files + AllocGlobal + Threads + Sync>(
@@ -33,7 +34,8 @@ where
     for word in &words {
         args.push(word.as_str())?;
     }
-    Ok(start(rt, alloc, &args, rt.reader(), io::writer(rt)))
+    let (input, output) = (rt.reader(), io::writer(rt));
+    Ok(start(rt, alloc, &args, input, output, &OpenGate))
 }
 
 fn main(rt: HostRuntime) -> ExitCode {

@@ -14,6 +14,7 @@ use std::io::{Read, Write};
 use std::os::unix::fs::FileExt;
 use std::rt::Files;
 use std::thread::Threads;
+use yard_core::Gate;
 
 /// The path of the journal, which stands behind the program's own name; `-`, which names none, where no word stands there.
 fn journal_path<'a>(args: &[&'a str]) -> &'a str
@@ -61,11 +62,12 @@ fn words_behind<'a, 'b>(args: &'a [&'b str]) -> &'a [&'b str]
 }
 
 /// Does what the words of a process say over a host of the journal that they name, and answers how it ended.
-pub fn perform<Rt: Threads + Sync, H: Host>(
+pub fn perform<Rt: Threads + Sync, H: Host, G: Gate>(
     rt: &Rt,
     alloc: Global,
     args: &[&str],
     host: &mut H,
+    gate: &G,
 ) -> Status
     // A plain line does its command, and each command keeps what it promises.
     ensures ran { (command : Command) → command_of (command_words (map (λ w. w.now) args.now)) ≡ Some command
@@ -78,16 +80,17 @@ pub fn perform<Rt: Threads + Sync, H: Host>(
     ensures untouched { result ≡ Status.Usage → host.new ≡ host.old }
     ensures continues { Continues (H.outside host.old) (H.outside host.new) }
 {
-    run(rt, alloc, words_behind(args), host)
+    run(rt, alloc, words_behind(args), host, gate)
 }
 
 /// Does what the words of a process say, over a reader, a writer and the file of the journal that they name.
-pub fn start<Rt: Files + Threads + Sync, R: Read + Drop, W: Write + Drop>(
+pub fn start<Rt: Files + Threads + Sync, R: Read + Drop, W: Write + Drop, G: Gate>(
     rt: &Rt,
     alloc: Global,
     args: &[&str],
     input: R,
     output: W,
+    gate: &G,
 ) -> Status
 where
     Rt::File: FileExt + Held,
@@ -96,5 +99,5 @@ where
 {
     let journal = JournalFile::new(rt, journal_path(args));
     let mut host = RealHost::new(input, output, journal);
-    perform(rt, alloc, args, &mut host)
+    perform(rt, alloc, args, &mut host, gate)
 }

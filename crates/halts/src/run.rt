@@ -1,6 +1,6 @@
 //! The top call: what a command line asks for, done over a host.
 
-ghost use Rattle.std.specs.Prelude.{◌≡◌, ◌≢◌, None, Some, IfOk, map};
+ghost use Rattle.std.specs.Prelude.{◌≡◌, ◌≢◌, ◌≤◌, None, Some, IfOk, map};
 ghost use Rattle.host_core.specs.Outside.{Continues};
 ghost use Rattle.journal_core.specs.Layout.{IsLimit};
 ghost use Rattle.journal_core.specs.Formatted.{Formatted};
@@ -22,6 +22,7 @@ use std::alloc::Global;
 use std::thread::Threads;
 use text_core::{pack_stream, print_stream};
 use words_core::{Asked, Command, WordsError, parse};
+use yard_core::Gate;
 
 /// Makes an empty journal.
 fn format_journal<H: Host>(host: &mut H, limit: u64) -> Status
@@ -35,30 +36,34 @@ fn format_journal<H: Host>(host: &mut H, limit: u64) -> Status
     }
 }
 
-/// Sends a generated day, or its summary.
-fn generate<Rt: Threads + Sync, H: Host>(
+/// Sends a generated day, or its summary, for which so many workers evaluate it.
+fn generate<Rt: Threads + Sync, H: Host, G: Gate>(
     rt: &Rt,
     alloc: Global,
     host: &mut H,
+    gate: &G,
     plan: &DayPlan,
+    workers: u32,
     summary: bool,
 ) -> Status
-    requires { IsPlan plan.now }
+    requires plan { IsPlan plan.now }
+    requires workers { (1 ≤ workers) × (workers ≤ 64) }
     ensures generated { Generates plan.now summary result (H.outside host.old) (H.outside host.new) }
     ensures continues { Continues (H.outside host.old) (H.outside host.new) }
 {
     if summary {
-        rehearse(rt, alloc, host, plan)
+        rehearse(rt, alloc, host, gate, plan, workers)
     } else {
         send_day(alloc, host, plan)
     }
 }
 
 /// Does what a command asks for.
-fn obey<Rt: Threads + Sync, H: Host>(
+fn obey<Rt: Threads + Sync, H: Host, G: Gate>(
     rt: &Rt,
     alloc: Global,
     host: &mut H,
+    gate: &G,
     command: Command,
 ) -> Status
     requires { IsInRange command }
@@ -67,17 +72,31 @@ fn obey<Rt: Threads + Sync, H: Host>(
 {
     match command {
         Command::Format { limit } => format_journal(host, limit),
-        Command::Serve { from, batch, bytes } => {
-            serve(rt, alloc, host, &ServeOptions { from, batch, bytes })
+        Command::Serve {
+            from,
+            workers,
+            batch,
+            bytes,
+        } => {
+            let options = ServeOptions {
+                from,
+                workers,
+                batch,
+                bytes,
+            };
+            serve(rt, alloc, host, gate, &options)
         }
-        Command::Replay { bytes } => replay(rt, alloc, host, &ReplayOptions { bytes }),
-        Command::Status => report(alloc, host),
+        Command::Replay { workers, bytes } => {
+            replay(rt, alloc, host, gate, &ReplayOptions { workers, bytes })
+        }
+        Command::Status => report(rt, alloc, host),
         Command::Print { kind } => print_stream(alloc, host, kind),
         Command::Pack { kind } => pack_stream(alloc, host, kind),
         Command::Generate {
             seed,
             symbols,
             records,
+            workers,
             summary,
         } => {
             let plan = DayPlan {
@@ -85,7 +104,7 @@ fn obey<Rt: Threads + Sync, H: Host>(
                 symbols,
                 records,
             };
-            generate(rt, alloc, host, &plan, summary)
+            generate(rt, alloc, host, gate, &plan, workers, summary)
         }
     }
 }
@@ -102,10 +121,11 @@ fn show<H: Host>(host: &mut H, text: &str) -> Status
 }
 
 /// Does what words ask for.
-fn answer<Rt: Threads + Sync, H: Host>(
+fn answer<Rt: Threads + Sync, H: Host, G: Gate>(
     rt: &Rt,
     alloc: Global,
     host: &mut H,
+    gate: &G,
     asked: &Result<Asked, WordsError>,
 ) -> Status
     requires { IfOk asked.now IsAskedInRange }
@@ -113,19 +133,21 @@ fn answer<Rt: Threads + Sync, H: Host>(
     ensures continues { Continues (H.outside host.old) (H.outside host.new) }
 {
     match asked {
-        Ok(Asked::Command(command)) => obey(rt, alloc, host, *command),
+        Ok(Asked::Command(command)) => obey(rt, alloc, host, gate, *command),
         Ok(Asked::Text(text)) => show(host, text.as_str()),
         Err(WordsError::Usage) => Status::Usage,
         Err(WordsError::NoMemory) => Status::NoMemory,
     }
 }
 
-/// Does what the words say over a host, and answers how it ended.
-pub fn run<Rt: Threads + Sync, H: Host>(
+/// Does what the words say over a host, and answers how it ended. Each worker passes the gate before it evaluates a piece of a
+/// block.
+pub fn run<Rt: Threads + Sync, H: Host, G: Gate>(
     rt: &Rt,
     alloc: Global,
     words: &[&str],
     host: &mut H,
+    gate: &G,
 ) -> Status
     // A plain line does its command, and each command keeps what it promises.
     ensures ran { (command : Command) → command_of (map (λ w. w.now) words.now) ≡ Some command
@@ -138,5 +160,5 @@ pub fn run<Rt: Threads + Sync, H: Host>(
     ensures untouched { result ≡ Status.Usage → host.new ≡ host.old }
     ensures continues { Continues (H.outside host.old) (H.outside host.new) }
 {
-    answer(rt, alloc, host, &parse(alloc, words))
+    answer(rt, alloc, host, gate, &parse(alloc, words))
 }

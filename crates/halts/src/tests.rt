@@ -5,6 +5,7 @@ mod ends;
 mod generated;
 mod grouped;
 mod holdings;
+mod meeting;
 mod morning;
 mod process;
 mod refusals;
@@ -14,15 +15,29 @@ mod texts;
 mod told;
 mod worked;
 
-use crate::run::run;
 use host_core::Status;
 use memory_host::MemoryHost;
 use session_core::Level;
+use std::alloc::Global;
 use std::process::Abort;
 use std::test::Fail;
 use std::thread::Threads;
 use test_days::Session;
 use test_days::lines::{Line, at, breaker, day, tick};
+use yard_core::OpenGate;
+
+/// The numbers of workers that are tried.
+const WORKERS: [&str; 4] = ["1", "2", "3", "64"];
+
+/// Does what the words say over a host, by workers that nothing holds up.
+fn run<Rt: AllocGlobal + Threads + Sync>(
+    rt: &Rt,
+    alloc: Global,
+    words: &[&str],
+    host: &mut MemoryHost,
+) -> Status {
+    crate::run::run(rt, alloc, words, host, &OpenGate)
+}
 
 /// A day whose index falls to 4,650.01 and then to 4,650.00 at 10:00:00, which is Level 1.
 fn fall() -> [Line; 4] {
@@ -67,7 +82,8 @@ fn runs<Rt: Abort + AllocGlobal + Threads + Sync>(
     Ok(host.disk().to_vec(rt.alloc())?)
 }
 
-/// Serves lines over a disk that holds no record, compares the answers, and answers the disk.
+/// Serves lines over a disk that holds no record, compares the answers and the journals of one and of several workers, and
+/// answers the disk.
 fn serves<Rt: Abort + AllocGlobal + Threads + Sync>(
     rt: &Rt,
     disk: &[u8],
@@ -75,15 +91,23 @@ fn serves<Rt: Abort + AllocGlobal + Threads + Sync>(
 ) -> Result<Vec<u8>, Fail> {
     let session = Session::of(rt.alloc(), lines)?;
     let (input, sent) = (&session.input, &session.served);
-    runs(rt, &["serve"], disk, input, sent, Status::Done)
+    let kept = runs(rt, &["serve"], disk, input, sent, Status::Done)?;
+    for workers in ["2", "64"] {
+        let words = ["serve", "--workers", workers];
+        assert!(rt; runs(rt, &words, disk, input, sent, Status::Done)? == kept);
+    }
+    Ok(kept)
 }
 
-/// Replays lines, and compares the answers.
+/// Replays lines by one worker and by two, and compares the answers.
 fn replays<Rt: Abort + AllocGlobal + Threads + Sync>(rt: &Rt, lines: &[Line]) -> Result<(), Fail> {
     let session = Session::of(rt.alloc(), lines)?;
     let (input, sent) = (&session.input, &session.replayed);
-    let disk = runs(rt, &["replay"], b"", input, sent, Status::Done)?;
-    assert!(rt; disk.is_empty());
+    for workers in ["1", "2"] {
+        let words = ["replay", "--workers", workers];
+        let disk = runs(rt, &words, b"", input, sent, Status::Done)?;
+        assert!(rt; disk.is_empty());
+    }
     Ok(())
 }
 
@@ -113,12 +137,14 @@ fn other_words_call_nothing(rt: HostRuntime) -> Result<(), Fail> {
         &["status", "now"],
         &["serve", "serve"],
         &["serve", "--batch", "65"],
+        &["serve", "--workers", "65"],
         &["serve", "--bytes", "0"],
         &["serve", "--bytes", "1099511627777"],
         &["serve", "--from", "18446744073709551616"],
         &["serve", "--from", "1", "--from", "2"],
         &["format", "--limit", "2000000001"],
         &["replay", "--from", "1"],
+        &["replay", "--workers", "0"],
     ] {
         let mut host = MemoryHost::new(alloc, &session.input, b"")?;
         let status = run(&rt, alloc, words, &mut host);

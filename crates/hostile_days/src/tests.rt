@@ -18,6 +18,7 @@ use std::test::Fail;
 use std::thread::Threads;
 use test_days::lines::{at, band, clock, collar, indication, release, state};
 use test_days::{Session, paused_day};
+use yard_core::OpenGate;
 
 /// The most bytes that a session reads.
 const BYTES: u64 = 1_099_511_627_776;
@@ -46,22 +47,32 @@ fn fresh(alloc: Global, limit: u64) -> Result<Vec<u8>, Fail> {
     Ok(host.disk().to_vec(alloc)?)
 }
 
-/// Serves in batches of at most so many frames, and sends again from a message on where it is told one.
+/// Serves by so many workers in batches of at most so many frames, and sends again from a message on where it is told one.
 fn serves<Rt: AllocGlobal + Threads + Sync>(
     rt: &Rt,
     host: &mut MemoryHost,
+    workers: u32,
     batch: u32,
     from: Option<u64>,
 ) -> Status {
     let options = ServeOptions {
         from,
+        workers: workers.clamp(1, 64),
         batch: batch.clamp(1, 64),
         bytes: BYTES,
     };
-    serve(rt, rt.alloc(), host, &options)
+    serve(rt, rt.alloc(), host, &OpenGate, &options)
 }
 
-/// Replays.
-fn replays<Rt: AllocGlobal + Threads + Sync>(rt: &Rt, host: &mut MemoryHost) -> Status {
-    replay(rt, rt.alloc(), host, &ReplayOptions { bytes: BYTES })
+/// Replays by so many workers.
+fn replays<Rt: AllocGlobal + Threads + Sync>(
+    rt: &Rt,
+    host: &mut MemoryHost,
+    workers: u32,
+) -> Status {
+    let options = ReplayOptions {
+        workers: workers.clamp(1, 64),
+        bytes: BYTES,
+    };
+    replay(rt, rt.alloc(), host, &OpenGate, &options)
 }

@@ -1,7 +1,7 @@
 -- What a session has read, kept and sent at its end.
-use Rattle.std.specs.Prelude.{◌≡◌, ◌≢◌, ◌⊎◌, ℕ, List, Some}
+use Rattle.std.specs.Prelude.{◌≡◌, ◌≢◌, ℕ, List, Some}
 use Rattle.host_core.specs.declared.status.Status.{Status}
-use Rattle.host_core.specs.declared.status.Status.TheVariants.{Usage, SendFault, DiskFault, Damaged, NoJournal, NoMemory, BadText}
+use Rattle.host_core.specs.declared.status.Status.TheVariants.{Usage, Damaged, NoJournal, BadText}
 use Rattle.host_core.specs.Outside.{Outside, IsSettled}
 use Rattle.wire_in.specs.declared.record.Record.{Record}
 use Rattle.journal_core.specs.Layout.{Holds}
@@ -15,8 +15,8 @@ pub record IsKept (capacity : ℕ) (records : List Record) (now : Outside) : Typ
 
 -- So many bytes of the input were read, all that is expected for them was sent, and the disk holds the records that they
 -- gave.
-abbrev pub Answered : Begin → List ℕ → ℕ → Outside → Type 0
-Answered begin = engine.Answered (IsKept begin.capacity) (start_of begin)
+abbrev pub Answered : ℕ → Begin → List ℕ → ℕ → Outside → Type 0
+Answered workers begin = engine.Answered (IsKept begin.capacity) (start_of workers begin)
 
 -- the answers of a session
 pub record IsAnswer (status : Status) : Type 0 where
@@ -28,14 +28,6 @@ abbrev pub IsUnserved : Status → Type 0
 IsUnserved NoJournal = Unit {0}
 IsUnserved (Damaged at) = Unit {0}
 IsUnserved _ = ⊥
-
--- the answers where no header stands: there is no journal, or a fault or want of memory before that was known
-abbrev pub TellsNoJournal : Status → Type 0
-TellsNoJournal status = (status ≡ NoJournal) ⊎ (status ≡ DiskFault) ⊎ (status ≡ NoMemory)
-
--- the answers to a journal that is damaged there: the damage at just that gate, or a fault or want of memory before it
-abbrev pub TellsDamage : ℕ → Status → Type 0
-TellsDamage at status = (status ≡ Damaged at) ⊎ (status ≡ DiskFault) ⊎ (status ≡ SendFault) ⊎ (status ≡ NoMemory)
 
 -- nothing of the input was read, nothing was sent, and the disk has what it had
 pub record IsLeftAlone (old new : Outside) : Type 0 where

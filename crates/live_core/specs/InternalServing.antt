@@ -12,6 +12,7 @@ use Rattle.journal_core.specs.Scan.{HasRead, HasNoHeader}
 use Rattle.rulebook.specs.Admission.{IsLawful}
 use Rattle.engine_core.specs.declared.session.Session.{Session}
 use Rattle.engine_core.specs.Ends.{IsEnd, Told}
+use Rattle.engine_core.specs.Rounds.{RoundState}
 use Rattle.stream_core.specs.Taking.{ReadsAtMost}
 use Rattle.stream_core.specs.Ends.{end_of}
 use Rattle.stream_core.specs.Pending.{SendsPrefix}
@@ -19,23 +20,24 @@ use Rattle.engine_core.specs.Serving.{Reads, Leaves, IsReady}
 use Rattle.engine_core.specs.Sessions.{Start, Answered, Prompt, Starved}
 use Rattle.engine_core.specs.Unwritten.{WritesNothing, AcceptsNone}
 use Rattle.journal_core.specs.Extended.{Extends}
-use Rattle.live_core.specs.declared.recovery.Recovery.{Recovery}
-use Rattle.live_core.specs.declared.recovery.Serving.{Serving}
+use Rattle.recovery_core.specs.declared.recovery.Recovery.{Recovery}
+use Rattle.live_core.specs.declared.start.Serving.{Serving}
 use Rattle.live_core.specs.Safe.{Begin, Begins, start_of, IsSafeOrPending}
-use Rattle.live_core.specs.Damage.{IsDamagedAt}
+use Rattle.recovery_core.specs.Damage.{IsDamagedAt}
 use Rattle.live_core.specs.Ends as ends
-use Rattle.live_core.specs.Ends.{IsUnserved, TellsNoJournal}
-use Rattle.live_core.specs.Starved.{StarvedAtRecord}
+use Rattle.recovery_core.specs.Ends.{TellsNoJournal}
+use Rattle.live_core.specs.Ends.{IsUnserved}
+use Rattle.recovery_core.specs.Starved.{StarvedAtRecord}
 use Rattle.live_core.specs.Written.{HasGrown}
 use Rattle.live_core.specs.InternalKeeping.{HasRoom, Regains}
-use Rattle.live_core.specs.InternalRecovery.{again, HasDamage, StarvesAgain, IsReading, OnlyRecovers, Hinders}
+use Rattle.recovery_core.specs.Recoveries.{again, HasDamage, StarvesAgain, IsReading, OnlyRecovers, Hinders}
 
--- a session over what a journal was read into
-pub record IsFinished (recovery : Recovery) (serving : Serving) : Type 0 where
+-- a session over what a journal was read into, with this round
+pub record IsFinished (recovery : Recovery) (round : RoundState) (serving : Serving) : Type 0 where
   pub keeps : (batches : List (List Record)) (disk : List ℕ) → HasRead recovery.scan batches disk → journal.Represents serving.keeper.journal (records_of batches) disk
   pub capacity : serving.keeper.journal.capacity ≡ recovery.scan.capacity
-  pub ready : (known : Option (List ℕ)) → IsReading recovery.scan recovery.engine 0 known → IsReady (HasRoom serving.keeper.journal known) serving.session
-  pub session : serving.session ≡ record { cutter = []; engine = recovery.engine; round = []; outbox = recovery.outbox; answered = 0 }
+  pub ready : (known : Option (List ℕ)) → IsReading recovery.scan recovery.engine 0 known → IsReady (HasRoom serving.keeper.journal known) 64 serving.session
+  pub session : serving.session ≡ record { cutter = []; engine = recovery.engine; round = round; outbox = recovery.outbox; answered = 0 }
 
 -- the disk holds a lawful list
 pub record IsSound (disk : List ℕ) : Type 0 where
@@ -45,22 +47,22 @@ pub record IsSound (disk : List ℕ) : Type 0 where
   pub lawful : IsLawful capacity held
 
 -- a session may begin
-pub record IsRestored (from : Option ℕ) (serving : Serving) (old new : Outside) : Type 0 where
-  pub moments : (begin : Begin) (input : List ℕ) → begin.from ≡ from → Begins begin input old → Elapses old new (IsSafeOrPending old begin [])
+pub record IsRestored (workers : ℕ) (from : Option ℕ) (serving : Serving) (old new : Outside) : Type 0 where
+  pub moments : (begin : Begin) (input : List ℕ) → begin.from ≡ from → Begins begin input old → Elapses old new (IsSafeOrPending workers old begin [])
   pub reads : (begin : Begin) (input : List ℕ) → begin.from ≡ from → Begins begin input old
-      → Reads (λ records now. IsAtRest serving.keeper.journal records now) (start_of begin) input 0 serving.session new
+      → Reads (λ records now. IsAtRest serving.keeper.journal records now) (start_of workers begin) input 0 serving.session new
   pub nothing : (begin : Begin) (input : List ℕ) → begin.from ≡ from → Begins begin input old → WritesNothing old new
   pub capacity : (begin : Begin) (input : List ℕ) → begin.from ≡ from → Begins begin input old → serving.keeper.journal.capacity ≡ begin.capacity
   pub sound : (disk : List ℕ) → old.disk ≡ Some disk → IsSound disk
-  pub ready : IsReady (HasRoom serving.keeper.journal new.disk) serving.session
-  pub empty : serving.session.round ≡ []
+  pub ready : IsReady (HasRoom serving.keeper.journal new.disk) 64 serving.session
+  pub empty : serving.session.round.outcomes ≡ []
   pub answered : serving.session.answered ≡ 0
   pub keeps : OnlyRecovers old new
   pub none : NoFault old new
 
 -- no session begins, for this reason
-pub record IsUnread (unbegun : Type 0) (from : Option ℕ) (status : Status) (old new : Outside) : Type 0 where
-  pub moments : (begin : Begin) (input : List ℕ) → begin.from ≡ from → Begins begin input old → Elapses old new (IsSafeOrPending old begin [])
+pub record IsUnread (unbegun : Type 0) (workers : ℕ) (from : Option ℕ) (status : Status) (old new : Outside) : Type 0 where
+  pub moments : (begin : Begin) (input : List ℕ) → begin.from ≡ from → Begins begin input old → Elapses old new (IsSafeOrPending workers old begin [])
   pub nothing : (begin : Begin) (input : List ℕ) → begin.from ≡ from → Begins begin input old → WritesNothing old new
   pub damage_moments : (capacity at : ℕ) (before : List Record) (disk : List ℕ) → old.disk ≡ Some disk → IsDamagedAt capacity at before disk
       → Elapses old new (SendsPrefix old.sent (again from before) old)
@@ -70,17 +72,17 @@ pub record IsUnread (unbegun : Type 0) (from : Option ℕ) (status : Status) (ol
   pub unsent : status ≡ NoJournal → new.sent ≡ old.sent
   pub keeps : OnlyRecovers old new
   pub hinders : Hinders (λ at. (disk : List ℕ) → old.disk ≡ Some disk → HasDamage at disk) ((disk : List ℕ) → old.disk ≡ Some disk → HasNoHeader disk)
-      (unbegun ⊎ ((disk : List ℕ) → old.disk ≡ Some disk → StarvesAgain from old.sent disk new)) status old new
+      (unbegun ⊎ ((disk : List ℕ) → old.disk ≡ Some disk → StarvesAgain workers from old.sent disk new)) status old new
 
 -- what a session did that began so, up to so many bytes of this input
-pub record Serves (unbegun : Type 0) (from : Option ℕ) (begin : Begin) (input : List ℕ) (most : ℕ) (status : Status) (old new : Outside) : Type 0 where
-  pub moments : Elapses old new (IsSafeOrPending old begin (bodies_of (take most input)))
-  pub exact : IsEnd status → (status ≡ end_of most input) × ends.Answered begin input (min most (length input)) new
-  pub unread : status ≡ ReadFault → (count : ℕ) × (count < most) × ends.Answered begin input count new
-  pub prompt : Prompt (start_of begin) input old.asks new.asks
-  pub starved : status ≡ NoMemory → unbegun ⊎ StarvedAtRecord from begin.held old.sent new.sent ⊎ Starved (start_of begin) (bodies_of (take most input)) new
-  pub unwritten : AcceptsNone (start_of begin) (bodies_of (take most input)) → WritesNothing old new
-  pub stops : Elapses old new (λ image bytes. MayLeave old image ⊎ HasGrown begin (bodies_of (take most input)) old image)
+pub record Serves (unbegun : Type 0) (workers : ℕ) (from : Option ℕ) (begin : Begin) (input : List ℕ) (most : ℕ) (status : Status) (old new : Outside) : Type 0 where
+  pub moments : Elapses old new (IsSafeOrPending workers old begin (bodies_of (take most input)))
+  pub exact : IsEnd status → (status ≡ end_of most input) × ends.Answered workers begin input (min most (length input)) new
+  pub unread : status ≡ ReadFault → (count : ℕ) × (count < most) × ends.Answered workers begin input count new
+  pub prompt : Prompt (start_of workers begin) input old.asks new.asks
+  pub starved : status ≡ NoMemory → unbegun ⊎ StarvedAtRecord workers from begin.held old.sent new.sent ⊎ Starved (start_of workers begin) (bodies_of (take most input)) new
+  pub unwritten : AcceptsNone (start_of workers begin) (bodies_of (take most input)) → WritesNothing old new
+  pub stops : Elapses old new (λ image bytes. MayLeave old image ⊎ HasGrown workers begin (bodies_of (take most input)) old image)
 
 -- the input was answered, up to so many bytes
 pub record IsAnswered (most : ℕ) (before after : JournalState) (session : Session) (status : Status) (old new : Outside) : Type 0 where

@@ -1,9 +1,6 @@
 pub mod InternalKeeping
 pub mod Safe
 pub mod Ends
-pub mod Damage
-pub mod Starved
 pub mod Written
 pub mod Served
-pub mod InternalRecovery
 pub mod InternalServing

@@ -1,10 +1,11 @@
 //! The journal as the keeper of a session's accepted records.
 
-ghost use Rattle.std.specs.Prelude.{◌≡◌, ◌<◌, ◌+◌, ℕ, List, length, true, OnOk};
+ghost use Rattle.std.specs.Prelude.{◌≡◌, ◌<◌, ◌≤◌, ◌+◌, ℕ, List, All, length, true, OnOk};
 ghost use Rattle.host_core.specs.Outside.{Elapses};
 ghost use Rattle.host_core.specs.Frames.{OnlyWrites};
 ghost use Rattle.host_core.specs.Faults.{Causes};
 ghost use Rattle.wire_in.specs.declared.record.Record.{Record};
+ghost use Rattle.wire_in.specs.Spelling.{InRange};
 ghost use Rattle.journal_core.specs.Layout.{with_batch};
 ghost use Rattle.journal_core.specs.Journal.{IsAtRest};
 ghost use Rattle.engine_core.specs.Serving.{Keeps};
@@ -13,16 +14,32 @@ ghost use Rattle.live_core.specs.InternalKeeping.{HasRoom, Regains, rests_still,
 
 use engine_core::Keeper;
 use host_core::{Fault, Host};
-use journal_core::{Batch, Journal};
+use journal_core::{BATCH_MAX, Batch, Journal};
+use wire_in::Record;
 
-/// Keeps accepted records in a journal, after which they are acknowledged.
+/// Keeps accepted records in a journal, after which they are acknowledged. They are gathered in a batch.
 #[derive(Drop)]
 pub struct JournalKeeper {
     pub journal: Journal,
+    pub batch: Batch,
+}
+
+/// Puts these records in the place of those of a batch.
+fn refill(batch: &mut Batch, records: &[Record])
+    requires few { length records.now ≤ BATCH_MAX }
+    requires ranges { All InRange records.now }
+    ensures { batch.new ≡ records.now }
+{
+    batch.clear();
+    for x in records {
+        batch.push(*x);
+    }
 }
 
 impl Keeper for JournalKeeper {
     ghost acknowledges = { true };
+
+    ghost most = { 64 };
 
     ghost holds = { λ keeper records now. IsAtRest keeper.journal records now };
 
@@ -50,8 +67,9 @@ impl Keeper for JournalKeeper {
         true
     }
 
-    fn keep<H: Host>(&mut self, host: &mut H, batch: &Batch) -> Result<(), Fault> {
-        self.journal.append(host, batch)?;
+    fn keep<H: Host>(&mut self, host: &mut H, records: &[Record]) -> Result<(), Fault> {
+        refill(&mut self.batch, records);
+        self.journal.append(host, &self.batch)?;
         Ok(())
     }
 }

@@ -2,8 +2,7 @@
 #![tactic(auto)]
 
 mod keeper;
-mod recovery;
 mod serving;
+mod start;
 
-pub use recovery::Recovery;
 pub use serving::{ServeOptions, serve};

@@ -6,7 +6,7 @@ ghost use Rattle.live_core.specs.Served.{Served};
 ghost use Rattle.live_core.specs.InternalKeeping.{HasRoom};
 ghost use Rattle.live_core.specs.InternalServing.{IsAnswered};
 
-use crate::recovery::{Serving, restore};
+use crate::start::{Restoring, Serving, restore};
 use engine_core::{Round, serve_input};
 use host_core::{Host, Status};
 use journal_core::{BATCH_MAX, Batch};
@@ -14,6 +14,7 @@ use price_core::NoMemory;
 use std::alloc::Global;
 use std::thread::Threads;
 use stream_core::{Outbox, PIECE, answer_of};
+use yard_core::Gate;
 
 /// The most bytes that one session reads.
 const BYTES_MAX: u64 = 1_099_511_627_776;
@@ -23,6 +24,8 @@ const BYTES_MAX: u64 = 1_099_511_627_776;
 pub struct ServeOptions {
     /// The number from which on the messages of the journal are sent again; none without it.
     pub from: Option<u64>,
+    /// By how many workers records are evaluated, from 1 to 64.
+    pub workers: u32,
     /// The most frames of a batch, from 1 to 64: its accepted records are appended by one append, before any answer to one of
     /// its frames is sent.
     pub batch: u32,
@@ -30,74 +33,72 @@ pub struct ServeOptions {
     pub bytes: u64,
 }
 
-/// Room for what a session sends, keeps and reads.
-#[derive(Drop)]
-struct Room {
-    outbox: Outbox,
-    batch: Batch,
-    round: Round,
-    buffer: Vec<u8>,
-}
-
-impl Room {
-    fn new(alloc: Global) -> Result<Room, NoMemory>
-        ensures outbox { IfOk result (λ room. room.outbox ≡ []) }
-        ensures round { IfOk result (λ room. room.round ≡ []) }
-        ensures buffer { IfOk result (λ room. vec_len room.buffer ≡ PIECE) }
-    {
-        Ok(Room {
-            outbox: Outbox::new(alloc)?,
-            batch: Batch::new(alloc)?,
-            round: Round::new(alloc)?,
-            buffer: vec![in alloc; 0; PIECE]?,
-        })
-    }
+/// Room for what a session sends, keeps and reads, in rounds of so many frames.
+fn room(alloc: Global, frames: usize) -> Result<(Restoring, Vec<u8>), NoMemory>
+    requires frames { frames ≤ BATCH_MAX }
+    ensures outbox { IfOk result (λ room. room.0.outbox ≡ []) }
+    ensures waiting { IfOk result (λ room. room.0.waiting.most ≡ BATCH_MAX) }
+    ensures round { IfOk result (λ room. room.0.round.outcomes ≡ []) }
+    ensures most { IfOk result (λ room. room.0.round.most ≡ frames) }
+    ensures buffer { IfOk result (λ room. vec_len room.1 ≡ PIECE) }
+{
+    let restoring = Restoring {
+        outbox: Outbox::new(alloc)?,
+        batch: Batch::new(alloc)?,
+        waiting: Round::new(alloc, BATCH_MAX)?,
+        round: Round::new(alloc, frames)?,
+    };
+    Ok((restoring, vec![in alloc; 0; PIECE]?))
 }
 
 /// Answers the input in batches, up to its end or up to so many bytes.
-fn answer<H: Host>(
+fn answer<Rt: Threads + Sync, H: Host, G: Gate>(
+    rt: &Rt,
     serving: &mut Serving,
     host: &mut H,
+    gate: &G,
     buffer: &mut [u8],
-    options: &ServeOptions,
+    bytes: u64,
 ) -> Status
     requires buffer { 0 < length buffer.old }
-    requires bytes { options.now.bytes ≤ BYTES_MAX }
-    requires batch { (1 ≤ options.now.batch) × (options.now.batch ≤ BATCH_MAX) }
-    requires ready { IsReady (HasRoom serving.old.keeper.journal (H.outside host.old).disk) serving.old.session }
-    requires empty { serving.old.session.round ≡ [] }
+    requires bytes { bytes ≤ BYTES_MAX }
+    requires ready { IsReady (HasRoom serving.old.keeper.journal (H.outside host.old).disk) 64 serving.old.session }
+    requires empty { serving.old.session.round.outcomes ≡ [] }
     requires fresh { serving.old.session.answered ≡ 0 }
-    ensures { IsAnswered options.now.bytes serving.old.keeper.journal serving.new.keeper.journal serving.old.session result (H.outside host.old) (H.outside host.new) }
+    ensures { IsAnswered bytes serving.old.keeper.journal serving.new.keeper.journal serving.old.session result (H.outside host.old) (H.outside host.new) }
 {
     answer_of(serve_input(
+        rt,
         &mut serving.session,
         &mut serving.keeper,
         host,
-        options.batch as usize,
+        gate,
         buffer,
-        options.bytes,
+        bytes,
     ))
 }
 
 /// Serves with the room that it was given.
-fn serve_in<H: Host>(
+fn serve_in<Rt: Threads + Sync, H: Host, G: Gate>(
+    rt: &Rt,
     alloc: Global,
     host: &mut H,
+    gate: &G,
     options: &ServeOptions,
-    outbox: Outbox,
-    batch: &mut Batch,
-    round: Round,
+    room: Restoring,
     buffer: &mut [u8],
 ) -> Status
-    requires outbox { outbox ≡ [] }
-    requires round { round ≡ [] }
-    requires buffer { 0 < length buffer.old }
+    requires workers { (1 ≤ options.now.workers) × (options.now.workers ≤ 64) }
     requires bytes { options.now.bytes ≤ BYTES_MAX }
-    requires batch { (1 ≤ options.now.batch) × (options.now.batch ≤ BATCH_MAX) }
-    ensures served { Served (host.new ≡ host.old) options.now.from options.now.bytes result (H.outside host.old) (H.outside host.new) }
+    requires outbox { room.outbox ≡ [] }
+    requires waiting { BATCH_MAX ≤ room.waiting.most }
+    requires round { room.round.outcomes ≡ [] }
+    requires most { (1 ≤ room.round.most) × (room.round.most ≤ BATCH_MAX) }
+    requires buffer { 0 < length buffer.old }
+    ensures served { Served (host.new ≡ host.old) options.now.workers options.now.from options.now.bytes result (H.outside host.old) (H.outside host.new) }
 {
-    match restore(alloc, host, outbox, batch, round, options.from) {
-        Ok(mut serving) => answer(&mut serving, host, buffer, options),
+    match restore(rt, alloc, host, gate, options.workers, options.from, room) {
+        Ok(mut serving) => answer(rt, &mut serving, host, gate, buffer, options.bytes),
         Err(status) => status,
     }
 }
@@ -105,27 +106,22 @@ fn serve_in<H: Host>(
 /// Reads a journal and evaluates its records, sends the messages that are asked for again, and tells how many records and
 /// messages there are. Then it answers the frames of the input, up to its end or up to so many bytes, in batches of at most so
 /// many frames. A batch is closed when it is full and before each further read. Its accepted records are in the journal, by
-/// one append, before any answer to one of its frames is sent.
-pub fn serve<Rt: Threads + Sync, H: Host>(
+/// one append, before any answer to one of its frames is sent. Several workers evaluate the records of a batch ahead, each of
+/// which passes the gate before it works.
+pub fn serve<Rt: Threads + Sync, H: Host, G: Gate>(
     rt: &Rt,
     alloc: Global,
     host: &mut H,
+    gate: &G,
     options: &ServeOptions,
 ) -> Status
+    requires workers { (1 ≤ options.now.workers) × (options.now.workers ≤ 64) }
     requires bytes { options.now.bytes ≤ BYTES_MAX }
     requires batch { (1 ≤ options.now.batch) × (options.now.batch ≤ BATCH_MAX) }
-    ensures served { Served (host.new ≡ host.old) options.now.from options.now.bytes result (H.outside host.old) (H.outside host.new) }
+    ensures served { Served (host.new ≡ host.old) options.now.workers options.now.from options.now.bytes result (H.outside host.old) (H.outside host.new) }
 {
-    let _ = rt;
-    match Room::new(alloc) {
-        Ok(
-            Room {
-                outbox,
-                mut batch,
-                round,
-                mut buffer,
-            },
-        ) => serve_in(alloc, host, options, outbox, &mut batch, round, &mut buffer),
+    match room(alloc, options.batch as usize) {
+        Ok((room, mut buffer)) => serve_in(rt, alloc, host, gate, options, room, &mut buffer),
         Err(_) => Status::NoMemory,
     }
 }

@@ -1,4 +1,4 @@
-ghost use Rattle.std.specs.Prelude.{◌≡◌, ◌+◌, ◌*◌, ◌<◌, ◌≤◌, ◌++◌, ◌∷◌, [], true, false, Some, IfOk, IsOk, OnOk, OnErr, length, vec_len, vec_capacity};
+ghost use Rattle.std.specs.Prelude.{◌≡◌, ◌+◌, ◌*◌, ◌<◌, ◌≤◌, ◌++◌, ◌∷◌, [], true, false, Some, IfOk, IsOk, OnOk, OnErr, drop, length, take, vec_len, vec_capacity};
 ghost use Rattle.wire_in.specs.Records.{is_day, is_tick, moment_of};
 ghost use Rattle.alarms.specs.Due.{NoneDue};
 ghost use Rattle.symbol_core.specs.Evaluates.{most_of_symbol};
@@ -50,6 +50,29 @@ fn first_due(alarms: &mut Alarms, from: usize, end: usize, t: Moment) -> usize
         Some(place) if place < end => place,
         _ => end,
     }
+}
+
+/// Makes so many more places, which are due. An error leaves those that were made.
+fn make_places(alarms: &mut Alarms, count: usize) -> Result<(), NoMemory>
+    ensures more { OnOk result (length alarms.old + count ≤ length alarms.new) }
+    ensures kept { length alarms.old ≤ length alarms.new }
+{
+    for _place in 0..count {
+        alarms.push(ALWAYS_DUE)?;
+    }
+    Ok(())
+}
+
+/// Moves stocks behind others. An error leaves both as they were.
+fn append_symbols(symbols: &mut Vec<Symbol>, later: &mut Vec<Symbol>) -> Result<(), NoMemory>
+    ensures all { OnOk result (symbols.new.items ≡ symbols.old.items ++ later.old.items) }
+    ensures none { OnOk result (later.new.items ≡ []) }
+    ensures err { OnErr result ((symbols.new.items ≡ symbols.old.items) × (later.new.items ≡ later.old.items)) }
+    ensures count { vec_len symbols.new ≤ vec_len symbols.old + vec_len later.old }
+    ensures shorter { vec_len later.new ≤ vec_len later.old }
+{
+    symbols.append(later)?;
+    Ok(())
 }
 
 fn push_symbol(symbols: &mut Vec<Symbol>, symbol: Symbol)
@@ -105,6 +128,37 @@ impl Section {
         push_symbol(&mut self.symbols, symbol);
     }
 
+    /// Moves the stocks of a section behind these. Alarms are forgotten: the next tick finds each stock due. An error leaves
+    /// the stocks of both as they were.
+    pub fn append(&mut self, later: &mut Section) -> Result<(), NoMemory>
+        ensures all { OnOk result (self.new.symbols ≡ self.old.symbols ++ later.old.symbols) }
+        ensures none { OnOk result (later.new.symbols ≡ []) }
+        ensures fewer { length later.new.symbols ≤ length later.old.symbols }
+        ensures err { OnErr result ((self.new.symbols ≡ self.old.symbols) × (later.new.symbols ≡ later.old.symbols)) }
+    {
+        self.since = None;
+        later.since = None;
+        make_places(&mut self.alarms, later.symbols.len())?;
+        append_symbols(&mut self.symbols, &mut later.symbols)?;
+        Ok(())
+    }
+
+    /// Takes the stocks from an index on into a section of their own. Alarms are forgotten: the next tick finds each stock due.
+    /// An error leaves the stocks as they were.
+    pub fn split_off(&mut self, at: usize) -> Result<Section, NoMemory>
+        requires at { at ≤ length self.old.symbols }
+        ensures earlier { OnOk result (self.new.symbols ≡ take at self.old.symbols) }
+        ensures later { IfOk result (λ later. later.symbols ≡ drop at self.old.symbols) }
+        ensures err { OnErr result (self.new.symbols ≡ self.old.symbols) }
+    {
+        self.since = None;
+        let mut rest = Section::new(*self.symbols.allocator())?;
+        rest.since = None;
+        make_places(&mut rest.alarms, self.symbols.len() - at)?;
+        rest.symbols = self.symbols.split_off(at)?;
+        Ok(rest)
+    }
+
     /// Evaluates a record for the stock of an index. Only a trade may find no memory, and then all stays as it was.
     #[inline(always)]
     pub fn evaluate(
@@ -140,7 +194,7 @@ impl Section {
         ensures room { vec_capacity out.old ≤ vec_capacity out.new }
         ensures len { vec_len out.new ≤ vec_len out.old + most_of_symbol * length self.old.symbols }
     {
-        self.since = None;
+        self.since = None; // No alarm outlives its day.
         evaluate_each(&mut self.symbols, x, market, &mut self.said, out);
     }
 

@@ -5,6 +5,7 @@ use gen_core::DayPlan;
 use host_core::Status;
 use memory_host::{Call, MemoryHost};
 use std::test::Fail;
+use yard_core::OpenGate;
 
 /// Two symbols and six records, each of which is a clock.
 fn clocks() -> DayPlan
@@ -37,7 +38,7 @@ marketresume 0
 fn a_day_of_clocks_is_summed_up(rt: HostRuntime) -> Result<(), Fail> {
     let mut host = MemoryHost::new(rt.alloc(), b"input", b"disk")?;
     host.pieces(1, 7);
-    let status = rehearse(&rt, rt.alloc(), &mut host, &clocks());
+    let status = rehearse(&rt, rt.alloc(), &mut host, &OpenGate, &clocks(), 1);
     assert!(rt; status == Status::Done);
     assert!(rt; host.sent() == CLOCKS);
     assert!(rt; host.disk() == b"disk".as_slice());
@@ -58,7 +59,7 @@ fn usual() -> DayPlan
 #[test]
 fn no_record_of_a_usual_day_is_refused(rt: HostRuntime) -> Result<(), Fail> {
     let mut host = MemoryHost::new(rt.alloc(), b"", b"")?;
-    let status = rehearse(&rt, rt.alloc(), &mut host, &usual());
+    let status = rehearse(&rt, rt.alloc(), &mut host, &OpenGate, &usual(), 1);
     assert!(rt; status == Status::Done);
     let lines = host.sent();
     assert!(rt; lines.starts_with(b"records 400501\nrefused 0\nmessages "));
@@ -75,8 +76,19 @@ fn a_send_that_fails_ends_a_summary(rt: HostRuntime) -> Result<(), Fail> {
     let mut host = MemoryHost::new(rt.alloc(), b"", b"")?;
     host.pieces(1, 7);
     host.fail(Call::Send, 4)?;
-    let status = rehearse(&rt, rt.alloc(), &mut host, &clocks());
+    let status = rehearse(&rt, rt.alloc(), &mut host, &OpenGate, &clocks(), 1);
     assert!(rt; status == Status::SendFault);
     assert!(rt; CLOCKS.starts_with(host.sent()) && host.sent().len() < CLOCKS.len());
+    Ok(())
+}
+
+#[test]
+fn several_workers_sum_up_alike(rt: HostRuntime) -> Result<(), Fail> {
+    let mut one = MemoryHost::new(rt.alloc(), b"", b"")?;
+    let mut four = MemoryHost::new(rt.alloc(), b"", b"")?;
+    let alone = rehearse(&rt, rt.alloc(), &mut one, &OpenGate, &usual(), 1);
+    let status = rehearse(&rt, rt.alloc(), &mut four, &OpenGate, &usual(), 4);
+    assert!(rt; alone == Status::Done && status == Status::Done);
+    assert!(rt; one.sent() == four.sent());
     Ok(())
 }

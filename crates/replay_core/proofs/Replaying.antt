@@ -26,28 +26,28 @@ use Rattle.replay_core.specs.InternalSession.{IsFresh}
 use Rattle.replay_core.specs.Replayed.{replay_start, replay_text, Answered, LeavesDisk, IsAnswer, Replayed}
 
 -- nothing of the input is read yet
-pub reads_none : (input : List ℕ) (session : Session) (now : Outside) → IsFresh session → now.input ≡ Some input → Reads (λ _ _. Unit {0}) (replay_start now.sent) input 0 session now
-reads_none input session now fresh left =
-    begins (λ _ _. Unit {0}) (replay_start now.sent) input session now fresh.cutter fresh.round fresh.answered fresh.engine tt
+pub reads_none : (input : List ℕ) {workers : ℕ} (session : Session) (now : Outside) → IsFresh workers session → now.input ≡ Some input → Reads (λ _ _. Unit {0}) (replay_start workers now.sent) input 0 session now
+reads_none input {workers} session now fresh left =
+    begins (λ _ _. Unit {0}) (replay_start workers now.sent) input session now fresh.cutter fresh.round fresh.answered fresh.engine fresh.workers_are fresh.idle tt
     (expects_nothing now.sent now.sent session.outbox [] fresh.outbox (sym (append_known-nil now.sent))) left
 
-pub answered_as : (begin : Option (List ℕ)) (input : List ℕ) (count : ℕ) (now : Outside) → engine.Answered (λ _ _. Unit {0}) (replay_start begin) input count now → Answered begin input count now
+pub answered_as : {workers : ℕ} (begin : Option (List ℕ)) (input : List ℕ) (count : ℕ) (now : Outside) → engine.Answered (λ _ _. Unit {0}) (replay_start workers begin) input count now → Answered begin input count now
 unfolding expected replay_text
 answered_as begin input count now answered = record { input_left = answered.input_left; there = answered.there; sent = answered.sent }
 
 -- the end of a replay
-pub ends_as : (r : Result Status Fault) (begin : Option (List ℕ)) (input : List ℕ) (most : ℕ) (now : Outside)
-    → IfOk r (λ status. (status ≡ end_of most input) × engine.Answered (λ _ _. Unit {0}) (replay_start begin) input (min most (length input)) now)
+pub ends_as : (workers : ℕ) (r : Result Status Fault) (begin : Option (List ℕ)) (input : List ℕ) (most : ℕ) (now : Outside)
+    → IfOk r (λ status. (status ≡ end_of most input) × engine.Answered (λ _ _. Unit {0}) (replay_start workers begin) input (min most (length input)) now)
     → IfOk r (λ status. (status ≡ end_of most input) × Answered begin input (min most (length input)) now)
-ends_as (Ok status) begin input most now end = (end.0, answered_as begin input (min most (length input)) now end.1)
-ends_as (Err fault) begin input most now end = tt
+ends_as workers (Ok status) begin input most now end = (end.0, answered_as begin input (min most (length input)) now end.1)
+ends_as workers (Err fault) begin input most now end = tt
 
 -- the stops of a replay
-pub stops_as : (read : List ℕ) (old new : Outside) → Elapses old new (Leaves (λ _ _ image. MayLeave old image) (replay_start old.sent) (bodies_of read))
+pub stops_as : {workers : ℕ} (read : List ℕ) (old new : Outside) → Elapses old new (Leaves (λ _ _ image. MayLeave old image) (replay_start workers old.sent) (bodies_of read))
     → Elapses old new (SendsPrefix old.sent (replay_text read) old)
 unfolding expected replay_text
-stops_as read old new run =
-    widened run _ (λ image bytes safe. safe_prefix (replay_start old.sent) (bodies_of read) old image bytes _ (λ _ image keeping. keeping.recovered) safe)
+stops_as {workers} read old new run =
+    widened run _ (λ image bytes safe. safe_prefix (replay_start workers old.sent) (bodies_of read) old image bytes _ (λ _ image keeping. keeping.recovered) safe)
 
 -- no answer of a replay is one of the disk, or of a journal
 answers : (result : Result Status Fault) → IfOk result IsEnd → result ≢ Err fault.Disk → IsAnswer (answer_of result)
@@ -58,9 +58,9 @@ answers (Err f) end unkept = grind arith
 completes : (s : Status) (old new : Outside) → IsAnswer s → Told s old new → s ≢ NoMemory → ¬ (Rose old.read_faults new.read_faults) → ¬ (Rose old.send_faults new.send_faults) → IsEnd s
 completes s old new answer told memory no_reads no_sends = grind arith
 
-module _ (unbegun : Type 0) (most : ℕ) (old new : Outside) (result : Result Status Fault) (status : Status) (same : status ≡ answer_of result)
+module _ (unbegun : Type 0) (workers most : ℕ) (old new : Outside) (result : Result Status Fault) (status : Status) (same : status ≡ answer_of result)
     (moments : (input : List ℕ) → old.input ≡ Some input → Elapses old new (SendsPrefix old.sent (replay_text (take most input)) old))
-    (prompt : (input : List ℕ) → old.input ≡ Some input → Prompt (replay_start old.sent) input old.asks new.asks)
+    (prompt : (input : List ℕ) → old.input ≡ Some input → Prompt (replay_start workers old.sent) input old.asks new.asks)
     (bytes : ReadsAtMost most old.input new.input) (leaves : LeavesDisk old new) (continues : Continues old new)
     (sent_now : (image bytes : List ℕ) → new.leaves new.moment image bytes → Agrees new.sent bytes)
     (stops_now : (sent : List ℕ) → new.sent ≡ Some sent → (image : List ℕ) × MayLeave new image)
@@ -76,9 +76,9 @@ module _ (unbegun : Type 0) (most : ℕ) (old new : Outside) (result : Result St
 
   pub replayed : ((input : List ℕ) → old.input ≡ Some input → IfOk result (λ status. (status ≡ end_of most input) × Answered old.sent input (min most (length input)) new))
       → ((input : List ℕ) → old.input ≡ Some input → result ≡ Err fault.Read → (count : ℕ) × (count < most) × Answered old.sent input count new)
-      → ((input : List ℕ) → old.input ≡ Some input → result ≡ Err fault.Memory → unbegun ⊎ Starved (replay_start old.sent) (bodies_of (take most input)) new)
-      → Replayed unbegun most status old new
-  replayed exact unread starved = subst (λ s. Replayed unbegun most s old new) (sym same) (record {
+      → ((input : List ℕ) → old.input ≡ Some input → result ≡ Err fault.Memory → unbegun ⊎ Starved (replay_start workers old.sent) (bodies_of (take most input)) new)
+      → Replayed unbegun workers most status old new
+  replayed exact unread starved = subst (λ s. Replayed unbegun workers most s old new) (sym same) (record {
     moments = moments;
     exact = λ input is. at_an_end result _ (exact input is);
     unread = λ input is failed. unread input is (at_a_read result end failed);

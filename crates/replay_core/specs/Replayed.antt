@@ -16,12 +16,12 @@ abbrev pub capacity : ℕ
 capacity = 18446744073709551615
 
 -- a replay begins with no records and no greeting, and acknowledges nothing
-abbrev pub replay_start : Option (List ℕ) → Start
-replay_start sent = record { capacity = capacity; held = []; acknowledges = false; opening = []; sent = sent }
+abbrev pub replay_start : ℕ → Option (List ℕ) → Start
+replay_start workers sent = record { workers = workers; capacity = capacity; held = []; acknowledges = false; opening = []; sent = sent }
 
--- all that a replay sends for the bytes that it has read
+-- all that a replay sends for the bytes that it has read, however many workers it has
 unfoldable pub replay_text : List ℕ → List ℕ
-replay_text read = expected (replay_start (Some [])) (bodies_of read)
+replay_text read = expected (replay_start 1 (Some [])) (bodies_of read)
 
 -- so many bytes of the input were read, and since begin all that a replay sends for them was sent
 pub record Answered (begin : Option (List ℕ)) (input : List ℕ) (count : ℕ) (now : Outside) : Type 0 where
@@ -43,9 +43,9 @@ IsAnswer NoJournal = ⊥
 IsAnswer (BadText line) = ⊥
 IsAnswer _ = Unit {0}
 
--- the input was replayed, up to so many bytes, and the disk was not touched; what says that no call of the host was made is
+-- the input was replayed by so many workers, up to so many bytes, and the disk was not touched; what says that no call of the host was made is
 -- given
-pub record Replayed (unbegun : Type 0) (most : ℕ) (status : Status) (old new : Outside) : Type 0 where
+pub record Replayed (unbegun : Type 0) (workers most : ℕ) (status : Status) (old new : Outside) : Type 0 where
   -- whenever it is stopped, a prefix of what is expected was sent, and the disk has an image from before
   pub moments : (input : List ℕ) → old.input ≡ Some input → Elapses old new (SendsPrefix old.sent (replay_text (take most input)) old)
   -- where the end was read, all was sent, and the status is that of the end
@@ -55,10 +55,10 @@ pub record Replayed (unbegun : Type 0) (most : ℕ) (status : Status) (old new :
   -- what was sent is a prefix of what is expected in any case
   pub part : (input : List ℕ) → old.input ≡ Some input → SentPrefix old.sent new.sent (replay_text (take most input))
   -- whenever the input was read, all that is expected for the whole frames read before had been sent
-  pub prompt : (input : List ℕ) → old.input ≡ Some input → Prompt (replay_start old.sent) input old.asks new.asks
-  -- memory is short only before the first call of the host, or at a Listing or a Trade, with all sent that is expected for
-  -- the frames before it
-  pub starved : (input : List ℕ) → old.input ≡ Some input → status ≡ NoMemory → unbegun ⊎ Starved (replay_start old.sent) (bodies_of (take most input)) new
+  pub prompt : (input : List ℕ) → old.input ≡ Some input → Prompt (replay_start workers old.sent) input old.asks new.asks
+  -- memory is short only before the first call of the host, or at a frame, with all sent that is expected for the frames before
+  -- it; where there is one worker, that frame brings a Listing or a Trade
+  pub starved : (input : List ℕ) → old.input ≡ Some input → status ≡ NoMemory → unbegun ⊎ Starved (replay_start workers old.sent) (bodies_of (take most input)) new
   -- no more bytes than asked for are read, whatever the answer
   pub bytes : ReadsAtMost most old.input new.input
   -- with enough memory and no faults, the input is read to its end or to the most bytes

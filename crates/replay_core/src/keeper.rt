@@ -8,7 +8,7 @@ ghost use Rattle.replay_core.specs.InternalKeeping.{left_on};
 
 use engine_core::Keeper;
 use host_core::{Fault, Host};
-use journal_core::Batch;
+use wire_in::Record;
 
 /// Keeps nothing: accepted records aren't acknowledged, and the disk has what it had.
 #[derive(Clone, Copy, Debug, PartialEq, Eq)]
@@ -16,6 +16,8 @@ pub struct NoKeeper;
 
 impl Keeper for NoKeeper {
     ghost acknowledges = { false };
+
+    ghost most = { 65536 };
 
     ghost holds = { λ _ _ _. Unit {0} };
 
@@ -43,7 +45,7 @@ impl Keeper for NoKeeper {
         false
     }
 
-    fn keep<H: Host>(&mut self, host: &mut H, batch: &Batch) -> Result<(), Fault> {
+    fn keep<H: Host>(&mut self, host: &mut H, batch: &[Record]) -> Result<(), Fault> {
         let _ = host;
         let _ = batch;
         Ok(())

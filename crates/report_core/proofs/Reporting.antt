@@ -18,14 +18,15 @@ use Rattle.engine_core.specs.EngineState.{Represents}
 use Rattle.stream_core.specs.Pending.{SendsPrefix, SentPrefix}
 use Rattle.stream_core.proofs.Pending.{prefix_sent, sends_none}
 use Rattle.stream_core.proofs.Sending.{sends_longer, sends_on, sends_prefix}
-use Rattle.live_core.specs.declared.recovery.Recovery.{Recovery}
-use Rattle.live_core.specs.Damage.{IsDamagedAt}
-use Rattle.live_core.specs.Ends.{TellsNoJournal, TellsDamage}
-use Rattle.live_core.specs.InternalRecovery.{again, SendsAgain, StarvesAgain, Recovers, OnlyRecovers, HasDamage, Hinders}
+use Rattle.recovery_core.specs.declared.recovery.Recovery.{Recovery}
+use Rattle.recovery_core.specs.Damage.{IsDamagedAt}
+use Rattle.recovery_core.specs.Ends.{TellsNoJournal, TellsDamage}
+use Rattle.evaluator_core.specs.Evaluating.{workers_of}
+use Rattle.recovery_core.specs.Recoveries.{again, SendsAgain, StarvesAgain, Recovers, OnlyRecovers, HasDamage, Hinders}
 use Rattle.report_core.specs.InternalReport.{Tells, IsTold, IsGathered, IsUngathered}
 use Rattle.report_core.specs.Reported.{Reported, IsHeld, IsReport, report_of}
-use Rattle.live_core.proofs.OneDamage.{covers_held, covers_damaged, one_damage, lawful_undamaged}
-use Rattle.live_core.proofs.Recovering.{sends_then, only_read, recovers_on, hinders_on, why_at}
+use Rattle.recovery_core.proofs.OneDamage.{covers_held, covers_damaged, one_damage, lawful_undamaged}
+use Rattle.recovery_core.proofs.Recovering.{sends_then, only_read, recovers_on, hinders_on, why_at}
 
 nothing_left : (a b : List ℕ) → a ++ b ≡ [] → a ≡ []
 nothing_left [] b is = refl
@@ -59,7 +60,7 @@ module _ {old mid new : Outside} {recovery : Recovery} (reads : OnlyReadsDisk ol
   -- but not to its end
   pub ungathered : (status : Status) → ((disk : List ℕ) → mid.disk ≡ Some disk → ¬ HasNoHeader disk)
       → Hinders (λ at. (begin : Option (List ℕ)) (disk : List ℕ) → Recovers (again None) begin disk recovery mid → HasDamage at disk) ⊥
-      ((begin : Option (List ℕ)) (disk : List ℕ) → Recovers (again None) begin disk recovery mid → StarvesAgain None begin disk new) status mid new → IsUngathered status old new
+      ((begin : Option (List ℕ)) (disk : List ℕ) → Recovers (again None) begin disk recovery mid → StarvesAgain (workers_of recovery.engine.evaluator) None begin disk new) status mid new → IsUngathered status old new
   ungathered status header why = record {
     moments = all_moments;
     no_header = λ disk known missing. absurd (header disk (reads.disk ∙ known) missing);

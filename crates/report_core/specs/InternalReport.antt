@@ -8,10 +8,10 @@ use Rattle.wire_in.specs.declared.record.Record.{Record}
 use Rattle.journal_core.specs.Scan.{HasNoHeader}
 use Rattle.engine_core.specs.EngineState.{Represents}
 use Rattle.stream_core.specs.Pending.{SendsPrefix}
-use Rattle.live_core.specs.Ends.{TellsNoJournal}
-use Rattle.live_core.specs.InternalRecovery.{HasDamage, Hinders, OnlyRecovers, SendsAgain}
+use Rattle.recovery_core.specs.Ends.{TellsNoJournal}
+use Rattle.recovery_core.specs.Recoveries.{HasDamage, Hinders, OnlyRecovers, SendsAgain}
 use Rattle.report_core.specs.Reported.{IsHeld}
-use Rattle.live_core.specs.declared.recovery.Recovery.{Recovery}
+use Rattle.recovery_core.specs.declared.recovery.Recovery.{Recovery}
 
 -- a text was sent, as far as the status says
 pub record Tells (text : List ℕ) (status : Status) (old new : Outside) : Type 0 where

@@ -12,8 +12,8 @@ use Rattle.journal_core.specs.Scan.{HasNoHeader}
 use Rattle.rulebook.specs.Admission.{IsLawful, last_day, names}
 use Rattle.rulebook.specs.Book.{messages_of}
 use Rattle.stream_core.specs.Pending.{SendsPrefix, SentPrefix}
-use Rattle.live_core.specs.Damage.{IsDamagedAt}
-use Rattle.live_core.specs.Ends.{TellsNoJournal, TellsDamage}
+use Rattle.recovery_core.specs.Damage.{IsDamagedAt}
+use Rattle.recovery_core.specs.Ends.{TellsNoJournal, TellsDamage}
 
 -- a word and a value, with a blank between them, and a newline (10)
 abbrev pub line : List ℕ → List ℕ → List ℕ

@@ -1,26 +1,36 @@
 //! What a journal holds, told in five lines.
 
-ghost use Rattle.std.specs.Prelude.{◌≡◌, ◌++◌, ℕ, List, Option, None, OnOk, IfOk, IfErr, IsTrue, [], decimal, codes};
+ghost use Rattle.std.specs.Prelude.{◌≡◌, ◌≤◌, ◌++◌, ℕ, List, Option, None, OnOk, IfOk, IfErr, IsTrue, [], decimal, codes};
 ghost use Rattle.wire_in.specs.declared.record.Record.{Record};
 ghost use Rattle.host_core.specs.Outside.{NoFault};
 ghost use Rattle.host_core.specs.Frames.{OnlySends};
+ghost use Rattle.evaluator_core.specs.Evaluating.{workers_of};
 ghost use Rattle.engine_core.specs.EngineState.{Represents};
-ghost use Rattle.live_core.specs.InternalRecovery.{again, SendsAgain, HasDamage, StarvesAgain, IsReading, Recovers, OnlyRecovers, Hinders};
+ghost use Rattle.recovery_core.specs.Recoveries.{again, SendsAgain, HasDamage, StarvesAgain, IsReading, Recovers, OnlyRecovers, Hinders};
 ghost use Rattle.report_core.specs.InternalReport.{Tells, IsTold, IsGathered, IsUngathered};
 ghost use Rattle.report_core.specs.Reported.{Reported, line, day_word, report_of};
 
+use engine_core::Round;
 use host_core::{Host, Status, send_all};
 use itoa::Buffer;
-use journal_core::Batch;
-use live_core::Recovery;
+use journal_core::{BATCH_MAX, Batch};
 use price_core::NoMemory;
+use recovery_core::Recovery;
 use session_core::{Day, date_text};
 use std::alloc::Global;
+use std::thread::Threads;
 use stream_core::Outbox;
+use yard_core::OpenGate;
 
 /// Reads a journal to its end and evaluates its records. Nothing is sent.
-fn read_all<H: Host>(recovery: &mut Recovery, host: &mut H, batch: &mut Batch) -> Result<(), Status>
-    requires { IsReading recovery.old.scan recovery.old.engine 0 (H.outside host.old).disk }
+fn read_all<Rt: Threads + Sync, H: Host>(
+    rt: &Rt,
+    recovery: &mut Recovery,
+    host: &mut H,
+    batch: &mut Batch,
+) -> Result<(), Status>
+    requires reading { IsReading recovery.old.scan recovery.old.engine 0 (H.outside host.old).disk }
+    requires most { BATCH_MAX ≤ recovery.old.waiting.most }
     ensures recovers { (begin : Option (List ℕ)) (disk : List ℕ) → Recovers (again None) begin disk recovery.old (H.outside host.old)
         → OnOk result (Recovers (again None) begin disk recovery.new (H.outside host.new)) }
     ensures moments { (begin : Option (List ℕ)) (disk : List ℕ) → Recovers (again None) begin disk recovery.old (H.outside host.old)
@@ -29,7 +39,7 @@ fn read_all<H: Host>(recovery: &mut Recovery, host: &mut H, batch: &mut Batch) -
     ensures keeps { OnlyRecovers (H.outside host.old) (H.outside host.new) }
     ensures none { OnOk result (NoFault (H.outside host.old) (H.outside host.new)) }
     ensures hindered { IfErr result (λ status. Hinders (λ at. (begin : Option (List ℕ)) (disk : List ℕ) → Recovers (again None) begin disk recovery.old (H.outside host.old) → HasDamage at disk)
-        ⊥ ((begin : Option (List ℕ)) (disk : List ℕ) → Recovers (again None) begin disk recovery.old (H.outside host.old) → StarvesAgain None begin disk (H.outside host.new))
+        ⊥ ((begin : Option (List ℕ)) (disk : List ℕ) → Recovers (again None) begin disk recovery.old (H.outside host.old) → StarvesAgain (workers_of recovery.old.engine.evaluator) None begin disk (H.outside host.new))
         status (H.outside host.old) (H.outside host.new)) }
 {
     'batches: loop {
@@ -37,7 +47,7 @@ fn read_all<H: Host>(recovery: &mut Recovery, host: &mut H, batch: &mut Batch) -
         if !more {
             return Ok(());
         }
-        recovery.resume(host, None, batch.list())?;
+        recovery.resume(rt, host, &OpenGate, None, batch.list())?;
     }
 }
 
@@ -102,37 +112,57 @@ fn tell<H: Host>(alloc: Global, host: &mut H, recovery: &Recovery) -> Status
 }
 
 /// Room for what is read.
-fn room(alloc: Global) -> Result<(Outbox, Batch), NoMemory>
-    ensures { IfOk result (λ p. p.0 ≡ []) }
-{
-    Ok((Outbox::new(alloc)?, Batch::new(alloc)?))
+#[derive(Drop)]
+struct Room {
+    outbox: Outbox,
+    batch: Batch,
+    waiting: Round,
 }
 
-/// Reads a journal with the room that it was given.
-fn gather<H: Host>(
+impl Room {
+    fn new(alloc: Global) -> Result<Room, NoMemory>
+        ensures outbox { IfOk result (λ room. room.outbox ≡ []) }
+        ensures waiting { IfOk result (λ room. room.waiting.most ≡ BATCH_MAX) }
+    {
+        Ok(Room {
+            outbox: Outbox::new(alloc)?,
+            batch: Batch::new(alloc)?,
+            waiting: Round::new(alloc, BATCH_MAX)?,
+        })
+    }
+}
+
+/// Reads a journal, by one worker, with the room that it was given.
+fn gather<Rt: Threads + Sync, H: Host>(
+    rt: &Rt,
     alloc: Global,
     host: &mut H,
-    outbox: Outbox,
-    batch: &mut Batch,
+    room: Room,
 ) -> Result<Recovery, Status>
-    requires { outbox ≡ [] }
+    requires outbox { room.outbox ≡ [] }
+    requires waiting { BATCH_MAX ≤ room.waiting.most }
     ensures gathered { IfOk result (λ recovery. IsGathered recovery (H.outside host.old) (H.outside host.new)) }
     ensures ungathered { IfErr result (λ status. IsUngathered status (H.outside host.old) (H.outside host.new)) }
 {
-    let mut recovery = Recovery::begin(alloc, host, outbox)?;
-    read_all(&mut recovery, host, batch)?;
+    let Room {
+        outbox,
+        mut batch,
+        waiting,
+    } = room;
+    let mut recovery = Recovery::begin(alloc, host, 1, outbox, waiting)?;
+    read_all(rt, &mut recovery, host, &mut batch)?;
     Ok(recovery)
 }
 
 /// Reads a journal, and sends what it holds: how many records, how many messages they gave, how many records it takes, the
 /// last day, and how many names were ever listed. The journal and the input stay as they are.
-pub fn report<H: Host>(alloc: Global, host: &mut H) -> Status
+pub fn report<Rt: Threads + Sync, H: Host>(rt: &Rt, alloc: Global, host: &mut H) -> Status
     ensures { Reported result (H.outside host.old) (H.outside host.new) }
 {
-    let Ok((outbox, mut batch)) = room(alloc) else {
+    let Ok(room) = Room::new(alloc) else {
         return Status::NoMemory;
     };
-    match gather(alloc, host, outbox, &mut batch) {
+    match gather(rt, alloc, host, room) {
         Ok(recovery) => tell(alloc, host, &recovery),
         Err(status) => status,
     }

@@ -7,6 +7,7 @@ pub mod Blocks
 pub mod Turning
 pub mod Gathered
 pub mod Working
+pub mod Dealing
 pub mod Opening
 pub mod Taking
 pub mod WorkedJobs

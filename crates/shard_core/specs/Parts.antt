@@ -1,5 +1,5 @@
 -- What a part of a market does at a record: the stocks of a range of ids.
-use Rattle.std.specs.Prelude.{◌≡◌, ℕ, ◌+◌, ◌<◌, ◌≤◌, Bool, true, false, ◌||◌, List, [], ◌∷◌, ◌++◌, length}
+use Rattle.std.specs.Prelude.{◌≡◌, ℕ, ◌+◌, ◌-◌, ◌<◌, ◌≤◌, nat_le, nat_lt, Bool, true, false, ◌||◌, ◌&&◌, List, [], ◌∷◌, ◌++◌, length}
 use Rattle.wire_in.specs.declared.record.Record.{Record}
 use Rattle.wire_in.specs.Records.{is_day, is_tick}
 use Rattle.wire_out.specs.declared.message.Stamped.{Stamped}
@@ -35,6 +35,12 @@ TakesFor Each start last view x old new said = (length new ≡ length old) × (i
 TakesFor (One id) start last view x old new said =
     (id < start → Stays old new said) × (start + length old ≤ id → Stays old new said) × ((place : ℕ) → id ≡ start + place → place < length old → AppendsOne place view x old new [] said)
 TakesFor (New id) start last view x old new said = (last ≡ false → Stays old new said) × (last ≡ true → Adds id view x old new said)
+
+-- whether a record is for so many stocks of the ids from one on
+abbrev pub is_for : Target → ℕ → Bool → ℕ → Bool
+is_for Each start last count = true
+is_for (One id) start last count = nat_le start id && nat_lt (id - start) count
+is_for (New id) start last count = last
 
 abbrev pub Takes : ℕ → Bool → Note → List Held → List Held → List Stamped → Type 0
 Takes start last note old new said = TakesFor note.target start last note.view note.record_of old new said

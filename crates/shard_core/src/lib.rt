@@ -2,6 +2,7 @@
 //! parts in one order.
 #![tactic(auto)]
 
+mod anew;
 mod job;
 mod jobs;
 mod order;

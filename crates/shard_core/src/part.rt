@@ -4,7 +4,7 @@ ghost use Rattle.symbol_core.specs.Evaluates.{most_of_symbol};
 ghost use Rattle.rulebook.specs.Admission.{most_names};
 ghost use Rattle.market_core.specs.Applied.{AppendsBelow, AppendsOne};
 ghost use Rattle.shard_core.specs.declared.turns.Target.TheVariants as target;
-ghost use Rattle.shard_core.specs.Parts.{Adds, Stays, Takes, TakesFor, is_for_all};
+ghost use Rattle.shard_core.specs.Parts.{Adds, Stays, Takes, TakesFor, is_for, is_for_all};
 ghost use Rattle.shard_core.specs.Turns.{AreFew, PartsTell, Tells, note_of, noted};
 
 use crate::tagged::Tagged;
@@ -119,6 +119,19 @@ fn take_new(
     take_at(section, count, x, view, said)
 }
 
+/// Whether a record is for so many symbols of ids from one on: for each symbol, for one of theirs, or where they are the last
+/// ones for a new one.
+#[inline(always)]
+fn is_for(target: Target, ids: Ids, count: usize) -> bool
+    ensures { result ≡ is_for target ids.start ids.is_last count }
+{
+    match target {
+        Target::Each => true,
+        Target::One(id) => ids.start <= id as usize && id as usize - ids.start < count,
+        Target::New(_) => ids.is_last,
+    }
+}
+
 /// Takes the turn of a record over a section, and says what its symbols say at it.
 fn take_turn(
     alloc: Global,
@@ -161,7 +174,12 @@ pub fn take_turns(
 {
     told.clear();
     for input in 0..xs.len() {
-        take_turn(alloc, section, ids, &xs[input], &turns[input], said)?;
+        let x = &xs[input];
+        let turn = &turns[input];
+        if !is_for(turn.target, ids, section.len()) {
+            continue;
+        }
+        take_turn(alloc, section, ids, x, turn, said)?;
         tag(said, input as u32, told)?;
     }
     Ok(())

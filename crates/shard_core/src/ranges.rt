@@ -14,7 +14,7 @@ struct Front {
 }
 
 /// The sum of all loads.
-fn sum_of(loads: &[u32]) -> u64
+pub fn sum_of(loads: &[u32]) -> u64
     requires { length loads.now ≤ 16384 }
     ensures value { result ≡ sum loads.now }
     ensures few { result ≤ 70368744161280 }

@@ -1,8 +1,10 @@
 ghost use Rattle.std.specs.Prelude.{◌≡◌, ℕ, ◌<◌, ◌≤◌, ◌++◌, [], true, List, IfOk, OnOk, OnErr, is_ok, length};
 ghost use Rattle.wire_in.specs.declared.record.Record.{Record};
+ghost use Rattle.rulebook.specs.Admission.{most_names};
 ghost use Rattle.shard_core.specs.Block.{AreAdmissible, Represents, followed, given};
 ghost use Rattle.shard_core.specs.Turns.{AreEmpty};
 
+use crate::anew::{Counts, count, even_out};
 use crate::jobs::work_parts;
 use crate::order::merge;
 use crate::tagged::Tagged;
@@ -17,12 +19,14 @@ use wire_out::Stamped;
 use yard_core::Gate;
 
 /// One market in parts: the market's part, and sections of symbols whose ranges of ids lie one behind the other. New names
-/// belong to the last part. The room that a block needs is kept for the next one.
+/// belong to the last part. Between blocks the ranges are cut anew where their loads are uneven. The room that a block needs
+/// is kept for the next one.
 #[derive(Drop)]
 pub struct Shards {
     lead: Lead,
     parts: Vec<Section>,
     working: bool,
+    counts: Counts,
     turns: Vec<Turn>,
     said: Vec<Stamped>,
     market: Vec<Tagged>,
@@ -79,11 +83,20 @@ impl Shards {
             lead,
             parts,
             working: true,
+            counts: Counts::new(alloc),
             turns: Vec::new(alloc),
             said: Vec::new(alloc),
             market: Vec::new(alloc),
             told,
         })
+    }
+
+    /// How many names were ever listed.
+    pub fn names(&self) -> u32
+        ensures names { result ≡ length self.now.lead.directory }
+        ensures bound { result ≤ most_names }
+    {
+        self.lead.names()
     }
 
     /// Whether no block has failed. A market of which a block failed gives nothing more.
@@ -118,6 +131,7 @@ impl Shards {
             return Ok(());
         }
         self.working = false;
+        even_out(*self.said.allocator(), &mut self.parts, &mut self.counts)?;
         lead_all(
             &mut self.lead,
             xs,
@@ -125,6 +139,7 @@ impl Shards {
             &mut self.turns,
             &mut self.market,
         )?;
+        count(&self.parts, &self.turns, &mut self.counts)?;
         work_parts(
             rt,
             gate,

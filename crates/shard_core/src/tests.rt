@@ -1,5 +1,6 @@
 ghost use Rattle.std.specs.Prelude.{◌<◌, ◌≤◌};
 
+mod anew;
 mod morning;
 
 use crate::order::merge;

@@ -120,7 +120,8 @@ fn deals_out_of_order_leave_when_they_are_five_minutes_old(rt: HostRuntime) -> R
         window.reserve()?;
         window.add(deal(nanos, number)?);
     }
-    assert!(rt; !window.are_live(after(60_000_000_000)?));
+    assert!(rt; window.are_live(after(299_999_999_999)?));
+    assert!(rt; !window.are_live(after(300_000_000_000)?));
     window.advance(after(300_000_000_000)?);
     assert_eq!(rt; window.oldest(), Some(after(60_000_000_000)?));
     window.advance(after(360_000_000_000)?);

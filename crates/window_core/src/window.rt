@@ -43,8 +43,8 @@ pub struct Window {
     newest: Moment,
     is_ordered: bool,
     bounds: PriceBounds,
-    /// In nanoseconds of the day, and without an end where there are no deals. It is kept here because the first deal lies
-    /// elsewhere in memory, and to read that at each record takes longer than all else that a window is asked.
+    /// In nanoseconds of the day, and without an end where there are no deals. The first deal tells it too, but lies elsewhere
+    /// in memory, where a record that asks no more of the deals needn't look.
     until: u64,
 }
 

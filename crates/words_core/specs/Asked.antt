@@ -26,6 +26,9 @@ abbrev pub number_if_given : ℕ → ℕ → Option Text → Option (Option ℕ)
 number_if_given least most None = Some None
 number_if_given least most (Some word) = option_map (λ n. Some n) (numeral_in least most word)
 
+abbrev pub workers_in : List Row → Option ℕ
+workers_in = number_of 1 64 (codes "workers")
+
 abbrev pub bytes_in : List Row → Option ℕ
 bytes_in = number_of 1 1099511627776 (codes "bytes")
 
@@ -40,15 +43,17 @@ is_given (Some word) = bytes_eq word (codes "true")
 abbrev pub command_from : Verb → List Row → Option Command
 command_from Format rows = option_map (λ limit. commands.Format limit) (number_of 1 2000000000 (codes "limit") rows)
 command_from Serve rows =
-    option_and_then (λ from. option_and_then (λ batch. option_map (λ bytes. commands.Serve from batch bytes) (bytes_in rows)) (number_of 1 64 (codes "batch") rows))
+    option_and_then (λ from. option_and_then (λ workers. option_and_then (λ batch. option_map (λ bytes. commands.Serve from workers batch bytes)
+    (bytes_in rows)) (number_of 1 64 (codes "batch") rows)) (workers_in rows))
     (number_if_given 1 18446744073709551615 (first_of (codes "from") rows))
-command_from Replay rows = option_map (λ bytes. commands.Replay bytes) (bytes_in rows)
+command_from Replay rows = option_and_then (λ workers. option_map (λ bytes. commands.Replay workers bytes) (bytes_in rows)) (workers_in rows)
 command_from Status rows = Some commands.Status
 command_from Print rows = option_map (λ kind. commands.Print kind) (kind_in rows)
 command_from Pack rows = option_map (λ kind. commands.Pack kind) (kind_in rows)
 command_from Generate rows =
-    option_and_then (λ seed. option_and_then (λ symbols. option_map (λ records. commands.Generate seed symbols records (is_given (first_of (codes "summary") rows)))
-    (number_of 0 100000000 (codes "records") rows)) (number_of 1 16384 (codes "symbols") rows))
+    option_and_then (λ seed. option_and_then (λ symbols. option_and_then (λ records. option_map (λ workers.
+    commands.Generate seed symbols records workers (is_given (first_of (codes "summary") rows)))
+    (workers_in rows)) (number_of 0 100000000 (codes "records") rows)) (number_of 1 16384 (codes "symbols") rows))
     (number_of 0 18446744073709551615 (codes "seed") rows)
 
 abbrev pub command_found : Option (Text × List Row) → Option Command

@@ -30,9 +30,10 @@ kind_of word =
 -- the numbers of a command are in their ranges
 abbrev pub IsInRange : Command → Type 0
 IsInRange (commands.Format limit) = (1 ≤ limit) × (limit ≤ 2000000000)
-IsInRange (commands.Serve from batch bytes) = IfSome from (λ n. 1 ≤ n) × (1 ≤ batch) × (batch ≤ 64) × (1 ≤ bytes) × (bytes ≤ 1099511627776)
-IsInRange (commands.Replay bytes) = (1 ≤ bytes) × (bytes ≤ 1099511627776)
+IsInRange (commands.Serve from workers batch bytes) = IfSome from (λ n. 1 ≤ n) × (1 ≤ workers) × (workers ≤ 64) × (1 ≤ batch) × (batch ≤ 64) × (1 ≤ bytes) × (bytes ≤ 1099511627776)
+IsInRange (commands.Replay workers bytes) = (1 ≤ workers) × (workers ≤ 64) × (1 ≤ bytes) × (bytes ≤ 1099511627776)
 IsInRange commands.Status = Unit {0}
 IsInRange (commands.Print kind) = Unit {0}
 IsInRange (commands.Pack kind) = Unit {0}
-IsInRange (commands.Generate seed symbols records summary) = (1 ≤ symbols) × (symbols ≤ 16384) × (records ≤ 100000000)
+IsInRange (commands.Generate seed symbols records workers summary) =
+    (1 ≤ symbols) × (symbols ≤ 16384) × (records ≤ 100000000) × (1 ≤ workers) × (workers ≤ 64)

@@ -19,6 +19,9 @@ number_option name least most = valued name (Unsigned least most)
 abbrev pub with_default : Text → Rule → Rule
 with_default value rule = record rule { defaults = value ∷ [] }
 
+abbrev pub workers_option : Rule
+workers_option = with_default (codes "1") (number_option (codes "workers") 1 64)
+
 abbrev pub batch_option : Rule
 batch_option = with_default (codes "64") (number_option (codes "batch") 1 64)
 
@@ -37,10 +40,12 @@ abbrev pub format_line : App
 format_line = with_rule (new_app (codes "format")) (with_default (codes "100000000") (number_option (codes "limit") 1 2000000000))
 
 abbrev pub serve_line : App
-serve_line = with_rule (with_rule (with_rule (new_app (codes "serve")) (number_option (codes "from") 1 18446744073709551615)) batch_option) bytes_option
+serve_line =
+    with_rule (with_rule (with_rule (with_rule (new_app (codes "serve")) (number_option (codes "from") 1 18446744073709551615)) workers_option) batch_option)
+    bytes_option
 
 abbrev pub replay_line : App
-replay_line = with_rule (new_app (codes "replay")) bytes_option
+replay_line = with_rule (with_rule (new_app (codes "replay")) workers_option) bytes_option
 
 abbrev pub status_line : App
 status_line = new_app (codes "status")
@@ -59,7 +64,8 @@ abbrev pub records_option : Rule
 records_option = with_default (codes "400000") (number_option (codes "records") 0 100000000)
 
 abbrev pub generate_line : App
-generate_line = with_rule (with_rule (with_rule (with_rule (new_app (codes "generate")) seed_option) symbols_option) records_option) summary_option
+generate_line =
+    with_rule (with_rule (with_rule (with_rule (with_rule (new_app (codes "generate")) seed_option) symbols_option) records_option) workers_option) summary_option
 
 -- the program, of which one command is required; the words do not begin with its own name
 abbrev pub program : App

@@ -15,6 +15,7 @@ abbrev pub no_options : Options
 no_options = record {
   limit = None;
   from = None;
+  workers = None;
   batch = None;
   bytes = None;
   kind = None;
@@ -34,6 +35,9 @@ with_limit given word = option_map (λ n. record given { limit = Some n }) (once
 
 abbrev pub with_from : Options → List ℕ → Option Options
 with_from given word = option_map (λ n. record given { from = Some n }) (once given.from (number_in 1 18446744073709551615 word))
+
+abbrev pub with_workers : Options → List ℕ → Option Options
+with_workers given word = option_map (λ n. record given { workers = Some n }) (once given.workers (number_in 1 64 word))
 
 abbrev pub with_batch : Options → List ℕ → Option Options
 with_batch given word = option_map (λ n. record given { batch = Some n }) (once given.batch (number_in 1 64 word))
@@ -58,10 +62,14 @@ abbrev pub with_option : Verb → Options → List ℕ → List ℕ → Option O
 with_option Format given name word = if bytes_eq name (codes "--limit") then with_limit given word else None
 with_option Serve given name word =
     if bytes_eq name (codes "--from") then with_from given word
+    else if bytes_eq name (codes "--workers") then with_workers given word
     else if bytes_eq name (codes "--batch") then with_batch given word
     else if bytes_eq name (codes "--bytes") then with_bytes given word
     else None
-with_option Replay given name word = if bytes_eq name (codes "--bytes") then with_bytes given word else None
+with_option Replay given name word =
+    if bytes_eq name (codes "--workers") then with_workers given word
+    else if bytes_eq name (codes "--bytes") then with_bytes given word
+    else None
 with_option Status given name word = None
 with_option Print given name word = if bytes_eq name (codes "--kind") then with_kind given word else None
 with_option Pack given name word = if bytes_eq name (codes "--kind") then with_kind given word else None
@@ -69,6 +77,7 @@ with_option Generate given name word =
     if bytes_eq name (codes "--seed") then with_seed given word
     else if bytes_eq name (codes "--symbols") then with_symbols given word
     else if bytes_eq name (codes "--records") then with_records given word
+    else if bytes_eq name (codes "--workers") then with_workers given word
     else None
 
 -- the options with --summary
@@ -90,13 +99,15 @@ options_of verb given (name ∷ value ∷ words) =
 -- a command with its options, of which `--kind` has no default
 abbrev pub command_with : Verb → Options → Option Command
 command_with Format given = Some (commands.Format (unwrap_or given.limit 100000000))
-command_with Serve given = Some (commands.Serve given.from (unwrap_or given.batch 64) (unwrap_or given.bytes 1099511627776))
-command_with Replay given = Some (commands.Replay (unwrap_or given.bytes 1099511627776))
+command_with Serve given =
+    Some (commands.Serve given.from (unwrap_or given.workers 1) (unwrap_or given.batch 64) (unwrap_or given.bytes 1099511627776))
+command_with Replay given = Some (commands.Replay (unwrap_or given.workers 1) (unwrap_or given.bytes 1099511627776))
 command_with Status given = Some commands.Status
 command_with Print given = option_map (λ kind. commands.Print kind) given.kind
 command_with Pack given = option_map (λ kind. commands.Pack kind) given.kind
 command_with Generate given =
-    Some (commands.Generate (unwrap_or given.seed 1) (unwrap_or given.symbols 500) (unwrap_or given.records 400000) given.summary)
+    Some
+    (commands.Generate (unwrap_or given.seed 1) (unwrap_or given.symbols 500) (unwrap_or given.records 400000) (unwrap_or given.workers 1) given.summary)
 
 -- the command of a plain line; none where the words are no such line
 abbrev pub command_of : List (List ℕ) → Option Command
@@ -107,6 +118,7 @@ command_of (word ∷ words) = option_and_then (λ verb. option_and_then (command
 pub record IsWithin (given : Options) : Type 0 where
   pub limit : IfSome given.limit (λ n. (1 ≤ n) × (n ≤ 2000000000))
   pub from : IfSome given.from (λ n. 1 ≤ n)
+  pub workers : IfSome given.workers (λ n. (1 ≤ n) × (n ≤ 64))
   pub batch : IfSome given.batch (λ n. (1 ≤ n) × (n ≤ 64))
   pub bytes : IfSome given.bytes (λ n. (1 ≤ n) × (n ≤ 1099511627776))
   pub symbols : IfSome given.symbols (λ n. (1 ≤ n) × (n ≤ 16384))

@@ -8,6 +8,9 @@ pub const LIMIT_MAX: u64 = 2_000_000_000;
 /// The most bytes that one run reads.
 pub const BYTES_MAX: u64 = 1_099_511_627_776;
 
+/// The most workers of a run.
+pub const WORKERS_MAX: u64 = 64;
+
 /// The most frames of a batch.
 pub const BATCH_MAX: u64 = 64;
 
@@ -24,15 +27,18 @@ pub enum Command {
     Format {
         limit: u64,
     },
-    /// Serves a session that sends the messages from a number on again, where one is given, answers so many frames at most
-    /// in one batch, from 1 to 64, and reads so many bytes at most, from 1 to 1,099,511,627,776.
+    /// Serves a session that sends the messages from a number on again, where one is given, evaluates by so many workers,
+    /// from 1 to 64, answers so many frames at most in one batch, from 1 to 64, and reads so many bytes at most, from 1 to
+    /// 1,099,511,627,776.
     Serve {
         from: Option<u64>,
+        workers: u32,
         batch: u32,
         bytes: u64,
     },
-    /// Replays the input, up to so many bytes.
+    /// Replays the input by so many workers, from 1 to 64, up to so many bytes.
     Replay {
+        workers: u32,
         bytes: u64,
     },
     /// Tells what a journal holds.
@@ -46,11 +52,12 @@ pub enum Command {
         kind: Kind,
     },
     /// Generates a day of a seed with so many symbols, from 1 to 16,384, and so many records behind their listings, up to
-    /// 100,000,000; or tells counts of it alone.
+    /// 100,000,000; or tells counts of it alone, which so many workers evaluate, from 1 to 64.
     Generate {
         seed: u64,
         symbols: u32,
         records: u32,
+        workers: u32,
         summary: bool,
     },
 }

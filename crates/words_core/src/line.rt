@@ -3,9 +3,9 @@
 ghost use Rattle.std.specs.Prelude.{◌≡◌, IfOk, codes, false};
 ghost use Rattle.clap.specs.Words.{App, Rule, app_of, rule_of, new_app, with_rule, with_subcommand, shape_of};
 ghost use Rattle.clap.specs.declared.builder.command.Command.TheViews.{out-Command as fields_of};
-ghost use Rattle.words_core.specs.Line.{number_option, with_default, batch_option, bytes_option, kind_option, summary_option, format_line, serve_line, replay_line, status_line, text_line, seed_option, symbols_option, records_option, generate_line, program, with_sessions, halts_line};
+ghost use Rattle.words_core.specs.Line.{number_option, with_default, workers_option, batch_option, bytes_option, kind_option, summary_option, format_line, serve_line, replay_line, status_line, text_line, seed_option, symbols_option, records_option, generate_line, program, with_sessions, halts_line};
 
-use crate::command::{BATCH_MAX, BYTES_MAX, LIMIT_MAX, RECORDS_MAX, SYMBOLS_MAX};
+use crate::command::{BATCH_MAX, BYTES_MAX, LIMIT_MAX, RECORDS_MAX, SYMBOLS_MAX, WORKERS_MAX};
 use clap::builder::ValueParser;
 use clap::{Arg, ArgAction, Command};
 use std::alloc::{AllocError, Global};
@@ -20,6 +20,20 @@ fn number_option<'a>(alloc: Global, name: &'a str, least: u64, most: u64, help: 
         .value_name("N")
         .value_parser(ValueParser::unsigned(least, most))
         .help(help)
+}
+
+fn workers_option<'a>(alloc: Global) -> Arg<'a>
+    ensures rule { rule_of result ≡ workers_option }
+    ensures local { result.global ≡ false }
+{
+    number_option(
+        alloc,
+        "workers",
+        1,
+        WORKERS_MAX,
+        "How many workers evaluate the records, from 1 to 64",
+    )
+    .default_value("1")
 }
 
 fn batch_option<'a>(alloc: Global) -> Arg<'a>
@@ -129,6 +143,7 @@ fn serve_line<'a>(alloc: Global) -> Result<Command<'a>, AllocError>
         ),
         from,
     )?;
+    let serve = with_option(serve, workers_option(alloc))?;
     let serve = with_option(serve, batch_option(alloc))?;
     with_option(serve, bytes_option(alloc))
 }
@@ -137,14 +152,15 @@ fn replay_line<'a>(alloc: Global) -> Result<Command<'a>, AllocError>
     ensures app { IfOk result (λ c. app_of c ≡ replay_line) }
     ensures local { IfOk result (λ c. (fields_of c).has_globals ≡ false) }
 {
-    with_option(
+    let replay = with_option(
         command(
             alloc,
             "replay",
             "Sends the messages of the frames of the input, without a journal",
         ),
-        bytes_option(alloc),
-    )
+        workers_option(alloc),
+    )?;
+    with_option(replay, bytes_option(alloc))
 }
 
 fn text_line<'a>(
@@ -219,6 +235,7 @@ fn generate_line<'a>(alloc: Global) -> Result<Command<'a>, AllocError>
     let generate = with_option(generate, seed_option(alloc))?;
     let generate = with_option(generate, symbols_option(alloc))?;
     let generate = with_option(generate, records_option(alloc))?;
+    let generate = with_option(generate, workers_option(alloc))?;
     with_option(generate, summary_option(alloc))
 }
 

@@ -1,11 +1,11 @@
 //! The options of a plain line.
 
 ghost use Rattle.std.specs.Prelude.{◌≡◌, IfSome, false};
-ghost use Rattle.words_core.specs.Plain.{no_options, with_limit, with_from, with_batch, with_bytes, with_kind, with_seed, with_symbols, with_records, with_option, with_summary, command_with, IsWithin};
+ghost use Rattle.words_core.specs.Plain.{no_options, with_limit, with_from, with_workers, with_batch, with_bytes, with_kind, with_seed, with_symbols, with_records, with_option, with_summary, command_with, IsWithin};
 ghost use Rattle.words_core.specs.Commands.{IsInRange};
 
 use crate::command::{
-    BATCH_MAX, BYTES_MAX, Command, LIMIT_MAX, RECORDS_MAX, SYMBOLS_MAX, Verb, kind_of,
+    BATCH_MAX, BYTES_MAX, Command, LIMIT_MAX, RECORDS_MAX, SYMBOLS_MAX, Verb, WORKERS_MAX, kind_of,
 };
 use crate::number::number_in;
 use text_core::Kind;
@@ -15,6 +15,7 @@ use text_core::Kind;
 pub struct Options {
     limit: Option<u64>,
     from: Option<u64>,
+    workers: Option<u32>,
     batch: Option<u32>,
     bytes: Option<u64>,
     kind: Option<Kind>,
@@ -32,6 +33,7 @@ pub fn no_options() -> Options
     Options {
         limit: None,
         from: None,
+        workers: None,
         batch: None,
         bytes: None,
         kind: None,
@@ -69,6 +71,21 @@ impl Options {
         let from = number_in(word.as_bytes(), 1, u64::MAX)?;
         Some(Options {
             from: Some(from),
+            ..self
+        })
+    }
+
+    fn with_workers(self, word: &str) -> Option<Options>
+        requires { IsWithin self }
+        ensures exact { result ≡ with_workers self word.now }
+        ensures range { IfSome result IsWithin }
+    {
+        if self.workers.is_some() {
+            return None;
+        }
+        let workers = number_in(word.as_bytes(), 1, WORKERS_MAX)?;
+        Some(Options {
+            workers: Some(workers as u32),
             ..self
         })
     }
@@ -172,6 +189,7 @@ impl Options {
         match (verb, name) {
             (Verb::Format, "--limit") => self.with_limit(word),
             (Verb::Serve, "--from") => self.with_from(word),
+            (Verb::Serve | Verb::Replay | Verb::Generate, "--workers") => self.with_workers(word),
             (Verb::Serve, "--batch") => self.with_batch(word),
             (Verb::Serve | Verb::Replay, "--bytes") => self.with_bytes(word),
             (Verb::Print | Verb::Pack, "--kind") => self.with_kind(word),
@@ -209,10 +227,12 @@ impl Options {
             }),
             Verb::Serve => Some(Command::Serve {
                 from: self.from,
+                workers: self.workers.unwrap_or(1),
                 batch: self.batch.unwrap_or(64),
                 bytes: self.bytes.unwrap_or(BYTES_MAX),
             }),
             Verb::Replay => Some(Command::Replay {
+                workers: self.workers.unwrap_or(1),
                 bytes: self.bytes.unwrap_or(BYTES_MAX),
             }),
             Verb::Status => Some(Command::Status),
@@ -222,6 +242,7 @@ impl Options {
                 seed: self.seed.unwrap_or(1),
                 symbols: self.symbols.unwrap_or(500),
                 records: self.records.unwrap_or(400_000),
+                workers: self.workers.unwrap_or(1),
                 summary: self.summary,
             }),
         }

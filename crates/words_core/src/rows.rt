@@ -3,10 +3,10 @@
 ghost use Rattle.std.specs.Prelude.{◌≡◌, IfSome, ◌≤◌, codes, option_map};
 ghost use Rattle.clap.specs.Words.{found_of, first_of, rows_of, subcommand_rows_of};
 ghost use Rattle.words_core.specs.Commands.{IsInRange};
-ghost use Rattle.words_core.specs.Asked.{number_of, number_if_given, bytes_in, kind_in, is_given, command_from, command_found};
+ghost use Rattle.words_core.specs.Asked.{number_of, number_if_given, workers_in, bytes_in, kind_in, is_given, command_from, command_found};
 
 use crate::command::{
-    BATCH_MAX, BYTES_MAX, Command, LIMIT_MAX, RECORDS_MAX, SYMBOLS_MAX, Verb, kind_of,
+    BATCH_MAX, BYTES_MAX, Command, LIMIT_MAX, RECORDS_MAX, SYMBOLS_MAX, Verb, WORKERS_MAX, kind_of,
 };
 use crate::number::numeral_in;
 use clap::ArgMatches;
@@ -43,6 +43,14 @@ fn from_of(found: &ArgMatches<'_>) -> Option<Option<u64>>
     }
 }
 
+fn workers_in(found: &ArgMatches<'_>) -> Option<u32>
+    ensures exact { result ≡ workers_in (rows_of (found_of found.now)) }
+    ensures range { IfSome result (λ n. (1 ≤ n) × (n ≤ 64)) }
+{
+    let workers = number_of(found, "workers", 1, WORKERS_MAX)?;
+    Some(workers as u32)
+}
+
 fn kind_in(found: &ArgMatches<'_>) -> Option<Kind>
     ensures { result ≡ kind_in (rows_of (found_of found.now)) }
 {
@@ -74,10 +82,12 @@ fn serve_of(found: &ArgMatches<'_>) -> Option<Command>
     ensures range { IfSome result IsInRange }
 {
     let from = from_of(found)?;
+    let workers = workers_in(found)?;
     let batch = number_of(found, "batch", 1, BATCH_MAX)?;
     let bytes = number_of(found, "bytes", 1, BYTES_MAX)?;
     Some(Command::Serve {
         from,
+        workers,
         batch: batch as u32,
         bytes,
     })
@@ -87,8 +97,9 @@ fn replay_of(found: &ArgMatches<'_>) -> Option<Command>
     ensures exact { result ≡ command_from Verb.Replay (rows_of (found_of found.now)) }
     ensures range { IfSome result IsInRange }
 {
+    let workers = workers_in(found)?;
     let bytes = number_of(found, "bytes", 1, BYTES_MAX)?;
-    Some(Command::Replay { bytes })
+    Some(Command::Replay { workers, bytes })
 }
 
 fn generate_of(found: &ArgMatches<'_>) -> Option<Command>
@@ -98,10 +109,12 @@ fn generate_of(found: &ArgMatches<'_>) -> Option<Command>
     let seed = number_of(found, "seed", 0, u64::MAX)?;
     let symbols = number_of(found, "symbols", 1, SYMBOLS_MAX)?;
     let records = number_of(found, "records", 0, RECORDS_MAX)?;
+    let workers = workers_in(found)?;
     Some(Command::Generate {
         seed,
         symbols: symbols as u32,
         records: records as u32,
+        workers,
         summary: is_given(found, "summary"),
     })
 }

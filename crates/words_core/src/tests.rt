@@ -38,9 +38,20 @@ fn plain_lines_ask_for_their_commands(rt: HostRuntime) {
     assert!(rt;
         asks(
             alloc,
-            &["serve", "--bytes", "20", "--from", "7", "--batch", "64"],
+            &[
+                "serve",
+                "--bytes",
+                "20",
+                "--from",
+                "7",
+                "--batch",
+                "64",
+                "--workers",
+                "2"
+            ],
             Command::Serve {
                 from,
+                workers: 2,
                 batch: 64,
                 bytes: 20
             }
@@ -52,6 +63,7 @@ fn plain_lines_ask_for_their_commands(rt: HostRuntime) {
             &["serve"],
             Command::Serve {
                 from: None,
+                workers: 1,
                 batch: 64,
                 bytes
             }
@@ -63,12 +75,13 @@ fn plain_lines_ask_for_their_commands(rt: HostRuntime) {
             &["serve", "--batch", "1"],
             Command::Serve {
                 from: None,
+                workers: 1,
                 batch: 1,
                 bytes
             }
         )
     );
-    assert!(rt; asks(alloc, &["replay"], Command::Replay { bytes }));
+    assert!(rt; asks(alloc, &["replay"], Command::Replay { workers: 1, bytes }));
     assert!(rt; asks(alloc, &["status"], Command::Status));
     assert!(rt;
         asks(
@@ -97,6 +110,7 @@ fn a_generated_day_takes_its_options_in_any_order(rt: HostRuntime) {
         seed: 1,
         symbols: 500,
         records: 400_000,
+        workers: 1,
         summary: false,
     };
     assert!(rt; asks(alloc, &["generate"], day));
@@ -104,6 +118,7 @@ fn a_generated_day_takes_its_options_in_any_order(rt: HostRuntime) {
         seed: 0,
         symbols: 16_384,
         records: 0,
+        workers: 2,
         summary: true,
     };
     assert!(rt;
@@ -111,6 +126,8 @@ fn a_generated_day_takes_its_options_in_any_order(rt: HostRuntime) {
             alloc,
             &[
                 "generate",
+                "--workers",
+                "2",
                 "--records",
                 "0",
                 "--summary",
@@ -144,9 +161,10 @@ fn other_spellings_are_taken(rt: HostRuntime) {
     assert!(rt;
         asks(
             alloc,
-            &["serve", "--from=2", "--batch=5"],
+            &["serve", "--from=2", "--workers=3", "--batch=5"],
             Command::Serve {
                 from: Some(2),
+                workers: 3,
                 batch: 5,
                 bytes: 1_099_511_627_776
             }
@@ -164,15 +182,33 @@ fn other_spellings_are_taken(rt: HostRuntime) {
 }
 
 #[test]
+fn workers_are_told_by_their_number(rt: HostRuntime) {
+    let alloc = rt.alloc();
+    let replay = Command::Replay {
+        workers: 64,
+        bytes: 1_099_511_627_776,
+    };
+    assert!(rt; asks(alloc, &["replay", "--workers", "64"], replay));
+    assert!(rt; asks(alloc, &["replay", "--workers", "064"], replay));
+}
+
+#[test]
 fn a_generated_day_is_spelled_in_another_way(rt: HostRuntime) {
     let alloc = rt.alloc();
     let day = Command::Generate {
         seed: 5,
         symbols: 500,
         records: 400_000,
+        workers: 64,
         summary: true,
     };
-    assert!(rt; asks(alloc, &["generate", "--seed=5", "--summary"], day));
+    assert!(rt;
+        asks(
+            alloc,
+            &["generate", "--seed=5", "--workers=64", "--summary"],
+            day
+        )
+    );
 }
 
 #[test]
@@ -188,6 +224,10 @@ fn other_words_are_refused(rt: HostRuntime) {
     assert!(rt; is_refused(alloc, &["pack", "--kind", "frames"]));
     assert!(rt; is_refused(alloc, &["generate", "--symbols", "0"]));
     assert!(rt; is_refused(alloc, &["generate", "--seed", "-1"]));
+    assert!(rt; is_refused(alloc, &["serve", "--workers", "65"]));
+    assert!(rt; is_refused(alloc, &["replay", "--workers", "0"]));
+    assert!(rt; is_refused(alloc, &["generate", "--workers", "2", "--workers", "2"]));
+    assert!(rt; is_refused(alloc, &["status", "--workers", "2"]));
     assert!(rt; is_refused(alloc, &["status", "now"]));
     assert!(rt; is_refused(alloc, &["stop"]));
 }
@@ -218,6 +258,13 @@ fn help_and_the_version_are_told(rt: HostRuntime) {
             alloc,
             &["help", "generate"],
             "from 1 to 16384 [default: 500]"
+        )
+    );
+    assert!(rt;
+        tells(
+            alloc,
+            &["replay", "--help"],
+            "evaluate the records, from 1 to 64 [default: 1]"
         )
     );
 }

@@ -34,10 +34,21 @@ fn a_generated_day_is_sent_and_printed(rt: HostRuntime) -> Result<(), Fail> {
 
 #[test]
 fn a_generated_day_is_summed_up(rt: HostRuntime) -> Result<(), Fail> {
-    let words = ["generate", "--symbols", "2", "--records", "6", "--summary"];
     let lines =
         "records 9\nrefused 0\nmessages 4\nlisted 2\nstate 2\nband 0\nstraddle 0\ncollar 0\n\
         release 0\nshort 0\nbreaker 0\nmarketresume 0\n";
-    runs(&rt, &words, b"", b"", lines.as_bytes(), Status::Done)?;
+    for workers in ["1", "2", "64"] {
+        let words = [
+            "generate",
+            "--symbols",
+            "2",
+            "--records",
+            "6",
+            "--workers",
+            workers,
+            "--summary",
+        ];
+        runs(&rt, &words, b"", b"", lines.as_bytes(), Status::Done)?;
+    }
     Ok(())
 }

@@ -1,5 +1,5 @@
 // Batches of several frames: what stands in the journal, what is sent, and what a later session makes of it.
-use super::{fall, fresh, made, run, runs};
+use super::{WORKERS, fall, fresh, made, run, runs};
 use host_core::Status;
 use memory_host::MemoryHost;
 use session_core::Level;
@@ -31,11 +31,14 @@ fn journal_of(alloc: Global, batches: &[(u8, &[u8])]) -> Result<Vec<u8>, Fail> {
 fn two_frames_and_then_one_make_two_batches(rt: HostRuntime) -> Result<(), Fail> {
     let empty = made(&rt, &["format", "--limit", "3"])?;
     let day = Session::of(rt.alloc(), &fall())?;
-    let words = ["serve", "--batch", "2"];
-    let disk = runs(&rt, &words, &empty, &day.input, &day.served, Status::Done)?;
     let two = day.input.get(..34).unwrap_or(&[]);
     let one = day.input.get(34..).unwrap_or(&[]);
-    assert!(rt; disk == journal_of(rt.alloc(), &[(34, two), (14, one)])?);
+    let journal = journal_of(rt.alloc(), &[(34, two), (14, one)])?;
+    for workers in WORKERS {
+        let words = ["serve", "--workers", workers, "--batch", "2"];
+        let disk = runs(&rt, &words, &empty, &day.input, &day.served, Status::Done)?;
+        assert!(rt; disk == journal);
+    }
     Ok(())
 }
 
@@ -43,15 +46,18 @@ fn two_frames_and_then_one_make_two_batches(rt: HostRuntime) -> Result<(), Fail>
 fn a_batch_ends_with_what_one_read_gave(rt: HostRuntime) -> Result<(), Fail> {
     let empty = made(&rt, &["format", "--limit", "3"])?;
     let day = Session::of(rt.alloc(), &fall())?;
-    let mut host = MemoryHost::new(rt.alloc(), &day.input, &empty)?;
-    host.pieces(20, 7);
-    assert_eq!(rt; run(&rt, rt.alloc(), &["serve"], &mut host), Status::Done);
-    assert!(rt; host.sent() == day.served.as_slice());
     let first = day.input.get(..20).unwrap_or(&[]);
     let second = day.input.get(20..34).unwrap_or(&[]);
     let third = day.input.get(34..).unwrap_or(&[]);
-    let batches = [(20, first), (14, second), (14, third)];
-    assert!(rt; host.disk() == journal_of(rt.alloc(), &batches)?.as_slice());
+    let journal = journal_of(rt.alloc(), &[(20, first), (14, second), (14, third)])?;
+    for workers in WORKERS {
+        let mut host = MemoryHost::new(rt.alloc(), &day.input, &empty)?;
+        host.pieces(20, 7);
+        let words = ["serve", "--workers", workers];
+        assert_eq!(rt; run(&rt, rt.alloc(), &words, &mut host), Status::Done);
+        assert!(rt; host.sent() == day.served.as_slice());
+        assert!(rt; host.disk() == journal.as_slice());
+    }
     Ok(())
 }
 
@@ -73,36 +79,43 @@ fn a_batch_leaves_out_what_is_refused(rt: HostRuntime) -> Result<(), Fail> {
     ];
     let session = Session::of(rt.alloc(), &lines)?;
     let kept = Session::of(rt.alloc(), &fall())?;
-    let disk = runs(
-        &rt,
-        &["serve"],
-        &empty,
-        &session.input,
-        &session.served,
-        Status::Done,
-    )?;
-    assert!(rt; disk == journal_of(rt.alloc(), &[(48, &kept.input)])?);
+    let journal = journal_of(rt.alloc(), &[(48, &kept.input)])?;
+    let (input, sent) = (&session.input, &session.served);
+    for workers in WORKERS {
+        let words = ["serve", "--workers", workers];
+        assert!(rt; runs(&rt, &words, &empty, input, sent, Status::Done)? == journal);
+    }
     Ok(())
 }
 
-/// A day that is served in batches of a size is answered as it is told, and sent again from each message on.
+/// A journal is sent again from a message on, by so many workers. Answers all that was sent.
+fn sent_from<Rt: Abort + AllocGlobal + Threads + Sync>(
+    rt: &Rt,
+    journal: &[u8],
+    workers: &str,
+    from: &str,
+) -> Result<Vec<u8>, Fail> {
+    let mut host = MemoryHost::new(rt.alloc(), b"", journal)?;
+    let words = ["serve", "--workers", workers, "--from", from];
+    assert_eq!(rt; run(rt, rt.alloc(), &words, &mut host), Status::Done);
+    Ok(host.sent().to_vec(rt.alloc())?)
+}
+
+/// A day that is served by so many workers in batches of a size is answered as it is told, and sent again from each message on.
+/// Answers the journal.
 fn expect_size<Rt: Abort + AllocGlobal + Threads + Sync>(
     rt: &Rt,
     disk: &[u8],
+    workers: &str,
     size: &str,
     day: &Session,
-) -> Result<(), Fail> {
-    let words = ["serve", "--batch", size];
+) -> Result<Vec<u8>, Fail> {
+    let words = ["serve", "--workers", workers, "--batch", size];
     let held = runs(rt, &words, disk, &day.input, &day.served, Status::Done)?;
-    let mut host = MemoryHost::new(rt.alloc(), b"", &held)?;
-    let status = run(rt, rt.alloc(), &["serve", "--from", "1"], &mut host);
-    assert_eq!(rt; status, Status::Done);
-    assert!(rt; host.sent().starts_with(&day.replayed));
-    let mut later = MemoryHost::new(rt.alloc(), b"", &held)?;
-    let status = run(rt, rt.alloc(), &["serve", "--from", "3"], &mut later);
-    assert_eq!(rt; status, Status::Done);
-    assert!(rt; host.sent().ends_with(later.sent()));
-    Ok(())
+    let again = sent_from(rt, &held, workers, "1")?;
+    assert!(rt; again.starts_with(&day.replayed));
+    assert!(rt; again.ends_with(&sent_from(rt, &held, workers, "3")?));
+    Ok(held)
 }
 
 #[test]
@@ -112,9 +125,59 @@ fn each_size_of_batch_gets_the_same_answers(rt: HostRuntime) -> Result<(), Fail>
     for day in days.iter().take(8) {
         let session = Session::of(rt.alloc(), &day.lines)?;
         for size in SIZES {
-            expect_size(&rt, &disk, size, &session)?;
+            expect_size(&rt, &disk, "1", size, &session)?;
         }
     }
+    Ok(())
+}
+
+/// A day that is served in batches of a size by several workers leaves the journal of one.
+fn expect_journal<Rt: Abort + AllocGlobal + Threads + Sync>(
+    rt: &Rt,
+    disk: &[u8],
+    size: &str,
+    day: &Session,
+) -> Result<(), Fail> {
+    let held = expect_size(rt, disk, "1", size, day)?;
+    for workers in ["2", "3", "64"] {
+        let journal = expect_size(rt, disk, workers, size, day)?;
+        assert!(rt; journal == held, "by {workers}");
+    }
+    Ok(())
+}
+
+#[test]
+fn any_number_of_workers_gives_the_same_answers_and_journal(rt: HostRuntime) -> Result<(), Fail> {
+    let disk = fresh(&rt)?;
+    let days = worked_days(rt.alloc())?;
+    for day in days.iter().skip(8).take(2) {
+        let session = Session::of(rt.alloc(), &day.lines)?;
+        for size in SIZES {
+            expect_journal(&rt, &disk, size, &session)?;
+        }
+    }
+    Ok(())
+}
+
+/// Two records of a fall are served in batches of a size, and the third by so many workers in batches of another.
+fn go_on<Rt: Abort + AllocGlobal + Threads + Sync>(
+    rt: &Rt,
+    workers: &str,
+    first: &str,
+    then: &str,
+) -> Result<(), Fail> {
+    let alloc = rt.alloc();
+    let lines = fall();
+    let whole = lines.as_slice();
+    let disk = fresh(rt)?;
+    let day = Session::of(alloc, &whole[..2])?;
+    let words = ["serve", "--batch", first];
+    let disk = runs(rt, &words, &disk, &day.input, &day.served, Status::Done)?;
+    let rest = Session::over(alloc, 2, 0, &whole[2..])?;
+    let words = ["serve", "--workers", workers, "--batch", then];
+    let disk = runs(rt, &words, &disk, &rest.input, &rest.served, Status::Done)?;
+    let held = Session::over(alloc, 3, 1, &[])?.served;
+    runs(rt, &["serve"], &disk, b"", &held, Status::Done)?;
     Ok(())
 }
 
@@ -122,19 +185,10 @@ fn each_size_of_batch_gets_the_same_answers(rt: HostRuntime) -> Result<(), Fail>
 fn sessions_with_batches_of_different_sizes_go_on_from_one_another(
     rt: HostRuntime,
 ) -> Result<(), Fail> {
-    let alloc = rt.alloc();
-    let lines = fall();
-    let whole = lines.as_slice();
     for (first, then) in [("1", "64"), ("64", "1"), ("2", "63")] {
-        let disk = fresh(&rt)?;
-        let day = Session::of(alloc, &whole[..2])?;
-        let words = ["serve", "--batch", first];
-        let disk = runs(&rt, &words, &disk, &day.input, &day.served, Status::Done)?;
-        let rest = Session::over(alloc, 2, 0, &whole[2..])?;
-        let words = ["serve", "--batch", then];
-        let disk = runs(&rt, &words, &disk, &rest.input, &rest.served, Status::Done)?;
-        let held = Session::over(alloc, 3, 1, &[])?.served;
-        runs(&rt, &["serve"], &disk, b"", &held, Status::Done)?;
+        for workers in WORKERS {
+            go_on(&rt, workers, first, then)?;
+        }
     }
     Ok(())
 }

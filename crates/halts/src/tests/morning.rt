@@ -99,6 +99,12 @@ fn a_morning_of_500_stocks_is_served_as_it_is_replayed(rt: HostRuntime) -> Resul
     let replayed = sent_by(&rt, &["replay"], b"", &session.input)?;
     let served = sent_by(&rt, &["serve"], &fresh(&rt)?, &session.input)?;
     assert!(rt; without_acks(rt.alloc(), &served)? == replayed);
+    for workers in ["2", "64"] {
+        let words = ["replay", "--workers", workers];
+        assert!(rt; sent_by(&rt, &words, b"", &session.input)? == replayed);
+        let words = ["serve", "--workers", workers];
+        assert!(rt; sent_by(&rt, &words, &fresh(&rt)?, &session.input)? == served);
+    }
     // A greeting, and an Ack of ten bytes for each record.
     assert_eq!(rt; served.len(), replayed.len() + 18 + 10 * lines.len());
     // Each stock is listed, opens with bands, and is stopped, one is paused, and one breaker is declared.

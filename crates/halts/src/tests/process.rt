@@ -10,6 +10,7 @@ use std::rt::Files;
 use std::test::Fail;
 use std::thread::Threads;
 use test_days::Session;
+use yard_core::OpenGate;
 
 /// An input that can't be read.
 #[derive(Drop)]
@@ -48,7 +49,7 @@ where
     Rt::File: FileExt + Held,
 {
     let mut sent = Vec::new(rt.alloc());
-    let status = start(rt, rt.alloc(), args, input, &mut sent);
+    let status = start(rt, rt.alloc(), args, input, &mut sent, &OpenGate);
     assert_eq!(rt; status, want, "of {args:?}");
     Ok(sent)
 }
@@ -114,9 +115,9 @@ fn each_end_has_its_status(rt: HostRuntime) -> Result<(), Fail> {
         Status::NoJournal,
     )?;
     let replay = ["halts", "-", "replay"];
-    let unread = start(&rt, alloc, &replay, Unreadable, io::sink());
+    let unread = start(&rt, alloc, &replay, Unreadable, io::sink(), &OpenGate);
     assert_eq!(rt; unread, Status::ReadFault);
-    let unsent = start(&rt, alloc, &serve, io::empty(), Closed);
+    let unsent = start(&rt, alloc, &serve, io::empty(), Closed, &OpenGate);
     assert_eq!(rt; unsent, Status::SendFault);
     Ok(())
 }

@@ -54,8 +54,10 @@ fn in_two_sessions<Rt: Abort + AllocGlobal + Threads + Sync>(
     let again = Session::of(alloc, first)?.replayed;
     let second = Session::over(alloc, records, messages, then)?;
     let sent = [again.as_slice(), second.served.as_slice()].concat(alloc)?;
-    let words = ["serve", "--from", "1"];
-    runs(rt, &words, &disk, &second.input, &sent, Status::Done)?;
+    for workers in ["1", "2"] {
+        let words = ["serve", "--workers", workers, "--from", "1"];
+        runs(rt, &words, &disk, &second.input, &sent, Status::Done)?;
+    }
     Ok(())
 }
 

@@ -1,5 +1,5 @@
 // Worked days, replayed and served.
-use super::{fresh, run};
+use super::{WORKERS, fresh, run};
 use host_core::Status;
 use memory_host::MemoryHost;
 use std::process::Abort;
@@ -12,16 +12,17 @@ fn expect_day<Rt: Abort + AllocGlobal + Threads + Sync>(
     rt: &Rt,
     disk: &[u8],
     day: &WorkedDay,
+    workers: &str,
 ) -> Result<(), Fail> {
     let alloc = rt.alloc();
     let session = Session::of(alloc, &day.lines)?;
     let mut host = MemoryHost::new(alloc, &session.input, b"")?;
-    let status = run(rt, alloc, &["replay"], &mut host);
+    let status = run(rt, alloc, &["replay", "--workers", workers], &mut host);
     assert_eq!(rt; status, Status::Done, "{}", day.shows);
     assert!(rt; host.sent() == session.replayed.as_slice(), "{}", day.shows);
 
     let mut host = MemoryHost::new(alloc, &session.input, disk)?;
-    let status = run(rt, alloc, &["serve"], &mut host);
+    let status = run(rt, alloc, &["serve", "--workers", workers], &mut host);
     assert_eq!(rt; status, Status::Done, "{}", day.shows);
     assert!(rt; host.sent() == session.served.as_slice(), "{}", day.shows);
     Ok(())
@@ -33,7 +34,21 @@ fn each_worked_day_is_replayed_and_served_as_it_is_told(rt: HostRuntime) -> Resu
     let days = worked_days(rt.alloc())?;
     assert!(rt; !days.is_empty());
     for day in &days {
-        expect_day(&rt, &disk, day)?;
+        expect_day(&rt, &disk, day, "1")?;
+    }
+    Ok(())
+}
+
+#[test]
+fn worked_days_are_replayed_and_served_alike_by_any_number_of_workers(
+    rt: HostRuntime,
+) -> Result<(), Fail> {
+    let disk = fresh(&rt)?;
+    let days = worked_days(rt.alloc())?;
+    for day in days.iter().skip(8).take(4) {
+        for workers in WORKERS {
+            expect_day(&rt, &disk, day, workers)?;
+        }
     }
     Ok(())
 }

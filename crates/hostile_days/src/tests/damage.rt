@@ -72,7 +72,7 @@ fn batch_of(bytes: &[u8]) -> Option<(&[u8], &[u8])> {
 /// Whether each of these frames may follow those before it.
 fn may_follow<Rt: AllocGlobal + Threads + Sync>(rt: &Rt, frames: &[u8]) -> Result<bool, Fail> {
     let mut host = MemoryHost::new(rt.alloc(), frames, b"")?;
-    let status = replays(rt, &mut host);
+    let status = replays(rt, &mut host, 1);
     let sent = Sent::of(rt.alloc(), host.sent())?;
     Ok(status == Status::Done && sent.refused == 0)
 }
@@ -101,32 +101,34 @@ fn content_of<Rt: AllocGlobal + Threads + Sync>(rt: &Rt, file: &[u8]) -> Result<
     Ok(Content::Nothing)
 }
 
-/// A session over a file that it can't serve ends so, and has read no input, sent nothing and written nothing.
+/// A session of so many workers over a file that it can't serve ends so, and has read no input, sent nothing and written nothing.
 fn expect_unserved<Rt: Abort + AllocGlobal + Threads + Sync>(
     rt: &Rt,
     file: &[u8],
+    workers: u32,
     want: Status,
 ) -> Result<(), Fail> {
     let mut host = MemoryHost::new(rt.alloc(), b"\x01\x0a", file)?;
     host.fail(Call::Read, 1)?;
     host.fail(Call::Write, 1)?;
     host.fail(Call::Send, 1)?;
-    assert_eq!(rt; serves(rt, &mut host, 64, None), want);
+    assert_eq!(rt; serves(rt, &mut host, workers, 64, None), want);
     assert!(rt; host.disk() == file);
     Ok(())
 }
 
-/// A session over a file gives the messages of the records that it holds, and tells how many there are.
+/// A session of so many workers over a file gives the messages of the records that it holds, and tells how many there are.
 fn expect_served<Rt: Abort + AllocGlobal + Threads + Sync>(
     rt: &Rt,
     file: &[u8],
+    workers: u32,
     frames: &[u8],
 ) -> Result<(), Fail> {
     let mut want = MemoryHost::new(rt.alloc(), frames, b"")?;
-    assert_eq!(rt; replays(rt, &mut want), Status::Done);
+    assert_eq!(rt; replays(rt, &mut want, 1), Status::Done);
     let mut host = MemoryHost::new(rt.alloc(), b"", file)?;
     host.fail(Call::Write, 1)?;
-    assert_eq!(rt; serves(rt, &mut host, 64, Some(1)), Status::Done);
+    assert_eq!(rt; serves(rt, &mut host, workers, 64, Some(1)), Status::Done);
     let sent = Sent::of(rt.alloc(), host.sent())?;
     assert!(rt; sent.messages.as_slice() == want.sent());
     assert!(rt; sent.held == records_in(frames));
@@ -134,9 +136,10 @@ fn expect_served<Rt: Abort + AllocGlobal + Threads + Sync>(
     Ok(())
 }
 
-/// How files were taken.
+/// How files were taken by so many workers.
 #[derive(Clone, Copy)]
 struct Taken {
+    workers: u32,
     missing: u64,
     damaged: u64,
     served: u64,
@@ -152,15 +155,15 @@ impl Taken {
         match content_of(rt, file)? {
             Content::Nothing => {
                 self.missing = self.missing.saturating_add(1);
-                expect_unserved(rt, file, Status::NoJournal)
+                expect_unserved(rt, file, self.workers, Status::NoJournal)
             }
             Content::Damaged { at } => {
                 self.damaged = self.damaged.saturating_add(1);
-                expect_unserved(rt, file, Status::Damaged { at })
+                expect_unserved(rt, file, self.workers, Status::Damaged { at })
             }
             Content::Frames(frames) => {
                 self.served = self.served.saturating_add(1);
-                expect_served(rt, file, &frames)
+                expect_served(rt, file, self.workers, &frames)
             }
         }
     }
@@ -171,7 +174,7 @@ fn small<Rt: Abort + AllocGlobal + Threads + Sync>(rt: &Rt) -> Result<Vec<u8>, F
     let day = reopened_day(rt.alloc())?;
     let mut host = MemoryHost::new(rt.alloc(), &day.input, &fresh(rt.alloc(), 12)?)?;
     host.pieces(70, 4_096);
-    assert_eq!(rt; serves(rt, &mut host, 64, None), Status::Done);
+    assert_eq!(rt; serves(rt, &mut host, 1, 64, None), Status::Done);
     Ok(host.disk().to_vec(rt.alloc())?)
 }
 
@@ -190,12 +193,14 @@ fn a_journal_with_any_byte_changed_is_told_as_damaged_or_served_as_what_it_holds
 ) -> Result<(), Fail> {
     let whole = small(&rt)?;
     let mut taken = Taken {
+        workers: 1,
         missing: 0,
         damaged: 0,
         served: 0,
     };
     for at in 0..whole.len() {
         for by in [1, 2, 4, 8, 16, 32, 64, 128u8] {
+            taken.workers = if by == 1 { 2 } else { 1 };
             taken.add(&rt, &changed(rt.alloc(), &whole, at, by)?)?;
         }
     }
@@ -209,6 +214,7 @@ fn a_journal_that_is_cut_at_any_length_is_told_at_its_last_gate(
 ) -> Result<(), Fail> {
     let whole = small(&rt)?;
     let mut taken = Taken {
+        workers: 2,
         missing: 0,
         damaged: 0,
         served: 0,
@@ -228,7 +234,7 @@ fn expect_behind<Rt: Abort + AllocGlobal + Threads + Sync>(
 ) -> Result<(), Fail> {
     let longer = [file, tail].concat(rt.alloc())?;
     match content_of(rt, file)? {
-        Content::Frames(frames) => expect_served(rt, &longer, &frames),
+        Content::Frames(frames) => expect_served(rt, &longer, 2, &frames),
         _ => rt.abort(),
     }
 }

@@ -62,7 +62,7 @@ fn frames_in(stream: &[u8]) -> (u64, bool) {
     (count, !rest.is_empty())
 }
 
-/// Each frame of a stream is answered, and the same in pieces of each size.
+/// Each frame of a stream is answered, and the same by three workers and in pieces of each size.
 fn expect_answers<Rt: Abort + AllocGlobal + Threads + Sync>(
     rt: &Rt,
     stream: &[u8],
@@ -76,20 +76,26 @@ fn expect_answers<Rt: Abort + AllocGlobal + Threads + Sync>(
     };
     let disk = fresh(alloc, 1_000_000)?;
     let mut whole = MemoryHost::new(alloc, stream, &disk)?;
-    assert_eq!(rt; serves(rt, &mut whole, 64, None), want);
+    assert_eq!(rt; serves(rt, &mut whole, 1, 64, None), want);
     let served = Sent::of(alloc, whole.sent())?;
     assert_eq!(rt; served.acknowledged.saturating_add(served.refused), frames);
     let mut replayed = MemoryHost::new(alloc, stream, b"")?;
-    assert_eq!(rt; replays(rt, &mut replayed), want);
+    assert_eq!(rt; replays(rt, &mut replayed, 1), want);
     assert!(rt; Sent::of(alloc, replayed.sent())?.messages == served.messages);
+    let mut several = MemoryHost::new(alloc, stream, &disk)?;
+    assert_eq!(rt; serves(rt, &mut several, 3, 64, None), want);
+    assert!(rt; several.sent() == whole.sent() && several.disk() == whole.disk());
+    let mut several = MemoryHost::new(alloc, stream, b"")?;
+    assert_eq!(rt; replays(rt, &mut several, 3), want);
+    assert!(rt; several.sent() == replayed.sent());
     for read in PIECES {
         let mut host = MemoryHost::new(alloc, stream, &disk)?;
         host.pieces(read.max(1), 4_096);
-        assert_eq!(rt; serves(rt, &mut host, 64, None), want);
+        assert_eq!(rt; serves(rt, &mut host, 1, 64, None), want);
         assert!(rt; host.sent() == whole.sent());
         let mut host = MemoryHost::new(alloc, stream, b"")?;
         host.pieces(read.max(1), 4_096);
-        assert_eq!(rt; replays(rt, &mut host), want);
+        assert_eq!(rt; replays(rt, &mut host, 1), want);
         assert!(rt; host.sent() == replayed.sent());
     }
     Ok(())

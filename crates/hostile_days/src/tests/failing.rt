@@ -11,6 +11,7 @@ use std::thread::Threads;
 use test_days::Session;
 use test_days::lines::{at, breaker, day, tick};
 use wire_out::{Frame, get_frame};
+use yard_core::OpenGate;
 
 /// The status of a session in which such a call fails.
 fn fault_of(call: Call) -> Status {
@@ -76,7 +77,7 @@ fn failed_at<Rt: Abort + AllocGlobal + Threads + Sync>(
     let mut host = MemoryHost::new(rt.alloc(), &whole.input, &disk)?;
     host.pieces(way.read.max(1), 7);
     host.fail(call, nth.max(1))?;
-    let status = serves(rt, &mut host, way.batch, None);
+    let status = serves(rt, &mut host, 1, way.batch, None);
     assert!(rt; whole.served.starts_with(host.sent()));
     if status == Status::Done {
         assert!(rt; whole.served.as_slice() == host.sent());
@@ -84,13 +85,13 @@ fn failed_at<Rt: Abort + AllocGlobal + Threads + Sync>(
     }
     assert_eq!(rt; status, fault_of(call));
     let mut greeted = MemoryHost::new(rt.alloc(), b"", host.disk())?;
-    assert_eq!(rt; serves(rt, &mut greeted, 64, None), Status::Done);
+    assert_eq!(rt; serves(rt, &mut greeted, 1, 64, None), Status::Done);
     let held = Sent::of(rt.alloc(), greeted.sent())?
         .held
         .unwrap_or(u64::MAX);
     assert!(rt; Sent::of(rt.alloc(), host.sent())?.acknowledged <= held);
     let mut next = MemoryHost::new(rt.alloc(), behind(&whole.input, held), host.disk())?;
-    assert_eq!(rt; serves(rt, &mut next, way.batch, None), Status::Done);
+    assert_eq!(rt; serves(rt, &mut next, 1, way.batch, None), Status::Done);
     assert!(rt; behind(next.sent(), 1) == behind_records(&whole.served, held));
     Ok(true)
 }
@@ -139,7 +140,7 @@ fn all_that_one_read_gave_is_answered_before_the_next_read_fails(
     for batch in [1, 2, 64] {
         let mut host = MemoryHost::new(rt.alloc(), &whole.input, &fresh(rt.alloc(), 100)?)?;
         host.fail(Call::Read, 2)?;
-        assert_eq!(rt; serves(&rt, &mut host, batch, None), Status::ReadFault);
+        assert_eq!(rt; serves(&rt, &mut host, 1, batch, None), Status::ReadFault);
         assert!(rt; host.sent() == whole.served.as_slice());
     }
     Ok(())
@@ -160,10 +161,11 @@ fn the_frames_before_the_most_bytes_are_answered(rt: HostRuntime) -> Result<(), 
     let mut host = MemoryHost::new(alloc, &whole.input, &fresh(alloc, 100)?)?;
     let options = ServeOptions {
         from: None,
+        workers: 1,
         batch: 64,
         bytes: 21,
     };
-    let status = serve(&rt, alloc, &mut host, &options);
+    let status = serve(&rt, alloc, &mut host, &OpenGate, &options);
     assert_eq!(rt; status, Status::SessionFull);
     assert!(rt; host.sent() == first.served.as_slice());
     Ok(())

@@ -116,11 +116,11 @@ impl Refusals {
         for read in [1u32, 7, 300, 65_536] {
             let mut host = MemoryHost::new(rt.alloc(), &self.input, b"")?;
             host.pieces(read.max(1), 64);
-            assert_eq!(rt; replays(rt, &mut host), Status::Done);
+            assert_eq!(rt; replays(rt, &mut host, 1), Status::Done);
             assert!(rt; host.sent() == self.answers.as_slice());
             let mut host = MemoryHost::new(rt.alloc(), &self.input, &empty)?;
             host.pieces(read.max(1), 64);
-            assert_eq!(rt; serves(rt, &mut host, 64, None), Status::Done);
+            assert_eq!(rt; serves(rt, &mut host, 1, 64, None), Status::Done);
             assert!(rt; host.sent().get(18..) == Some(self.answers.as_slice()));
             assert!(rt; host.disk() == empty.as_slice());
             let sent = Sent::of(rt.alloc(), host.sent())?;

@@ -17,7 +17,7 @@ use wire_in::Refusal;
 const FREE_TRADE: &[u8] =
     b"\x1d\x03\0\0\x1f\x1a\xce\xd9\xf0\0\0\x07\0\0\0\x01\0\0\0\0\0\0\0\0\0\0\0\x64\0\0";
 
-/// A journal for so many records answers the lines as they say, in batches of at most so many.
+/// A journal for so many records answers the lines as they say, in batches of at most so many, by one worker and by two.
 fn expect<Rt: Abort + AllocGlobal + Threads + Sync>(
     rt: &Rt,
     limit: u64,
@@ -25,9 +25,11 @@ fn expect<Rt: Abort + AllocGlobal + Threads + Sync>(
     lines: &[Line],
 ) -> Result<(), Fail> {
     let session = Session::of(rt.alloc(), lines)?;
-    let mut host = MemoryHost::new(rt.alloc(), &session.input, &fresh(rt.alloc(), limit)?)?;
-    assert_eq!(rt; serves(rt, &mut host, batch, None), Status::Done);
-    assert!(rt; host.sent() == session.served.as_slice());
+    for workers in [1, 2] {
+        let mut host = MemoryHost::new(rt.alloc(), &session.input, &fresh(rt.alloc(), limit)?)?;
+        assert_eq!(rt; serves(rt, &mut host, workers, batch, None), Status::Done);
+        assert!(rt; host.sent() == session.served.as_slice());
+    }
     Ok(())
 }
 

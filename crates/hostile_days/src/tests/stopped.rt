@@ -11,24 +11,33 @@ use test_days::Session;
 /// What a stop may leave of each piece that was written and not yet synced.
 const PICKS: [Pick; 3] = [Pick::Old, Pick::New, Pick::Bytes(0x55)];
 
-/// How a day is served: the most frames of a batch, and the most bytes of a read.
+/// How a day is served: the workers, the most frames of a batch, and the most bytes of a read.
 #[derive(Clone, Copy)]
 struct Way {
+    workers: u32,
     batch: u32,
     read: u32,
 }
 
-/// Each record on its own, all as one batch, and a few batches of a few.
-const WAYS: [Way; 3] = [
+/// Each record on its own, all as one batch, also by two workers, and a few batches of a few.
+const WAYS: [Way; 4] = [
     Way {
+        workers: 1,
         batch: 1,
         read: 4_096,
     },
     Way {
+        workers: 1,
         batch: 64,
         read: 4_096,
     },
     Way {
+        workers: 2,
+        batch: 64,
+        read: 4_096,
+    },
+    Way {
+        workers: 1,
         batch: 64,
         read: 60,
     },
@@ -49,17 +58,18 @@ fn host_of<R: AllocGlobal>(
 /// How many records a disk holds, as a session with no input tells.
 fn held_by<Rt: Abort + AllocGlobal + Threads + Sync>(rt: &Rt, disk: &[u8]) -> Result<u64, Fail> {
     let mut host = MemoryHost::new(rt.alloc(), b"", disk)?;
-    assert_eq!(rt; serves(rt, &mut host, 64, None), Status::Done);
+    assert_eq!(rt; serves(rt, &mut host, 1, 64, None), Status::Done);
     let sent = Sent::of(rt.alloc(), host.sent())?;
     Ok(sent.held.unwrap_or(0))
 }
 
 /// Whatever a stop leaves after a session that sent these bytes holds each record that was acknowledged, and a session over it
-/// that is handed the rest of the day gives the messages of the whole day.
+/// that is handed the rest of the day, by as many workers, gives the messages of the whole day.
 fn expect_recovery<Rt: Abort + AllocGlobal + Threads + Sync>(
     rt: &Rt,
     day: &Session,
     host: &MemoryHost,
+    workers: u32,
     pick: Pick,
 ) -> Result<(), Fail> {
     let alloc = rt.alloc();
@@ -69,7 +79,7 @@ fn expect_recovery<Rt: Abort + AllocGlobal + Threads + Sync>(
     assert!(rt; before.acknowledged <= held);
     assert!(rt; day.replayed.starts_with(&before.messages));
     let mut next = MemoryHost::new(alloc, behind(&day.input, held), left.disk())?;
-    assert_eq!(rt; serves(rt, &mut next, 64, Some(1)), Status::Done);
+    assert_eq!(rt; serves(rt, &mut next, workers, 64, Some(1)), Status::Done);
     let after = Sent::of(alloc, next.sent())?;
     assert!(rt; after.messages == day.replayed);
     assert!(rt; after.held == Some(held));
@@ -86,10 +96,10 @@ fn stopped_at<Rt: Abort + AllocGlobal + Threads + Sync>(
 ) -> Result<bool, Fail> {
     let mut host = host_of(rt, day, disk, way)?;
     host.stop_at(nth.max(1));
-    let status = serves(rt, &mut host, way.batch, None);
+    let status = serves(rt, &mut host, way.workers, way.batch, None);
     assert!(rt; day.served.starts_with(host.sent()), "stopped at {nth}");
     for pick in PICKS {
-        expect_recovery(rt, day, &host, pick)?;
+        expect_recovery(rt, day, &host, way.workers, pick)?;
     }
     Ok(status != Status::Done)
 }
@@ -133,7 +143,7 @@ fn goes_on_with_writes_pending<Rt: Abort + AllocGlobal + Threads + Sync>(
     let disk = fresh(alloc, 100)?;
     let mut host = host_of(rt, day, &disk, way)?;
     host.fail(Call::Sync, sync.max(1))?;
-    let first = serves(rt, &mut host, way.batch, None);
+    let first = serves(rt, &mut host, way.workers, way.batch, None);
     assert!(rt; first == Status::Done || first == Status::DiskFault);
     let before = Sent::of(alloc, host.sent())?;
     let len = host.sent().len();
@@ -141,7 +151,7 @@ fn goes_on_with_writes_pending<Rt: Abort + AllocGlobal + Threads + Sync>(
         host.stop_at(host.calls().saturating_add(nth).max(1));
     }
     // What is left of the input may begin inside a frame.
-    let _ = serves(rt, &mut host, way.batch, None);
+    let _ = serves(rt, &mut host, way.workers, way.batch, None);
     let after = Sent::of(alloc, host.sent().get(len..).unwrap_or(&[]))?;
     assert!(rt; after.held.unwrap_or(u64::MAX) >= before.acknowledged);
     for pick in PICKS {

@@ -12,8 +12,8 @@ invariant-loop-open g l = record {
   within : l.read ≤ l.most;
   answered : l.session.answered ≤ l.read;
   buffer : 0 < length l.buffer;
-  empty : l.session.round ≡ [];
-  ready : IsReady (g.K.Keeper.has_room l.keeper (g.H.Host.outside l.host).disk) l.session;
+  empty : l.session.round.outcomes ≡ [];
+  ready : IsReady (g.K.Keeper.has_room l.keeper (g.H.Host.outside l.host).disk) g.K.Keeper.most l.session;
   polls : (start : Start) (input : List ℕ) → start.acknowledges ≡ g.K.Keeper.acknowledges → Reads (g.K.Keeper.holds l.initial.keeper) start input 0 l.initial.session (g.H.Host.outside l.initial.host)
       → Polls (g.K.Keeper.holds l.keeper) (g.K.Keeper.recovers l.initial.keeper (g.H.Host.outside l.initial.host)) start input l.most l.read l.open l.session
       (g.H.Host.outside l.initial.host) (g.H.Host.outside l.host);

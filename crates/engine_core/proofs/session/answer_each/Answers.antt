@@ -27,13 +27,14 @@ loop-outcome-preserved g c =
       number = omega (arith, c.loop-outcome.invariant.number);
       answers = λ start all same answers.
           let now = rw front at (c.loop-outcome.invariant.answers start all same answers) in
-          answers_next now _ _ _
-          (c.in_ok-answer.ensures.represents start.capacity _ _ now.waits.engine_is (admissible now))
-          (rw same at (c.in_ok-answer.ensures.pending start.capacity _ _ start.sent _ now.waits.engine_is (admissible now) now.pending_is));
+          answers_next now _ _ _ _
+          (c.in_ok-answer.ensures.represents start.capacity _ _ _ now.waits.engine_is now.ahead (admissible now))
+          (rw same at (c.in_ok-answer.ensures.pending start.capacity _ _ _ start.sent _ now.waits.engine_is now.ahead (admissible now) now.pending_is))
+          c.answer.ensures.workers (c.in_ok-answer.ensures.ahead _ now.ahead);
       moments = λ start all same answers.
           let now = rw front at (c.loop-outcome.invariant.answers start all same answers) in
           sends_next now (c.loop-outcome.invariant.moments start all same answers)
-          (rw same at (c.answer.ensures.moments start.capacity _ _ start.sent _ now.waits.engine_is (admissible now) now.pending_is));
+          (rw same at (c.answer.ensures.moments start.capacity _ _ _ start.sent _ now.waits.engine_is now.ahead (admissible now) now.pending_is));
       admission = c.answer.ensures.admission ∙ c.loop-outcome.invariant.admission;
       sound = sound_next c.answer.new.engine (rw front at c.loop-outcome.invariant.sound) c.answer.ensures.admission c.in_ok-answer.ensures.evaluated c.in_ok-answer.ensures.published
           (c.in_ok-answer.ensures.roomy c.loop-outcome.invariant.sound.roomy);
@@ -46,7 +47,7 @@ returns-in_err-answer-clause-moments g c = λ start all same answers.
     let front = drop_one c.args.outcomes.now c.loop-outcome.outcome-index c.outcome-item.result c.loop-outcome-test.true c.outcome-item.is in
     let now = rw front at (c.loop-outcome.invariant.answers start all same answers) in
     sends_next now (c.loop-outcome.invariant.moments start all same answers)
-    (rw same at (c.answer.ensures.moments start.capacity _ _ start.sent _ now.waits.engine_is (admissible now) now.pending_is))
+    (rw same at (c.answer.ensures.moments start.capacity _ _ _ start.sent _ now.waits.engine_is now.ahead (admissible now) now.pending_is))
 
 pub returns-in_err-answer-clause-starved : goal.returns-in_err-answer-clause-starved
 returns-in_err-answer-clause-starved g c = λ start all same answers is.

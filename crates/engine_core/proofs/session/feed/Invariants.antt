@@ -10,10 +10,10 @@ use Rattle.engine_core.proofs.session.feed.Given as goal
 abbrev pub invariant-loop-at : goal.invariant-loop-at
 invariant-loop-at g l = record {
   within : l.at ≤ length l.piece;
-  empty : l.session.round ≡ [];
+  empty : l.session.round.outcomes ≡ [];
   few : l.session.answered ≤ l.initial.session.answered + l.at;
   still : l.at ≡ 0 → (g.H.Host.outside l.host).sent ≡ (g.H.Host.outside l.initial.host).sent;
-  ready : IsReady (g.K.Keeper.has_room l.keeper (g.H.Host.outside l.host).disk) l.session;
+  ready : IsReady (g.K.Keeper.has_room l.keeper (g.H.Host.outside l.host).disk) g.K.Keeper.most l.session;
   serves : (start : Start) (read : List ℕ) → start.acknowledges ≡ g.K.Keeper.acknowledges → Serves (g.K.Keeper.holds l.initial.keeper) start read l.initial.session (g.H.Host.outside l.initial.host)
       → Serves (g.K.Keeper.holds l.keeper) start (read ++ take l.at l.piece) l.session (g.H.Host.outside l.host);
   moments : (start : Start) (read : List ℕ) → start.acknowledges ≡ g.K.Keeper.acknowledges → Serves (g.K.Keeper.holds l.initial.keeper) start read l.initial.session (g.H.Host.outside l.initial.host)

@@ -1,8 +1,8 @@
-use Rattle.std.proofs.Common.{◌≡◌, List, length, ap, ◌∙◌, length-append, arith}
-use Rattle.std.specs.Prelude.{vec_capacity}
+use Rattle.std.proofs.Common.{◌≡◌, length, sym, subst, ap, ◌∙◌, length-append, arith}
 use Rattle.rulebook.specs.Sent.{admitted, judged}
 use Rattle.engine_core.specs.declared.engine.Engine.{Engine}
-use Rattle.engine_core.specs.Rounds.{Outcome, records_in}
+use Rattle.engine_core.specs.Rounds.{RoundState, records_in}
+use Rattle.engine_core.specs.EngineState.{IsRoomy}
 use Rattle.engine_core.specs.Sessions.{held_after}
 use Rattle.engine_core.proofs.Rounds.{records-append}
 use Rattle.engine_core.proofs.Answering.{waits_more}
@@ -15,16 +15,17 @@ returns-clause-waits c = λ start answered all number waits.
     let is : c.judge.new.outcome ≡ judged start.capacity held body =
     c.judge.ensures.exact held waits.engine_is.admission
     ∙ (λ i. admitted (waits.engine_is.within i) held (c.decode-outcome.ensures.exact i)) in
-    waits_more waits body _ _ _ is c.push.ensures (c.admit.ensures.represents start.capacity held _ waits.engine_is)
+    waits_more waits body _ _ _ is (ap (λ (r : RoundState). r.outcomes) c.push.ensures) (c.admit.ensures.represents start.capacity held _ waits.engine_is)
+    (ap (λ (e : Engine). e.evaluator) c.admit.ensures.rest)
 
 pub returns-clause-sound : goal.returns-clause-sound
 returns-clause-sound c = λ answered sound.
-    let more = simp (records-append, length-append) at (ap (λ (o : List Outcome). length (records_in o)) c.push.ensures) in
+    let more = simp (records-append, length-append) at (ap (λ (r : RoundState). length (records_in r.outcomes)) c.push.ensures) in
     let evaluated = ap (λ (e : Engine). e.evaluated) c.admit.ensures.rest in
     record {
       within = c.admit.ensures.within sound.within;
       count = omega (arith, sound.count, c.admit.ensures.count, more, evaluated);
       few = omega (arith, sound.few, ap (λ (e : Engine). e.published) c.admit.ensures.rest, evaluated);
       small = omega (arith, sound.small, evaluated);
-      roomy = omega (arith, sound.roomy, ap (λ (e : Engine). length e.market.directory) c.admit.ensures.rest, ap (λ (e : Engine). vec_capacity e.messages) c.admit.ensures.rest);
+      roomy = subst IsRoomy (sym c.admit.ensures.rest) sound.roomy;
     }

@@ -10,7 +10,7 @@ use Rattle.engine_core.proofs.Unwritten.{still_nothing, sending}
 use Rattle.engine_core.proofs.session.settle.Goals as goal
 
 pub keep_round-requires : goal.keep_round-requires
-keep_round-requires g c = record { room = g.K.Keeper.room_for_fewer _ _ _ _ (omega (arith, c.requires.ready.sound.count)) c.requires.ready.room }
+keep_round-requires g c = record { room = g.K.Keeper.room_for_fewer _ _ _ _ (omega (arith, c.requires.ready.sound.count)) c.requires.ready.room; most = c.requires.ready.most }
 
 pub returns-in_err-keep_round-clause-moments : goal.returns-in_err-keep_round-clause-moments
 returns-in_err-keep_round-clause-moments g c = λ start read same serves. widened (c.keep_round.ensures.moments _ serves.held) _ (leaves_keeps serves _)
@@ -44,6 +44,8 @@ returns-clause-ready g c =
       room = rw c.answer_round.ensures.keeps.disk (c.in_ok-keep_round.ensures.room (next.admission.capacity - next.evaluated)
           (subst (g.K.Keeper.has_room c.args.keeper.now (g.H.Host.outside c.args.host.now).disk)
           (omega (arith, c.requires.ready.sound.count, c.requires.ready.sound.within, sound.count, same, still, none)) c.requires.ready.room));
+      some = omega (arith, c.requires.ready.some, c.answer_round.ensures.most);
+      most = omega (arith, c.requires.ready.most, c.answer_round.ensures.most);
     })
 
 pub returns-clause-keeps : goal.returns-clause-keeps

@@ -1,4 +1,4 @@
-use Rattle.live_core.proofs.Recovering.{answered_on}
+use Rattle.recovery_core.proofs.Recovering.{answered_on}
 use Rattle.report_core.proofs.Reporting.{ungathered_at_once, ungathered, gathered}
 use Rattle.report_core.proofs.holdings.gather.Goals as goal
 

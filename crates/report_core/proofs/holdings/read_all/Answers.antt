@@ -1,14 +1,18 @@
-use Rattle.std.proofs.Common.{◌≡◌, ◌∙◌, length, ap, arith}
-use Rattle.std.specs.Prelude.{None}
+use Rattle.std.proofs.Common.{◌≡◌, ◌∙◌, ℕ, length, refl, sym, ap, subst, arith}
+use Rattle.std.specs.Prelude.{All, None}
 use Rattle.host_core.proofs.Causes.{no_fault, faultless}
 use Rattle.host_core.proofs.Chains.{reads_nothing, reads_faultless}
-use Rattle.live_core.proofs.Recovering.{sends_then, reads_again, read_on, has_next, has_end, bad_form_there, only_read, only_sent, recovers_on, answered_on, hinders_on, scan_hinders}
+use Rattle.recovery_core.proofs.Recovering.{sends_then, reads_again, read_on, has_next, has_end, bad_form_there, only_read, only_sent, recovers_on, answered_on, hinders_on, scan_hinders}
+use Rattle.wire_in.specs.Spelling.{InRange}
 use Rattle.journal_core.proofs.Places.{scan_reaches}
+use Rattle.recovery_core.specs.Recoveries.{StarvesAgain}
 use Rattle.report_core.proofs.holdings.read_all.Goals as goal
 
 pub batches-init : goal.batches-init
 batches-init g c = record {
-  reading = c.requires;
+  reading = c.requires.reading;
+  workers = refl;
+  most = refl;
   advances = λ begin disk first. (first, reads_again None first (reads_nothing _ (g.met.H.Host.sent_now c.args.host.now)));
   keeps = only_read (reads_nothing _ (g.met.H.Host.sent_now c.args.host.now));
   none = no_fault _;
@@ -50,7 +54,7 @@ returns-in_err-resume-clause-hindered g c =
     c.next.ensures.at_batch c.next.ensures.batch in
     answered_on _ c.from_residual-in_err-resume.result c.from_residual-in_err-resume.ensures.1
     (hinders_on _ _ (faultless c.batches.invariant.none (reads_faultless c.next.ensures.keeps (c.next.ensures.faultless (λ is. cc c.in_ok-more.was))))
-    (λ at there begin disk first. there begin disk (next begin disk first).0) (λ missing. missing) (λ hungry begin disk first. hungry begin disk (next begin disk first).0) c.in_err-resume.ensures.hindered)
+    (λ at there begin disk first. there begin disk (next begin disk first).0) (λ missing. missing) (λ hungry begin disk first. subst (λ (n : ℕ). StarvesAgain n None begin disk (g.H.Host.outside c.resume.new.host)) c.batches.invariant.workers (hungry begin disk (next begin disk first).0)) c.in_err-resume.ensures.hindered)
 
 pub batches-preserved : goal.batches-preserved
 batches-preserved g c =
@@ -58,6 +62,8 @@ batches-preserved g c =
     c.next.ensures.at_batch c.next.ensures.batch in
     record {
       reading = c.in_ok-resume.ensures.reading;
+      workers = c.resume.ensures.workers ∙ c.batches.invariant.workers;
+      most = c.resume.ensures.most ∙ c.batches.invariant.most;
       advances = λ begin disk first.
           let at = next begin disk first in
           (c.in_ok-resume.ensures.recovers begin disk at.0, λ all covers. sends_then (at.1 all covers) (c.resume.ensures.moments begin disk at.0 all covers));
@@ -65,13 +71,17 @@ batches-preserved g c =
       none = faultless (faultless c.batches.invariant.none (reads_faultless c.next.ensures.keeps (c.next.ensures.faultless (λ is. cc c.in_ok-more.was)))) c.in_ok-resume.ensures.none;
     }
 
-pub resume-requires : goal.resume-requires
-resume-requires g c =
+pub resume-requires-clause-reading : goal.resume-requires-clause-reading
+resume-requires-clause-reading g c κs within =
     let same : length c.list.result.now ≡ length c.next.new.into = ap length c.list.ensures.records in
     record {
       of_disk = c.next.ensures.of_disk c.batches.invariant.reading.of_disk;
       capacity = c.next.ensures.capacity ∙ c.batches.invariant.reading.capacity;
       count = omega (arith, c.next.ensures.count, c.batches.invariant.reading.count, same);
       small = c.batches.invariant.reading.small;
+      all = c.batches.invariant.reading.all;
       roomy = c.batches.invariant.reading.roomy;
     }
+
+pub resume-requires-clause-ranges : goal.resume-requires-clause-ranges
+resume-requires-clause-ranges g c κs within = subst (All InRange) (sym c.list.ensures.records) c.list.ensures.ranges

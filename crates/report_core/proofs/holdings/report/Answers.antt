@@ -2,7 +2,7 @@ use Rattle.std.proofs.Common.{inr, refl}
 use Rattle.host_core.specs.declared.status.Status.TheVariants.{NoMemory}
 use Rattle.host_core.proofs.Causes.{no_fault}
 use Rattle.host_core.proofs.Chains.{reads_nothing}
-use Rattle.live_core.proofs.Recovering.{only_read, only_sent, recovers_on}
+use Rattle.recovery_core.proofs.Recovering.{only_read, only_sent, recovers_on}
 use Rattle.report_core.proofs.Reporting.{ungathered_at_once, unread_reported, told_reported}
 use Rattle.report_core.proofs.holdings.report.Goals as goal
 
@@ -22,6 +22,6 @@ returns-in-Ok-gather g c =
     c.in-Ok-gather.recovery c.in-Ok-gather.ensures.gathered c.tell.ensures.keeps c.tell.ensures.ends c.tell.ensures.tells
 
 -- it was not
-pub returns : goal.returns
-returns g c =
+pub returns-in-Err : goal.returns-in-Err
+returns-in-Err g c =
     unread_reported _ _ _ (g.met.H.Host.sent_now c.gather.new.host) (g.met.H.Host.stops_now c.gather.new.host) c.in-Err.ensures.ungathered.keeps c.in-Err.ensures.ungathered

@@ -4,12 +4,16 @@ use Rattle.rulebook.proofs.Histories.{messages-step}
 use Rattle.engine_core.proofs.engine.Engine.evaluate.Goals as goal
 
 pub returns-clause-represents : goal.returns-clause-represents
-returns-clause-represents c = λ capacity accepted evaluated s passed.
-    let gave = c.in_ok-apply.ensures.given capacity evaluated s.market passed ∙ ap (λ before. before ++ newest_messages (c.args.x.now ∷ evaluated)) c.in_ok-make_room.ensures.items in
+returns-clause-represents c = λ capacity accepted evaluated later s ahead passed.
+    let gave = c.in_ok-apply.ensures.given capacity evaluated later s.evaluator ahead passed ∙ ap (λ before. before ++ newest_messages (c.args.x.now ∷ evaluated)) c.in_ok-make_room.ensures.items in
     record {
       within = s.within;
       admission = s.admission;
-      market = c.in_ok-apply.ensures.stands capacity evaluated s.market passed;
+      evaluator = c.in_ok-apply.ensures.stands capacity evaluated later s.evaluator ahead passed;
       evaluated_is = omega (arith, s.evaluated_is);
       published = omega (arith, simp length-append at (ap length (messages-step c.args.x.now (history evaluated))), s.published, ap length gave, c.len.ensures, c.apply.new.out.ok.0);
     }
+
+pub returns-clause-messages : goal.returns-clause-messages
+returns-clause-messages c = λ capacity accepted evaluated later s ahead passed.
+    c.in_ok-apply.ensures.given capacity evaluated later s.evaluator ahead passed ∙ ap (λ before. before ++ newest_messages (c.args.x.now ∷ evaluated)) c.in_ok-make_room.ensures.items

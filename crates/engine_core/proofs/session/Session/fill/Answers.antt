@@ -12,6 +12,7 @@ loop-at-preserved c =
     record {
       within = omega (arith, c.advance-at.ensures.used.0, left, c.loop-at.invariant.within);
       few = omega (arith, c.loop-at.invariant.few, c.advance-at.ensures.more, c.advance-at.ensures.used.1, left, c.loop-at-test.true);
+      most = c.advance-at.ensures.most ∙ c.loop-at.invariant.most;
       judges = λ start answered read judges.
           rw (take_rest piece at, append_assoc, ← take-add at n piece) at
           (c.advance-at.ensures.judges start answered (read ++ take at piece) (c.loop-at.invariant.judges start answered read judges));

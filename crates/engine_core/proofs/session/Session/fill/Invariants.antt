@@ -6,9 +6,10 @@ use Rattle.engine_core.proofs.session.Session.fill.Given as goal
 abbrev pub invariant-loop-at : goal.invariant-loop-at
 invariant-loop-at l = record {
   within : l.at ≤ length l.piece;
-  few : l.from + length l.self.round ≤ l.at;
+  few : l.from + length l.self.round.outcomes ≤ l.at;
+  most : l.self.round.most ≡ l.initial.self.round.most;
   judges : (start : Start) (answered : List (List ℕ)) (read : List ℕ) → Judges start answered (read ++ take l.from l.piece) l.initial.self → Judges start answered (read ++ take l.at l.piece) l.self;
-  sound : IsSound l.initial.self.engine l.initial.self.round l.initial.self.answered → IsSound l.self.engine l.self.round l.self.answered;
+  sound : IsSound l.initial.self.engine l.initial.self.round.outcomes l.initial.self.answered → IsSound l.self.engine l.self.round.outcomes l.self.answered;
   capacity : l.self.engine.admission.capacity ≡ l.initial.self.engine.admission.capacity;
   evaluated : l.self.engine.evaluated ≡ l.initial.self.engine.evaluated;
   outbox : l.self.outbox ≡ l.initial.self.outbox;

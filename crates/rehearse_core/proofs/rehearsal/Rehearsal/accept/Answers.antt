@@ -1,15 +1,21 @@
-use Rattle.std.proofs.Common.{◌+◌, ◌∷◌, ap, ◌∙◌}
-use Rattle.rulebook.specs.Book.{messages_of}
+use Rattle.std.proofs.Common.{ap, sym, subst, [], ◌∷◌, List}
+use Rattle.wire_in.specs.declared.record.Record.{Record}
+use Rattle.stream_core.proofs.Pending.{on_ok2}
 use Rattle.engine_core.specs.declared.engine.Engine.{Engine}
 use Rattle.replay_core.specs.Replayed.{capacity}
+use Rattle.rehearse_core.specs.InternalRehearsal.{Rehearses, accepted_by}
 use Rattle.rehearse_core.proofs.Rehearsing.{one_accepted}
 use Rattle.rehearse_core.proofs.rehearsal.Rehearsal.accept.Goals as goal
 
+pub returns-then-len-self-clause-rehearses : goal.returns-then-len-self-clause-rehearses
+returns-then-len-self-clause-rehearses g c = λ all left was passed.
+    one_accepted was _ _ c.put.ensures.items passed (c.admit.ensures.represents capacity (accepted_by was) was.evaluated was.represents)
+    (ap (λ (e : Engine). e.evaluator) c.admit.ensures.rest) (ap (λ (e : Engine). e.evaluated) c.admit.ensures.rest)
+
 pub returns-clause-rehearses : goal.returns-clause-rehearses
-returns-clause-rehearses c = λ all left was passed.
-    let admitted = c.admit.ensures.represents capacity was.held was.held was.engine in
-    one_accepted was (record { engine = c.evaluate.new.self; tally = c.count.new.self }) passed
-    (c.in_ok-evaluate.ensures.represents capacity (c.args.x.now ∷ was.held) was.held admitted passed)
-    c.deref.result.now (c.deref.ensures.value ∙ c.in_ok-evaluate.ensures.messages capacity (c.args.x.now ∷ was.held) was.held admitted passed)
-    (c.count.ensures.counts (messages_of was.held) was.tally)
-    (c.in_ok-evaluate.ensures.evaluated ∙ ap (λ (engine : Engine). engine.evaluated + 1) c.admit.ensures.rest)
+returns-clause-rehearses g c = λ all left was passed.
+    let after = c.settle.new.self in
+    let waits = one_accepted was _ _ c.put.ensures.items passed (c.admit.ensures.represents capacity (accepted_by was) was.evaluated was.represents)
+    (ap (λ (e : Engine). e.evaluator) c.admit.ensures.rest) (ap (λ (e : Engine). e.evaluated) c.admit.ensures.rest) in
+    on_ok2 c.settle.result c.settle.ensures.empty (c.settle.ensures.rehearses all left waits)
+    (λ empty done. subst (λ (waiting : List Record). Rehearses all left waiting [] after.engine after.tally) (sym empty) done)

@@ -1,0 +1,31 @@
+-- One market, evaluated record by record or ahead.
+use Rattle.std.specs.Prelude.{◌≡◌, ℕ, List, [], length}
+use Rattle.wire_in.specs.declared.record.Record.{Record}
+use Rattle.market_core.specs.MarketState as markets
+use Rattle.evaluator_core.specs.declared.evaluator.Evaluator.{Evaluator}
+use Rattle.evaluator_core.specs.declared.evaluator.Evaluator.TheVariants.{One, Many}
+use Rattle.evaluator_core.specs.AheadState.{RepresentsAhead}
+
+-- it stands for the list of evaluated records, the newest first
+abbrev pub Represents : Evaluator → List Record → Type 0
+Represents (One market) evaluated = markets.Represents market evaluated
+Represents (Many block) evaluated = RepresentsAhead block evaluated
+
+-- these records, the oldest first, and no others are evaluated ahead; one worker evaluates none ahead
+abbrev pub IsAhead : Evaluator → List Record → Type 0
+IsAhead (One market) records = Unit {0}
+IsAhead (Many block) records = block.ahead ≡ records
+
+-- no record is evaluated ahead
+abbrev pub IsIdle : Evaluator → Type 0
+IsIdle evaluator = IsAhead evaluator []
+
+-- by how many workers it is evaluated
+abbrev pub workers_of : Evaluator → ℕ
+workers_of (One market) = 1
+workers_of (Many block) = length block.shards.parts
+
+-- how many names were ever listed
+abbrev pub names_of : Evaluator → ℕ
+names_of (One market) = length market.directory
+names_of (Many block) = length block.shards.lead.directory

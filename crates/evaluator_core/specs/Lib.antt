@@ -1,0 +1,3 @@
+pub mod AheadState
+pub mod Evaluating
+pub mod Leading

@@ -1,0 +1,141 @@
+// A market that evaluates a block of records ahead, and hands out their messages record by record.
+ghost use Rattle.std.specs.Prelude.{◌≡◌, ◌+◌, ◌<◌, ◌≤◌, ◌++◌, ◌∷◌, ℕ, [], List, IfOk, OnOk, length, map, vec_len, vec_capacity};
+ghost use Rattle.wire_in.specs.declared.record.Record.{Record};
+ghost use Rattle.rulebook.specs.Admission.{most_names};
+ghost use Rattle.rulebook.specs.Book.{newest_messages};
+ghost use Rattle.market_core.specs.MarketState.{most_messages};
+ghost use Rattle.shard_core.specs.Block.{AreAdmissible};
+ghost use Rattle.evaluator_core.specs.AheadState.{RepresentsAhead};
+ghost use Rattle.evaluator_core.specs.Leading.{leading};
+
+use market_core::MOST_MESSAGES;
+use price_core::NoMemory;
+use shard_core::{Shards, Tagged};
+use std::alloc::Global;
+use std::marker::Model;
+use std::snapshot::Snapshot;
+use std::thread::Threads;
+use wire_in::Record;
+use wire_out::Stamped;
+use yard_core::Gate;
+
+/// A market in several parts, and what a block of records gave that wasn't handed out yet. What the records of the block
+/// were is for contracts alone.
+#[derive(Drop)]
+pub struct Ahead {
+    shards: Shards,
+    given: Vec<Tagged>,
+    at: usize,
+    place: u32,
+    records: Snapshot<Vec<Record>>,
+}
+
+impl Model for Ahead {
+    ghost use Rattle.std.specs.Prelude.{◌<◌, ◌≤◌, drop, length};
+    ghost use Rattle.evaluator_core.specs.AheadState.{AheadState};
+
+    ghost Value = { AheadState };
+
+    ghost view = { λ block. record { shards = block.shards; place = block.place; ahead = drop block.place block.records.value.items; left = drop block.at block.given.items } };
+
+    ghost invariant = { λ block. (1 < length block.shards.parts) × (block.at ≤ length block.given.items) × (length block.records.value.items ≤ 65536) };
+}
+
+/// How many of the first messages are of the record at a place.
+fn count_of(messages: &[Tagged], place: u32) -> usize
+    ensures value { result ≡ leading place messages.now }
+    ensures within { result ≤ length messages.now }
+{
+    let mut count = 0;
+    while count < messages.len() && messages[count].input == place {
+        count += 1;
+    }
+    count
+}
+
+/// Appends messages without their places.
+fn append(messages: &[Tagged], out: &mut Vec<Stamped>)
+    requires room { vec_len out.old + length messages.now ≤ vec_capacity out.old }
+    ensures items { out.new.items ≡ out.old.items ++ map (λ message. message.stamped) messages.now }
+    ensures capacity { vec_capacity out.new ≡ vec_capacity out.old }
+{
+    for message in messages {
+        out.push_reserved(message.stamped);
+    }
+}
+
+impl Ahead {
+    /// A market of no records, in so many parts, from 2 to 64.
+    pub(crate) fn new(alloc: Global, workers: u32) -> Result<Ahead, NoMemory>
+        requires workers { (1 < workers) × (workers ≤ 64) }
+        ensures represents { IfOk result (λ block. RepresentsAhead block []) }
+        ensures idle { IfOk result (λ block. block.ahead ≡ []) }
+        ensures parts { IfOk result (λ block. length block.shards.parts ≡ workers) }
+    {
+        Ok(Ahead {
+            shards: Shards::new(alloc, workers)?,
+            given: Vec::new(alloc),
+            at: 0,
+            place: 0,
+            records: Snapshot::of(&Vec::new(alloc)),
+        })
+    }
+
+    /// How many names were ever listed.
+    pub(crate) fn names(&self) -> u32
+        ensures names { result ≡ length self.now.shards.lead.directory }
+        ensures bound { result ≤ most_names }
+    {
+        self.shards.names()
+    }
+
+    /// Evaluates a block of records ahead, when those of the block before were handed out. It fails where memory is wanting,
+    /// and after such an error it fails always.
+    pub(crate) fn prepare<Rt: Threads + Sync, G: Gate>(
+        &mut self,
+        rt: &Rt,
+        gate: &G,
+        xs: &Vec<Record>,
+    ) -> Result<(), NoMemory>
+        requires few { length xs.now.items ≤ 65536 }
+        ensures represents { (capacity : ℕ) (evaluated : List Record) → RepresentsAhead self.old evaluated → self.old.ahead ≡ [] → AreAdmissible capacity evaluated xs.now.items
+            → OnOk result (RepresentsAhead self.new evaluated) }
+        ensures ahead { OnOk result (self.new.ahead ≡ xs.now.items) }
+        ensures parts { length self.new.shards.parts ≡ length self.old.shards.parts }
+        ensures several { 1 < length self.old.shards.parts }
+    {
+        if !self.shards.working() {
+            return Err(NoMemory);
+        }
+        self.given.clear();
+        self.at = 0;
+        self.place = 0;
+        self.records = Snapshot::of(xs);
+        self.shards.block(rt, xs, gate, &mut self.given)
+    }
+
+    /// Hands out the messages of the oldest record that is evaluated ahead.
+    pub(crate) fn apply(&mut self, out: &mut Vec<Stamped>) -> Result<(), NoMemory>
+        ensures given { (x : Record) (applied later : List Record) → RepresentsAhead self.old applied → self.old.ahead ≡ x ∷ later
+            → OnOk result (out.new.items ≡ out.old.items ++ newest_messages (x ∷ applied)) }
+        ensures stands { (x : Record) (applied later : List Record) → RepresentsAhead self.old applied → self.old.ahead ≡ x ∷ later
+            → OnOk result (RepresentsAhead self.new (x ∷ applied)) }
+        ensures ahead { (x : Record) (later : List Record) → self.old.ahead ≡ x ∷ later → OnOk result (self.new.ahead ≡ later) }
+        ensures few { vec_len out.new ≤ vec_len out.old + most_messages }
+        ensures keeps_room { vec_capacity out.old ≤ vec_capacity out.new }
+        ensures parts { self.new.shards ≡ self.old.shards }
+        ensures several { 1 < length self.old.shards.parts }
+    {
+        let left = &self.given[self.at..];
+        let count = count_of(left, self.place);
+        // No record gives so many.
+        if count > MOST_MESSAGES {
+            return Err(NoMemory);
+        }
+        out.reserve(count)?;
+        append(&left[..count], out);
+        self.at += count;
+        self.place = self.place.wrapping_add(1);
+        Ok(())
+    }
+}

@@ -1,0 +1,98 @@
+ghost use Rattle.std.specs.Prelude.{◌≡◌, ◌+◌, ◌<◌, ◌≤◌, ◌++◌, ◌∷◌, ℕ, [], false, List, None, IfOk, OnOk, IsOk, length, vec_len, vec_capacity};
+ghost use Rattle.wire_in.specs.declared.record.Record.{Record};
+ghost use Rattle.wire_in.specs.Records.{name_of};
+ghost use Rattle.rulebook.specs.Admission.{most_names, verdict};
+ghost use Rattle.rulebook.specs.Book.{newest_messages};
+ghost use Rattle.market_core.specs.Kinds.{is_trade};
+ghost use Rattle.market_core.specs.MarketState.{most_messages, most_of_names};
+ghost use Rattle.shard_core.specs.Block.{AreAdmissible};
+
+use crate::ahead::Ahead;
+use market_core::Market;
+use price_core::NoMemory;
+use std::alloc::Global;
+use std::thread::Threads;
+use wire_in::Record;
+use wire_out::Stamped;
+use yard_core::Gate;
+
+/// One market: by one worker, record by record, or by several, in blocks of records that are evaluated ahead.
+#[derive(Drop)]
+pub enum Evaluator {
+    One(Market),
+    Many(Ahead),
+}
+
+impl Evaluator {
+    ghost use Rattle.evaluator_core.specs.Evaluating.{IsAhead, IsIdle, Represents, names_of, workers_of};
+
+    /// A market of no records, for so many workers, from 1 to 64.
+    pub fn new(alloc: Global, workers: u32) -> Result<Evaluator, NoMemory>
+        requires workers { (0 < workers) × (workers ≤ 64) }
+        ensures represents { IfOk result (λ evaluator. Represents evaluator []) }
+        ensures idle { IfOk result IsIdle }
+        ensures workers { IfOk result (λ evaluator. workers_of evaluator ≡ workers) }
+    {
+        if workers == 1 {
+            Ok(Evaluator::One(Market::new(alloc)?))
+        } else {
+            Ok(Evaluator::Many(Ahead::new(alloc, workers)?))
+        }
+    }
+
+    /// How many names were ever listed.
+    pub fn names(&self) -> u32
+        ensures names { result ≡ names_of self.now }
+        ensures bound { result ≤ most_names }
+    {
+        match self {
+            Evaluator::One(market) => market.names(),
+            Evaluator::Many(block) => block.names(),
+        }
+    }
+
+    /// Evaluates a block of records ahead, by as many workers as there are, each of which passes the gate before it works:
+    /// they are admissible one after the other, and each record of the block before was applied. One worker does
+    /// nothing here. At most 65,536 records. An error is want of memory; of several workers each later block fails then.
+    pub fn prepare<Rt: Threads + Sync, G: Gate>(
+        &mut self,
+        rt: &Rt,
+        gate: &G,
+        xs: &Vec<Record>,
+    ) -> Result<(), NoMemory>
+        requires few { length xs.now.items ≤ 65536 }
+        ensures represents { (capacity : ℕ) (evaluated : List Record) → Represents self.old evaluated → IsIdle self.old → AreAdmissible capacity evaluated xs.now.items
+            → OnOk result (Represents self.new evaluated) }
+        ensures ahead { IsIdle self.old → OnOk result (IsAhead self.new xs.now.items) }
+        ensures alone { workers_of self.old ≡ 1 → IsOk result × (self.new ≡ self.old) }
+        ensures workers { workers_of self.new ≡ workers_of self.old }
+    {
+        match self {
+            Evaluator::One(_) => Ok(()),
+            Evaluator::Many(block) => block.prepare(rt, gate, xs),
+        }
+    }
+
+    /// Applies a record that is admissible after the applied ones, and of several workers the oldest that is evaluated
+    /// ahead: it appends the messages of its step. One worker takes no memory where the record is neither a Listing
+    /// nor a Trade and the list has room for two messages and 16 for each name; several ones may take room in the list.
+    pub fn apply(&mut self, x: &Record, out: &mut Vec<Stamped>) -> Result<(), NoMemory>
+        ensures given { (capacity : ℕ) (applied later : List Record) → Represents self.old applied → IsAhead self.old (x.now ∷ later) → verdict capacity applied x.now ≡ None
+            → OnOk result (out.new.items ≡ out.old.items ++ newest_messages (x.now ∷ applied)) }
+        ensures stands { (capacity : ℕ) (applied later : List Record) → Represents self.old applied → IsAhead self.old (x.now ∷ later) → verdict capacity applied x.now ≡ None
+            → OnOk result (Represents self.new (x.now ∷ applied)) }
+        ensures ahead { (later : List Record) → IsAhead self.old (x.now ∷ later) → OnOk result (IsAhead self.new later) }
+        ensures few { vec_len out.new ≤ vec_len out.old + most_messages }
+        ensures room { workers_of self.old ≡ 1 → name_of x.now ≡ None → is_trade x.now ≡ false
+            → vec_len out.old + most_of_names (names_of self.old) ≤ vec_capacity out.old → IsOk result }
+        ensures keeps_room { vec_capacity out.old ≤ vec_capacity out.new }
+        ensures names { workers_of self.old ≡ 1 → name_of x.now ≡ None → names_of self.new ≡ names_of self.old }
+        ensures one_more { workers_of self.old ≡ 1 → names_of self.new ≤ names_of self.old + 1 }
+        ensures workers { workers_of self.new ≡ workers_of self.old }
+    {
+        match self {
+            Evaluator::One(market) => market.apply(x, out),
+            Evaluator::Many(block) => block.apply(out),
+        }
+    }
+}

@@ -1,0 +1,10 @@
+//! One market, evaluated record by record, or in blocks of records by several workers.
+#![tactic(auto)]
+
+mod ahead;
+mod evaluator;
+#[cfg(test)]
+mod tests;
+
+pub use ahead::Ahead;
+pub use evaluator::Evaluator;

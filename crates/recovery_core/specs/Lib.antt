@@ -1,0 +1,4 @@
+pub mod Ends
+pub mod Damage
+pub mod Starved
+pub mod Recoveries

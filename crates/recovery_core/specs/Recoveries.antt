@@ -1,0 +1,122 @@
+-- What is kept while a journal is read, and what it represents.
+use Rattle.std.specs.Prelude.{◌≡◌, ◌≢◌, ℕ, ◌+◌, ◌*◌, ◌≤◌, List, [], ◌∷◌, ◌++◌, Option, Some, None}
+use Rattle.host_core.specs.declared.status.Status.{Status}
+use Rattle.host_core.specs.declared.status.Status.TheVariants.{SendFault, DiskFault, Damaged, NoJournal, NoMemory}
+use Rattle.host_core.specs.Outside.{Outside, Elapses, IsSettled, Rose, NoFault, Continues}
+use Rattle.wire_in.specs.declared.record.Record.{Record}
+use Rattle.journal_core.specs.Layout.{LeadsTo, records_of, with_batch}
+use Rattle.journal_core.specs.Scan.{ScanState, HasRead, IsScanOf}
+use Rattle.rulebook.specs.Admission.{verdict, IsLawful}
+use Rattle.wire_out.specs.Spelling.{spelling}
+use Rattle.rulebook.specs.Sent.{hello, sent_again, spelled}
+use Rattle.shard_core.specs.Block.{AreAdmissible}
+use Rattle.evaluator_core.specs.Evaluating.{IsAhead}
+use Rattle.engine_core.specs.declared.engine.Engine.{Engine}
+use Rattle.engine_core.specs.EngineState.{Represents, IsRoomy}
+use Rattle.stream_core.specs.Pending.{Expects, SendsPrefix}
+use Rattle.recovery_core.specs.Damage.{IsDamagedAt}
+use Rattle.recovery_core.specs.Starved.{StarvedAtRecord}
+use Rattle.recovery_core.specs.declared.recovery.Recovery.{Recovery}
+
+-- the messages of these records that are asked for again, spelled
+abbrev pub again : Option ℕ → List Record → List ℕ
+again from held = spelled (sent_again from held)
+
+-- and with them all that is sent before the first frame is answered
+abbrev pub opening : Option ℕ → List Record → List ℕ
+opening from held = again from held ++ spelling (hello held)
+
+-- an engine that accepted what it evaluated, and maybe more, within the capacity of a journal
+pub record IsSmall (engine : Engine) : Type 0 where
+  pub range : engine.admission.capacity ≤ 2000000000
+  pub within : engine.admission.count ≤ engine.admission.capacity
+  pub evaluated : engine.evaluated ≤ engine.admission.count
+  pub few : engine.published ≤ 262146 * engine.evaluated
+
+-- An engine has evaluated these lawful records, for which this text is expected. Behind them it has accepted those that wait,
+-- the oldest first, and where there are several workers has evaluated them ahead.
+pub record Resumes (text : List Record → List ℕ) (capacity : ℕ) (held waiting : List Record) (begin : Option (List ℕ)) (engine : Engine) (outbox : List ℕ) (now : Outside) : Type 0 where
+  pub engine_is : Represents engine capacity (with_batch held waiting) held
+  pub ahead : IsAhead engine.evaluator waiting
+  pub lawful : IsLawful capacity held
+  pub admissible : AreAdmissible capacity held waiting
+  pub pending_is : Expects begin now.sent outbox (text held)
+
+-- these records stand behind others in a list
+pub record IsPart (records all : List Record) : Type 0 where
+  pub more : List Record
+  pub whole : more ++ records ≡ all
+
+-- wherever batches stand at the begin of the disk and the first of their records are lawful, these stand in the list
+abbrev pub Covers : List ℕ → List Record → Type 0
+Covers disk all = (capacity gate : ℕ) (batches : List (List Record)) (rest : List ℕ) (records : List Record) → LeadsTo capacity gate batches disk rest
+    → IsPart records (records_of batches) → IsLawful capacity records → IsPart records all
+
+-- of each list that covers the disk, a prefix was sent of the messages that are asked for again
+abbrev pub SendsAgain : Option ℕ → Option (List ℕ) → List ℕ → Outside → Outside → Type 0
+SendsAgain from begin disk old new = (all : List Record) → Covers disk all → Elapses old new (SendsPrefix begin (again from all) old)
+
+-- in each list that covers the disk, memory was short behind some of its first records
+abbrev pub StarvesAgain : ℕ → Option ℕ → Option (List ℕ) → List ℕ → Outside → Type 0
+StarvesAgain workers from begin disk new = (all : List Record) → Covers disk all → StarvedAtRecord workers from all begin new.sent
+
+-- the scan is of this disk, where it is known, and has counted so many records more than the engine has, which has room and has
+-- evaluated all of its own
+pub record IsReading (scan : ScanState) (engine : Engine) (waiting : ℕ) (known : Option (List ℕ)) : Type 0 where
+  pub of_disk : IsScanOf scan known
+  pub capacity : scan.capacity ≡ engine.admission.capacity
+  pub count : scan.count ≡ engine.admission.count + waiting
+  pub small : IsSmall engine
+  pub all : engine.admission.count ≡ engine.evaluated
+  pub roomy : IsRoomy engine
+
+-- nothing is pending on this disk
+pub record Rests (disk : List ℕ) (now : Outside) : Type 0 where
+  pub known : now.disk ≡ Some disk
+  pub settled : IsSettled now
+
+-- some batches of a disk that rests were read, their records resumed, and this text is expected for them
+pub record Recovers (text : List Record → List ℕ) (begin : Option (List ℕ)) (disk : List ℕ) (recovery : Recovery) (now : Outside) : Type 0 where
+  pub rests : Rests disk now
+  pub batches : List (List Record)
+  pub read : HasRead recovery.scan batches disk
+  pub resumes : Resumes text recovery.scan.capacity (records_of batches) [] begin recovery.engine recovery.outbox now
+
+-- and one batch more was read, none of whose records was accepted
+pub record Resuming (from : Option ℕ) (begin : Option (List ℕ)) (disk : List ℕ) (batch : List Record) (recovery : Recovery) (now : Outside) : Type 0 where
+  pub rests : Rests disk now
+  pub batches : List (List Record)
+  pub rest : List ℕ
+  pub leads : LeadsTo recovery.scan.capacity recovery.scan.at batches disk rest
+  pub read : HasRead recovery.scan (batches ++ batch ∷ []) disk
+  pub resumes : Resumes (again from) recovery.scan.capacity (records_of batches) [] begin recovery.engine recovery.outbox now
+
+-- An engine that had evaluated these records and no others has accepted those that were admitted of some more, the oldest
+-- first: all of them, or those before the first that may not follow.
+pub record Admits (capacity : ℕ) (held records admitted : List Record) (engine : Engine) : Type 0 where
+  pub engine_is : Represents engine capacity (with_batch held admitted) held
+  pub admissible : AreAdmissible capacity held admitted
+  pub left : List Record
+  pub parts : admitted ++ left ≡ records
+  pub refused : (x : Record) (later : List Record) → left ≡ x ∷ later → verdict capacity (with_batch held admitted) x ≢ None
+
+-- the journal is read, and messages are sent
+pub record OnlyRecovers (old new : Outside) : Type 0 where
+  pub input : new.input ≡ old.input
+  pub asks : new.asks ≡ old.asks
+  pub disk : new.disk ≡ old.disk
+  pub continues : Continues old new
+
+-- the disk is damaged there
+abbrev pub HasDamage : ℕ → List ℕ → Type 0
+HasDamage at disk = (capacity : ℕ) × (before : List Record) × IsDamagedAt capacity at before disk
+
+-- Why a journal was not read to its end: a fault whose count rose, or another reason, and then no count rose. Damage there
+-- and the want of a journal say this of the disk, and want of memory says this.
+abbrev pub Hinders : (ℕ → Type 0) → Type 0 → Type 0 → Status → Outside → Outside → Type 0
+Hinders damaged missing starved SendFault old new = Rose old.send_faults new.send_faults
+Hinders damaged missing starved DiskFault old new = Rose old.disk_faults new.disk_faults
+Hinders damaged missing starved NoMemory old new = NoFault old new × starved
+Hinders damaged missing starved NoJournal old new = NoFault old new × missing
+Hinders damaged missing starved (Damaged at) old new = NoFault old new × damaged at
+Hinders damaged missing starved status old new = ⊥

@@ -1,0 +1,298 @@
+//! The records of a journal, evaluated again from the first to the last.
+
+ghost use Rattle.std.specs.Prelude.{◌≡◌, ◌≢◌, ◌+◌, ◌<◌, ◌≤◌, ◌^◌, ◌++◌, ◌∷◌, [], ℕ, List, Option, Some, None, Err, OnOk, IfOk, IfErr, IsTrue, All, length, drop};
+ghost use Rattle.std.specs.Io.KnownBytes.{append_known};
+ghost use Rattle.host_core.specs.Outside.{Outside, NoFault, Elapses};
+ghost use Rattle.host_core.specs.Frames.{OnlySends};
+ghost use Rattle.host_core.specs.Faults.{Causes};
+ghost use Rattle.wire_in.specs.declared.record.Record.{Record};
+ghost use Rattle.wire_in.specs.Spelling.{InRange};
+ghost use Rattle.journal_core.specs.Layout.{with_batch};
+ghost use Rattle.rulebook.specs.Sent.{spelled, numbered, hello, passed_over};
+ghost use Rattle.wire_out.specs.Spelling.{spelling};
+ghost use Rattle.market_core.specs.Kinds.{TakesMemory};
+ghost use Rattle.evaluator_core.specs.Evaluating.{workers_of};
+ghost use Rattle.engine_core.specs.EngineState as engines;
+ghost use Rattle.engine_core.specs.Rounds.{records_in};
+ghost use Rattle.stream_core.specs.Pending.{Expects, SendsPrefix};
+ghost use Rattle.recovery_core.specs.Starved.{StarvedAtRecord};
+ghost use Rattle.recovery_core.specs.Recoveries.{again, IsSmall, Admits, Resumes};
+
+use engine_core::{Engine, Round, append_messages, evaluate, prepare};
+use host_core::{Fault, Host, Status};
+use journal_core::{BATCH_MAX, Batch, Scan};
+use std::alloc::Global;
+use std::thread::Threads;
+use stream_core::Outbox;
+use wire_in::Record;
+use wire_out::{Frame, Stamped};
+use yard_core::Gate;
+
+/// How many of a record's messages are not asked for again, where so many messages came before them.
+fn passed_over(from: Option<u64>, before: u64, count: usize) -> usize
+    ensures exact { result ≡ passed_over from before count }
+    ensures most { result ≤ count }
+{
+    match from {
+        None => count,
+        Some(from) => from
+            .saturating_sub(1)
+            .saturating_sub(before)
+            .min(count as u64) as usize,
+    }
+}
+
+/// Appends those of a record's messages that are asked for again.
+fn append_again<H: Host>(
+    outbox: &mut Outbox,
+    host: &mut H,
+    from: Option<u64>,
+    before: u64,
+    messages: &[Stamped],
+) -> Result<(), Fault>
+    requires { before + length messages.now < 2 ^ 64 }
+    ensures pending { (begin : Option (List ℕ)) (text : List ℕ) → Expects begin (H.outside host.old).sent outbox.old text
+        → let skipped = passed_over from before (length messages.now) in
+        OnOk result (Expects begin (H.outside host.new).sent outbox.new (text ++ spelled (numbered (before + skipped) (drop skipped messages.now)))) }
+    ensures moments { (begin : Option (List ℕ)) (text : List ℕ) → Expects begin (H.outside host.old).sent outbox.old text
+        → let skipped = passed_over from before (length messages.now) in
+        Elapses (H.outside host.old) (H.outside host.new) (SendsPrefix begin (text ++ spelled (numbered (before + skipped) (drop skipped messages.now))) (H.outside host.old)) }
+    ensures keeps { OnlySends (H.outside host.old) (H.outside host.new) }
+    ensures causes { Causes result (H.outside host.old) (H.outside host.new) }
+    ensures fault { IfErr result (λ fault. fault ≡ Fault.Send) }
+{
+    let skipped = passed_over(from, before, messages.len());
+    append_messages(outbox, host, before + skipped as u64, &messages[skipped..])
+}
+
+/// Admits records of the journal, one after the other, up to the first that may not follow. They wait in a round.
+fn admit_all(engine: &mut Engine, waiting: &mut Round, records: &[Record])
+    requires empty { waiting.old.outcomes ≡ [] }
+    requires room { length records.now ≤ waiting.old.most }
+    requires ranges { All InRange records.now }
+    requires small { IsSmall engine.old }
+    ensures admits { (capacity : ℕ) (held : List Record) → engines.Represents engine.old capacity held held
+        → Admits capacity held records.now (records_in waiting.new.outcomes) engine.new }
+    ensures rest { engine.new ≡ record engine.old { admission = engine.new.admission } }
+    ensures small { IsSmall engine.new }
+    ensures count { engine.new.admission.count ≡ engine.old.admission.count + length (records_in waiting.new.outcomes) }
+    ensures capacity { engine.new.admission.capacity ≡ engine.old.admission.capacity }
+    ensures few { length (records_in waiting.new.outcomes) ≤ length records.now }
+    ensures most { waiting.new.most ≡ waiting.old.most }
+{
+    for x in records {
+        if engine.admission.verdict(x).is_some() {
+            return;
+        }
+        engine.admit(x);
+        waiting.push(&Ok(*x));
+    }
+}
+
+/// Evaluates the oldest record of the journal that was admitted and waits, and appends its messages that are asked for again.
+fn resume_record<H: Host>(
+    engine: &mut Engine,
+    outbox: &mut Outbox,
+    host: &mut H,
+    from: Option<u64>,
+    x: &Record,
+) -> Result<(), Fault>
+    requires small { IsSmall engine.old }
+    requires some { engine.old.evaluated < engine.old.admission.count }
+    requires roomy { engines.IsRoomy engine.old }
+    ensures resumes { (capacity : ℕ) (held later : List Record) (begin : Option (List ℕ)) → Resumes (again from) capacity held (x.now ∷ later) begin engine.old outbox.old (H.outside host.old)
+        → OnOk result (Resumes (again from) capacity (x.now ∷ held) later begin engine.new outbox.new (H.outside host.new)) }
+    ensures moments { (capacity : ℕ) (held later : List Record) (begin : Option (List ℕ)) → Resumes (again from) capacity held (x.now ∷ later) begin engine.old outbox.old (H.outside host.old)
+        → Elapses (H.outside host.old) (H.outside host.new) (SendsPrefix begin (again from (x.now ∷ held)) (H.outside host.old)) }
+    ensures small { OnOk result (IsSmall engine.new) }
+    ensures evaluated { OnOk result (engine.new.evaluated ≡ engine.old.evaluated + 1) }
+    ensures roomy { OnOk result (engines.IsRoomy engine.new) }
+    ensures workers { workers_of engine.new.evaluator ≡ workers_of engine.old.evaluator }
+    ensures admission { engine.new.admission ≡ engine.old.admission }
+    ensures keeps { OnlySends (H.outside host.old) (H.outside host.new) }
+    ensures causes { Causes result (H.outside host.old) (H.outside host.new) }
+    ensures unread { result ≢ Err Fault.Read }
+    ensures starved { (capacity : ℕ) (held later : List Record) (begin : Option (List ℕ)) → Resumes (again from) capacity held (x.now ∷ later) begin engine.old outbox.old (H.outside host.old)
+        → result ≡ Err Fault.Memory → (workers_of engine.old.evaluator ≡ 1 → TakesMemory x.now) × ((H.outside host.new).sent ≡ append_known begin (again from held)) }
+{
+    let before = engine.published;
+    evaluate(engine, outbox, host, x)?;
+    append_again(outbox, host, from, before, &engine.messages)
+}
+
+/// Evaluates the records of the journal that were admitted and wait, one after the other, and appends their messages that
+/// are asked for again.
+fn resume_all<H: Host>(
+    engine: &mut Engine,
+    outbox: &mut Outbox,
+    host: &mut H,
+    from: Option<u64>,
+    records: &[Record],
+) -> Result<(), Fault>
+    requires small { IsSmall engine.old }
+    requires count { engine.old.admission.count ≡ engine.old.evaluated + length records.now }
+    requires roomy { engines.IsRoomy engine.old }
+    ensures resumes { (capacity : ℕ) (held : List Record) (begin : Option (List ℕ)) → Resumes (again from) capacity held records.now begin engine.old outbox.old (H.outside host.old)
+        → OnOk result (Resumes (again from) capacity (with_batch held records.now) [] begin engine.new outbox.new (H.outside host.new)) }
+    ensures moments { (capacity : ℕ) (held : List Record) (begin : Option (List ℕ)) → Resumes (again from) capacity held records.now begin engine.old outbox.old (H.outside host.old)
+        → Elapses (H.outside host.old) (H.outside host.new) (SendsPrefix begin (again from (with_batch held records.now)) (H.outside host.old)) }
+    ensures small { OnOk result (IsSmall engine.new) }
+    ensures all { OnOk result (engine.new.admission.count ≡ engine.new.evaluated) }
+    ensures roomy { OnOk result (engines.IsRoomy engine.new) }
+    ensures workers { workers_of engine.new.evaluator ≡ workers_of engine.old.evaluator }
+    ensures admission { engine.new.admission ≡ engine.old.admission }
+    ensures keeps { OnlySends (H.outside host.old) (H.outside host.new) }
+    ensures causes { Causes result (H.outside host.old) (H.outside host.new) }
+    ensures unread { result ≢ Err Fault.Read }
+    ensures starved { (capacity : ℕ) (held : List Record) (begin : Option (List ℕ)) → Resumes (again from) capacity held records.now begin engine.old outbox.old (H.outside host.old)
+        → result ≡ Err Fault.Memory → StarvedAtRecord (workers_of engine.old.evaluator) from (with_batch held records.now) begin (H.outside host.new).sent }
+{
+    for x in records {
+        resume_record(engine, outbox, host, from, x)?;
+    }
+    Ok(())
+}
+
+/// What is kept while a journal is read: how far it was read, the engine of the records so far, what waits to be sent, and
+/// room for the records of a batch that wait to be evaluated.
+#[derive(Drop)]
+pub struct Recovery {
+    pub scan: Scan,
+    pub engine: Engine,
+    pub outbox: Outbox,
+    pub waiting: Round,
+}
+
+impl Recovery {
+    ghost use Rattle.host_core.specs.Frames.{OnlyReadsDisk};
+    ghost use Rattle.journal_core.specs.Scan.{HasNoHeader};
+    ghost use Rattle.recovery_core.specs.Ends.{TellsNoJournal};
+    ghost use Rattle.recovery_core.specs.Recoveries.{opening, SendsAgain, HasDamage, StarvesAgain, IsReading, Recovers, Resuming, OnlyRecovers, Hinders};
+
+    /// Evaluates the records of the batch that was read last, up to the first that may not follow: they are admitted, then
+    /// evaluated ahead where there are several workers, and then answered one after the other.
+    pub fn resume<Rt: Threads + Sync, H: Host, G: Gate>(
+        &mut self,
+        rt: &Rt,
+        host: &mut H,
+        gate: &G,
+        from: Option<u64>,
+        records: &[Record],
+    ) -> Result<(), Status>
+        requires reading { IsReading self.old.scan self.old.engine (length records.now) (H.outside host.old).disk }
+        requires most { length records.now ≤ self.old.waiting.most }
+        requires ranges { All InRange records.now }
+        ensures recovers { (begin : Option (List ℕ)) (disk : List ℕ) → Resuming from begin disk records.now self.old (H.outside host.old)
+            → OnOk result (Recovers (again from) begin disk self.new (H.outside host.new)) }
+        ensures moments { (begin : Option (List ℕ)) (disk : List ℕ) → Resuming from begin disk records.now self.old (H.outside host.old)
+            → SendsAgain from begin disk (H.outside host.old) (H.outside host.new) }
+        ensures reading { OnOk result (IsReading self.new.scan self.new.engine 0 (H.outside host.new).disk) }
+        ensures scan { self.new.scan ≡ self.old.scan }
+        ensures workers { workers_of self.new.engine.evaluator ≡ workers_of self.old.engine.evaluator }
+        ensures most { self.new.waiting.most ≡ self.old.waiting.most }
+        ensures keeps { OnlySends (H.outside host.old) (H.outside host.new) }
+        ensures none { OnOk result (NoFault (H.outside host.old) (H.outside host.new)) }
+        ensures hindered { IfErr result (λ status. Hinders (λ at. (begin : Option (List ℕ)) (disk : List ℕ) → Resuming from begin disk records.now self.old (H.outside host.old) → HasDamage at disk)
+            ⊥ ((begin : Option (List ℕ)) (disk : List ℕ) → Resuming from begin disk records.now self.old (H.outside host.old)
+            → StarvesAgain (workers_of self.old.engine.evaluator) from begin disk (H.outside host.new))
+            status (H.outside host.old) (H.outside host.new)) }
+    {
+        self.waiting.clear();
+        admit_all(&mut self.engine, &mut self.waiting, records);
+        let admitted = self.waiting.accepted();
+        prepare(rt, &mut self.engine, &mut self.outbox, host, gate, admitted)?;
+        resume_all(&mut self.engine, &mut self.outbox, host, from, admitted)?;
+        if admitted.len() < records.len() {
+            return Err(Status::Damaged { at: self.scan.at() });
+        }
+        Ok(())
+    }
+
+    /// Reads a journal to its end, evaluates its batches, and appends what a session sends before its first frame is answered.
+    pub fn recover<Rt: Threads + Sync, H: Host, G: Gate>(
+        &mut self,
+        rt: &Rt,
+        host: &mut H,
+        gate: &G,
+        from: Option<u64>,
+        batch: &mut Batch,
+    ) -> Result<(), Status>
+        requires reading { IsReading self.old.scan self.old.engine 0 (H.outside host.old).disk }
+        requires most { BATCH_MAX ≤ self.old.waiting.most }
+        ensures recovers { (begin : Option (List ℕ)) (disk : List ℕ) → Recovers (again from) begin disk self.old (H.outside host.old)
+            → OnOk result (Recovers (opening from) begin disk self.new (H.outside host.new)) }
+        ensures moments { (begin : Option (List ℕ)) (disk : List ℕ) → Recovers (again from) begin disk self.old (H.outside host.old)
+            → SendsAgain from begin disk (H.outside host.old) (H.outside host.new) }
+        ensures reading { OnOk result (IsReading self.new.scan self.new.engine 0 (H.outside host.new).disk) }
+        ensures workers { workers_of self.new.engine.evaluator ≡ workers_of self.old.engine.evaluator }
+        ensures closed { OnOk result (IsTrue self.new.scan.is_closed) }
+        ensures keeps { OnlyRecovers (H.outside host.old) (H.outside host.new) }
+        ensures none { OnOk result (NoFault (H.outside host.old) (H.outside host.new)) }
+        ensures hindered { IfErr result (λ status. Hinders (λ at. (begin : Option (List ℕ)) (disk : List ℕ) → Recovers (again from) begin disk self.old (H.outside host.old) → HasDamage at disk)
+            ⊥ ((begin : Option (List ℕ)) (disk : List ℕ) → Recovers (again from) begin disk self.old (H.outside host.old)
+            → StarvesAgain (workers_of self.old.engine.evaluator) from begin disk (H.outside host.new))
+            status (H.outside host.old) (H.outside host.new)) }
+    {
+        'batches: loop {
+            let more = self.scan.next(host, batch)?;
+            if !more {
+                greet(&self.engine, &mut self.outbox, host)?;
+                return Ok(());
+            }
+            self.resume(rt, host, gate, from, batch.list())?;
+        }
+    }
+
+    /// Begins at the header of a journal, for so many workers, from 1 to 64. The round has room for a batch.
+    pub fn begin<H: Host>(
+        alloc: Global,
+        host: &mut H,
+        workers: u32,
+        outbox: Outbox,
+        waiting: Round,
+    ) -> Result<Recovery, Status>
+        requires workers { (1 ≤ workers) × (workers ≤ 64) }
+        requires outbox { outbox ≡ [] }
+        ensures recovers { IfOk result (λ recovery. (from : Option ℕ) (disk : List ℕ) → (H.outside host.new).disk ≡ Some disk
+            → Recovers (again from) (H.outside host.new).sent disk recovery (H.outside host.new)) }
+        ensures reading { IfOk result (λ recovery. IsReading recovery.scan recovery.engine 0 (H.outside host.new).disk) }
+        ensures workers { IfOk result (λ recovery. workers_of recovery.engine.evaluator ≡ workers) }
+        ensures waiting { IfOk result (λ recovery. recovery.waiting ≡ waiting) }
+        ensures header { OnOk result ((disk : List ℕ) → (H.outside host.new).disk ≡ Some disk → ¬ HasNoHeader disk) }
+        ensures kind { IfErr result TellsNoJournal }
+        ensures keeps { OnlyReadsDisk (H.outside host.old) (H.outside host.new) }
+        ensures none { OnOk result (NoFault (H.outside host.old) (H.outside host.new)) }
+        ensures hindered { IfErr result (λ status. Hinders (λ _. ⊥) ((disk : List ℕ) → (H.outside host.new).disk ≡ Some disk → HasNoHeader disk)
+            (host.new ≡ host.old) status (H.outside host.old) (H.outside host.new)) }
+    {
+        let Ok(mut engine) = Engine::new(alloc, 0, workers) else {
+            return Err(Status::NoMemory);
+        };
+        let scan = Scan::begin(alloc, host)?;
+        engine.limit(scan.limit());
+        Ok(Recovery {
+            scan,
+            engine,
+            outbox,
+            waiting,
+        })
+    }
+}
+
+/// Appends the first frame of a session, which tells how many records and messages there are.
+fn greet<H: Host>(engine: &Engine, outbox: &mut Outbox, host: &mut H) -> Result<(), Fault>
+    ensures pending { (capacity : ℕ) (held : List Record) (begin : Option (List ℕ)) (text : List ℕ) → engines.Represents engine.now capacity held held
+        → Expects begin (H.outside host.old).sent outbox.old text
+        → OnOk result (Expects begin (H.outside host.new).sent outbox.new (text ++ spelling (hello held))) }
+    ensures moments { (begin : Option (List ℕ)) (text : List ℕ) → Expects begin (H.outside host.old).sent outbox.old text
+        → Elapses (H.outside host.old) (H.outside host.new) (SendsPrefix begin text (H.outside host.old)) }
+    ensures keeps { OnlySends (H.outside host.old) (H.outside host.new) }
+    ensures causes { Causes result (H.outside host.old) (H.outside host.new) }
+    ensures fault { IfErr result (λ fault. fault ≡ Fault.Send) }
+{
+    let hello = Frame::Hello {
+        inputs: engine.evaluated,
+        messages: engine.published,
+    };
+    outbox.append(host, &hello)
+}

@@ -1,0 +1,197 @@
+// Ranges of ids that are cut anew between blocks, by the records that the ids had.
+ghost use Rattle.std.specs.Prelude.{◌≡◌, ◌<◌, ◌≤◌, IfOk, OnOk, flat_map, length};
+ghost use Rattle.rulebook.specs.Admission.{most_names};
+ghost use Rattle.shard_core.specs.Turns.{AreFew};
+
+use crate::ranges::{cut, sum_of};
+use crate::turns::{Target, Turn};
+use market_core::Section;
+use price_core::NoMemory;
+use rulebook::MOST_NAMES;
+use std::alloc::Global;
+
+/// How many records each id had since the ranges were last looked at, and how many all records were.
+#[derive(Drop)]
+pub struct Counts {
+    of_ids: Vec<u32>,
+    records: usize,
+    ghost few: { length of_ids.items ≤ 16384 },
+}
+
+/// Counts a record of an id.
+fn add(loads: &mut [u32], id: u16)
+    ensures { length loads.new ≡ length loads.old }
+{
+    let id = id as usize;
+    if id < loads.len() {
+        loads[id] = loads[id].saturating_add(1);
+    }
+}
+
+/// Begins to count the records of the next id, with its listing.
+fn begin(loads: &mut Vec<u32>) -> Result<(), NoMemory>
+    requires { length loads.old.items ≤ 16384 }
+    ensures { length loads.new.items ≤ 16384 }
+{
+    if loads.len() < MOST_NAMES {
+        loads.reserve(1)?;
+        loads.push_reserved(1);
+    }
+    Ok(())
+}
+
+impl Counts {
+    /// No records.
+    pub fn new(alloc: Global) -> Counts {
+        Counts {
+            of_ids: Vec::new(alloc),
+            records: 0,
+        }
+    }
+
+    /// Counts the records of a block that are of one id each. An error leaves some of them counted.
+    fn count(&mut self, turns: &[Turn]) -> Result<(), NoMemory> {
+        for turn in turns {
+            match turn.target {
+                Target::Each => {}
+                Target::One(id) => add(&mut self.of_ids, id),
+                Target::New(_) => begin(&mut self.of_ids)?,
+            }
+        }
+        self.records = self.records.saturating_add(turns.len());
+        Ok(())
+    }
+
+    /// Forgets the records of each id.
+    fn forget(&mut self) {
+        self.of_ids.fill(0);
+        self.records = 0;
+    }
+}
+
+/// Counts the records of a block that are of one id each, where there are several parts.
+pub fn count(parts: &[Section], turns: &[Turn], counts: &mut Counts) -> Result<(), NoMemory> {
+    if parts.len() < 2 {
+        return Ok(());
+    }
+    counts.count(turns)
+}
+
+/// The upper ends of the ranges of several parts.
+fn ends_of(alloc: Global, parts: &[Section]) -> Result<Vec<u32>, NoMemory> {
+    let mut ends = Vec::new(alloc);
+    let mut end = 0u32;
+    for part in parts {
+        end = end.saturating_add(part.len().min(MOST_NAMES) as u32);
+        ends.push(end)?;
+    }
+    Ok(ends)
+}
+
+/// The greatest load of a range, of several ones with these upper ends.
+fn greatest_of(ends: &[u32], loads: &[u32]) -> u64
+    requires { length loads.now ≤ 16384 }
+    ensures few { result ≤ 70368744161280 }
+{
+    let mut greatest = 0;
+    let mut start = 0;
+    for end in ends {
+        let end = (*end as usize).min(loads.len()).max(start);
+        greatest = sum_of(&loads[start..end]).max(greatest);
+        start = end;
+    }
+    greatest
+}
+
+/// Whether the greatest load of a range becomes a fifth smaller.
+fn is_evener(anew: &[u32], ends: &[u32], loads: &[u32]) -> bool
+    requires { length loads.now ≤ 16384 }
+{
+    5 * greatest_of(anew, loads) < 4 * greatest_of(ends, loads)
+}
+
+/// All stocks of several parts, in their order. The parts are left with none.
+fn gather(alloc: Global, parts: &mut [Section]) -> Result<Section, NoMemory>
+    requires few { AreFew parts.old }
+    ensures all { IfOk result (λ all. all.symbols ≡ flat_map (λ part. part.symbols) parts.old) }
+    ensures parts { length parts.new ≡ length parts.old }
+    ensures few { AreFew parts.new }
+{
+    let mut all = Section::new(alloc)?;
+    for k in 0..parts.len() {
+        all.append(&mut parts[k])?;
+    }
+    Ok(all)
+}
+
+/// Deals stocks out to parts in their order, to each of them up to its end.
+fn deal(all: Section, ends: &[u32], parts: &mut [Section]) -> Result<(), NoMemory>
+    requires some { 0 < length parts.old }
+    requires ends { length ends.now ≡ length parts.old }
+    requires stocks { length all.symbols ≤ most_names }
+    requires few { AreFew parts.old }
+    ensures all { OnOk result (flat_map (λ part. part.symbols) parts.new ≡ all.symbols) }
+    ensures parts { length parts.new ≡ length parts.old }
+    ensures few { AreFew parts.new }
+{
+    let mut left = all;
+    let mut k = parts.len() - 1;
+    while 0 < k {
+        let end = (ends[k - 1] as usize).min(left.len());
+        parts[k] = left.split_off(end)?;
+        k -= 1;
+    }
+    parts[0] = left;
+    Ok(())
+}
+
+/// Cuts several parts anew at these upper ends. They have the same stocks in the same order then.
+fn cut_at(alloc: Global, parts: &mut [Section], ends: &[u32]) -> Result<(), NoMemory>
+    requires some { 0 < length parts.old }
+    requires ends { length ends.now ≡ length parts.old }
+    requires few { AreFew parts.old }
+    ensures stocks { OnOk result (flat_map (λ part. part.symbols) parts.new ≡ flat_map (λ part. part.symbols) parts.old) }
+    ensures parts { length parts.new ≡ length parts.old }
+    ensures few { AreFew parts.new }
+{
+    let all = gather(alloc, parts)?;
+    if all.len() > MOST_NAMES {
+        return Err(NoMemory);
+    }
+    deal(all, ends, parts)
+}
+
+/// Cuts the ranges of several parts anew by the loads of the ids, where that makes the greatest load of a part smaller by a
+/// fifth.
+fn cut_anew(alloc: Global, parts: &mut [Section], loads: &[u32]) -> Result<(), NoMemory>
+    requires parts { (0 < length parts.old) × (length parts.old ≤ 64) }
+    requires few { AreFew parts.old }
+    requires loads { length loads.now ≤ 16384 }
+    ensures stocks { OnOk result (flat_map (λ part. part.symbols) parts.new ≡ flat_map (λ part. part.symbols) parts.old) }
+    ensures parts { length parts.new ≡ length parts.old }
+    ensures few { AreFew parts.new }
+{
+    let anew = cut(alloc, loads, parts.len() as u32)?;
+    let ends = ends_of(alloc, parts)?;
+    if !is_evener(&anew, &ends, loads) {
+        return Ok(());
+    }
+    cut_at(alloc, parts, &anew)
+}
+
+/// Evens out the loads of several parts: each has the stocks of a range of ids as before, and all of them the same stocks in
+/// the same order. It looks at the loads once in as many records as there are ids.
+pub fn even_out(alloc: Global, parts: &mut [Section], counts: &mut Counts) -> Result<(), NoMemory>
+    requires parts { (0 < length parts.old) × (length parts.old ≤ 64) }
+    requires few { AreFew parts.old }
+    ensures stocks { OnOk result (flat_map (λ part. part.symbols) parts.new ≡ flat_map (λ part. part.symbols) parts.old) }
+    ensures parts { length parts.new ≡ length parts.old }
+    ensures few { AreFew parts.new }
+{
+    if parts.len() < 2 || counts.records < counts.of_ids.len() {
+        return Ok(());
+    }
+    cut_anew(alloc, parts, &counts.of_ids)?;
+    counts.forget();
+    Ok(())
+}
