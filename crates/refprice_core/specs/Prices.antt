@@ -38,6 +38,16 @@ abbrev pub observed : ℕ → Option Adoption → ℕ → Option ℕ → Option 
 observed begun None t offered mean = because First (first_price begun t offered mean)
 observed begun (Some last) t offered mean = because Moved (moved_price last t mean)
 
+-- from when on a mean can be a new reference price: the first one from five minutes after the run's begin on, another from
+-- 30 seconds after the last
+abbrev pub awaits_from : ℕ → Option Adoption → ℕ
+awaits_from begun None = begun + five_minutes
+awaits_from begun (Some last) = last.moment + thirty_seconds
+
+-- whether a mean can be one at t
+abbrev pub awaits_mean : ℕ → Option Adoption → ℕ → Bool
+awaits_mean begun last t = nat_le (awaits_from begun last) t
+
 -- the new reference price at the end of a limit state
 abbrev pub forced : Option ℕ → Option Priced
 forced mean = because Forced mean

@@ -6,12 +6,13 @@ use Rattle.refprice_core.specs.declared.reference.Priced.{Priced}
 use Rattle.refprice_core.specs.Prices.{observed, forced}
 
 -- a run begins, or it begins at the price of a reopening; an observation with the price that is offered and the mean; the
--- end of a limit state with the mean
+-- end of a limit state with the mean; a price is adopted
 pub data Call : Type 0 where
   Begin : ℕ → Call
   Release : ℕ → ℕ → Call
   Observe : ℕ → Option ℕ → Option ℕ → Call
   Force : ℕ → Option ℕ → Call
+  Adopt : ℕ → ℕ → Call
 
 -- a run began, or a reference price was adopted
 pub data Event : Type 0 where
@@ -43,3 +44,4 @@ events (Observe t offered mean ∷ calls) =
     let earlier = events calls in
     adopting t (observed (begun_in earlier) (last_in earlier) t offered mean) earlier
 events (Force t mean ∷ calls) = adopting t (forced mean) (events calls)
+events (Adopt t price ∷ calls) = Adopted (record { moment = t; price = price }) ∷ events calls

@@ -1,6 +1,6 @@
-ghost use Rattle.std.specs.Prelude.{◌≡◌, ◌∷◌, List, None, Some};
-ghost use Rattle.refprice_core.specs.Prices.{because, observed, forced, first_price, is_in_opening_period, cause_of, price_of, adopted_at};
-ghost use Rattle.refprice_core.specs.Runs.{Call, Begin, Release, Observe, Force, events, begun_in, last_in};
+ghost use Rattle.std.specs.Prelude.{◌≡◌, ◌∷◌, ℕ, false, List, Option, None, Some};
+ghost use Rattle.refprice_core.specs.Prices.{awaits_from, awaits_mean, because, observed, forced, first_price, is_in_opening_period, cause_of, price_of, adopted_at};
+ghost use Rattle.refprice_core.specs.Runs.{Call, Adopt, Begin, Release, Observe, Force, events, begun_in, last_in};
 
 use price_core::{Cause, Price, moved_one_percent};
 use session_core::{FIVE_MINUTES, Moment, THIRTY_SECONDS};
@@ -81,14 +81,14 @@ pub fn first_price(
 impl Adoption {
     ghost use Rattle.refprice_core.specs.Prices.{has_stood, moved_price};
 
-    /// Whether it has stood for 30 seconds, before which no mean replaces it (LULD Plan, Section V(B)).
+    /// Whether it has stood for 30 seconds, before which no mean replaces it (LULD Plan, Section V(A)).
     pub fn has_stood(&self, t: Moment) -> bool
         ensures { result ≡ has_stood self.now t }
     {
         self.moment.nanos() + THIRTY_SECONDS <= t.nanos()
     }
 
-    /// The mean, where it has moved by one per cent and 30 seconds have passed (LULD Plan, Section V(B)).
+    /// The mean, where it has moved by one per cent and 30 seconds have passed (LULD Plan, Section V(A)).
     pub fn moved_price(&self, t: Moment, mean: Option<Price>) -> Option<Price>
         ensures { result ≡ moved_price self.now t mean }
     {
@@ -124,6 +124,40 @@ impl Reference {
         }
     }
 
+    /// What is known at a moment as the new reference price, None exactly where it is none: the price that an opening trade or
+    /// an opening on quotations offers, and the mean (LULD Plan, Section V(A) and (B)).
+    pub fn observed(&self, t: Moment, offered: Option<Price>, mean: Option<Price>) -> Option<Priced>
+        ensures value { result ≡ observed self.now.begun self.now.last t offered mean }
+        ensures answer { (calls : List Call) → Represents self.now calls
+            → result ≡ observed (begun_in (events calls)) (last_in (events calls)) t offered mean }
+    {
+        match &self.last {
+            None => because(Cause::First, first_price(self.begun, t, offered, mean)),
+            Some(last) => because(Cause::Moved, last.moved_price(t, mean)),
+        }
+    }
+
+    /// From when on a mean can be a new reference price, in nanoseconds of the day: the first one from five minutes after the
+    /// begin of the run on, another from 30 seconds after the last (LULD Plan, Section V(A) and (B)).
+    pub fn awaits_from(&self) -> u64
+        ensures value { result ≡ awaits_from self.now.begun self.now.last }
+        ensures answer { (calls : List Call) → Represents self.now calls → result ≡ awaits_from (begun_in (events calls)) (last_in (events calls)) }
+    {
+        match &self.last {
+            None => self.begun.nanos() + FIVE_MINUTES,
+            Some(last) => last.moment.nanos() + THIRTY_SECONDS,
+        }
+    }
+
+    /// Whether a mean can be a new reference price at a moment: else none needs to be computed.
+    pub fn awaits_mean(&self, t: Moment) -> bool
+        ensures value { result ≡ awaits_mean self.now.begun self.now.last t }
+        ensures answer { (calls : List Call) → Represents self.now calls → result ≡ awaits_mean (begun_in (events calls)) (last_in (events calls)) t }
+        ensures nothing { result ≡ false → (offered mean : Option ℕ) → observed self.now.begun self.now.last t offered mean ≡ observed self.now.begun self.now.last t offered None }
+    {
+        self.awaits_from() <= t.nanos()
+    }
+
     /// Takes what is known at a moment: the price that an opening trade or an opening on quotations offers, and the mean.
     /// The answer is the cause of the new reference price, None exactly where there is none (LULD Plan, Section V(A) and
     /// (B)).
@@ -139,12 +173,9 @@ impl Reference {
             → result ≡ cause_of (observed (begun_in (events calls)) (last_in (events calls)) t offered mean) }
         ensures stands { (calls : List Call) → Represents self.old calls → Represents self.new (Observe t offered mean ∷ calls) }
     {
-        let (price, cause) = match &self.last {
-            None => (first_price(self.begun, t, offered, mean)?, Cause::First),
-            Some(last) => (last.moved_price(t, mean)?, Cause::Moved),
-        };
-        self.adopt(t, price);
-        Some(cause)
+        let priced = self.observed(t, offered, mean)?;
+        self.adopt(t, priced.price);
+        Some(priced.cause)
     }
 
     /// Takes the mean at the end of a limit state, as the new reference price; None exactly where there is no mean
@@ -158,11 +189,28 @@ impl Reference {
         Some(Cause::Forced)
     }
 
-    /// Takes a new reference price.
-    fn adopt(&mut self, t: Moment, price: Price)
-        ensures { self.new ≡ record self.old { last = Some (record { moment = t; price = price }) } }
+    /// Takes a new reference price in ten-thousandths of a dollar, whatever it comes of.
+    pub fn adopt(&mut self, t: Moment, price: Price)
+        ensures value { self.new ≡ record self.old { last = Some (record { moment = t; price = price }) } }
+        ensures stands { (calls : List Call) → Represents self.old calls → Represents self.new (Adopt t price ∷ calls) }
     {
         self.last = Some(Adoption { moment: t, price });
+    }
+
+    /// The moment at which the run began.
+    pub fn begun(&self) -> Moment
+        ensures value { result ≡ self.now.begun }
+        ensures answer { (calls : List Call) → Represents self.now calls → result ≡ begun_in (events calls) }
+    {
+        self.begun
+    }
+
+    /// The last adoption, None exactly where there was none.
+    pub fn last(&self) -> Option<Adoption>
+        ensures value { result ≡ self.now.last }
+        ensures answer { (calls : List Call) → Represents self.now calls → result ≡ last_in (events calls) }
+    {
+        self.last
     }
 
     /// The price last adopted in ten-thousandths of a dollar, None exactly where there was none.

@@ -76,3 +76,17 @@ fn the_end_of_a_limit_state_takes_any_mean(rt: HostRuntime) -> Result<(), Fail> 
     assert_eq!(rt; reference.adopted(), after(2, 0)?);
     Ok(())
 }
+
+#[test]
+fn a_mean_is_awaited_after_five_minutes_and_then_after_30_seconds(
+    rt: HostRuntime,
+) -> Result<(), Fail> {
+    let mut reference = Reference::begin(after(0, 0)?);
+    assert!(rt; !reference.awaits_mean(after(299, 999_999_999)?));
+    assert!(rt; reference.awaits_mean(after(300, 0)?));
+    reference.adopt(after(300, 0)?, Price::new(500_000)?);
+    assert_eq!(rt; reference.current(), price(500_000)?);
+    assert!(rt; !reference.awaits_mean(after(329, 999_999_999)?));
+    assert!(rt; reference.awaits_mean(after(330, 0)?));
+    Ok(())
+}

@@ -21,7 +21,7 @@ use Rattle.symbol_core.specs.Auctions.{auction_by}
 use Rattle.symbol_core.specs.Stands.{Stands}
 use Rattle.symbol_core.proofs.Deals.{deals_from}
 use Rattle.symbol_core.proofs.Histories.{last-other}
-use Rattle.symbol_core.proofs.Messages.{RunStays, run_stays}
+use Rattle.symbol_core.proofs.Messages.{RunStays, last_adoption, run_stays}
 use Rattle.wire_out.specs.declared.message.Message.TheVariants as out
 use Rattle.price_core.specs.declared.quote.Collars.{Collars}
 use Rattle.rulebook.specs.Auction as auction
@@ -41,7 +41,7 @@ stands-apart mine k deals step m h q s =
       begun = s.begun ∙ ap (λ (b : Bool). if b then Some (now (today h)) else of.begun_in k.id (today h)) (sym none_begins);
       quote = s.quote ∙ sym run.quote;
       band = s.band ∙ sym run.band;
-      adopted = s.adopted ∙ sym run.adopted;
+      adopted = s.adopted ∙ sym (last_adoption run);
       straddling = s.straddling ∙ sym (ap (λ (o : Option (Found Bool)). option_map_or (λ straddle. straddle.value) o false) (last-other (of.straddle_of k.id) m (today h) q.straddle));
       halted = s.halted;
       auction = s.auction ∙ (λ i. auction_by (auction.is_paused (sym phase_is i)) (sym run.band i) (sym round_is i) (origin_is i) (indication_is i));

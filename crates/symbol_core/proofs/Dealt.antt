@@ -1,16 +1,14 @@
 -- A trade or a tick at which no rule says anything, where time could bring a new reference price.
-use Rattle.std.proofs.Common.{arith, ◌≡◌, ℕ, ◌<◌, ◌≤◌, Bool, true, false, cond, List, [], ◌++◌, refl, sym, ap, ◌∙◌, subst}
-use Rattle.std.specs.Prelude.{Option, Some, None, if◌then◌else◌, ◌&&◌, ◌||◌, not, filter, is_some, option_to_list}
+use Rattle.std.proofs.Common.{arith, ◌≡◌, ℕ, ◌<◌, ◌≤◌, Bool, true, false, List, [], ◌++◌, refl, sym, ap, ◌∙◌, subst}
+use Rattle.std.specs.Prelude.{Option, Some, None, if◌then◌else◌, ◌&&◌, ◌||◌, not, filter, is_some, option_map, option_to_list}
 use Rattle.std.specs.Option.{option_map_or}
 use Rattle.price_core.specs.Moves.{moved_one_percent}
 use Rattle.price_core.specs.declared.quote.Cause.TheVariants.{Moved}
 use Rattle.pause_core.specs.Phases.{is_done, is_trading}
 use Rattle.refprice_core.specs.declared.reference.Adoption.{Adoption}
 use Rattle.refprice_core.specs.Prices.{because, forced, has_stood, moved_price}
-use Rattle.rulebook.specs.declared.symbol.Banded.{Banded}
 use Rattle.rulebook.specs.Auction.{indicated_by}
 use Rattle.rulebook.specs.Book.{symbol_rules}
-use Rattle.rulebook.specs.Rules.{or_else}
 use Rattle.wire_in.specs.declared.record.Record.{Record}
 use Rattle.wire_in.specs.declared.record.Record.TheVariants as in_
 use Rattle.wire_in.specs.Records.{is_day, is_tick, moment_of}
@@ -22,9 +20,10 @@ use Rattle.symbol_core.specs.declared.kept.Kept.{Kept}
 use Rattle.symbol_core.specs.declared.kept.Step.{Step}
 use Rattle.symbol_core.specs.declared.symbol.MarketView.{MarketView}
 use Rattle.symbol_core.specs.Evaluates.{Evaluates}
-use Rattle.symbol_core.specs.Idle.{IsDue, IsIdle, IsRested, IsSettled, IsAwaited, IsStill, PricesFrom, Waits, WaitsAt, brings_deal_or_time, comes_often, is_out, keeps_price}
-use Rattle.symbol_core.specs.Kept.{heard, quoted_by}
-use Rattle.symbol_core.specs.Pricing.{adoption, later_price, reference}
+use Rattle.symbol_core.specs.Idle.{IsDue, IsIdle, IsSettled, IsAwaited, IsStill, Waits, WaitsAt, brings_deal_or_time, comes_often, is_out, keeps_price}
+use Rattle.symbol_core.specs.Kept.{heard, quoted_by, requoted}
+use Rattle.symbol_core.specs.Pricing.{later_price, offered, priced_by, reference}
+use Rattle.symbol_core.specs.Runs.{run_reference}
 use Rattle.symbol_core.specs.Stands.{ObeysAll}
 use Rattle.symbol_core.specs.Steps.{Steps}
 use Rattle.symbol_core.specs.Taken.{cancelled_by, deal_of, finished, halted_by, leaves, listed_by, prior_close_by, taken, triggers_by}
@@ -32,13 +31,9 @@ use Rattle.symbol_core.specs.Window.{SameLive, window}
 use Rattle.symbol_core.proofs.Cancels.{leaves-all}
 use Rattle.symbol_core.proofs.Evaluated.{away, step-evaluated, step_for}
 use Rattle.symbol_core.proofs.Live.{live-added, live-own}
+use Rattle.symbol_core.proofs.Runs.{same_run}
 use Rattle.symbol_core.proofs.Quiet.{announces-none, speaks-quiet, waits-taken}
 use Rattle.symbol_core.proofs.Steps.{step-evaluates}
-use Rattle.symbol_core.proofs.Waiting.{prices-moved}
-
-same_either : {X : Type 0} (b : Bool) (x : X) → cond b x x ≡ x
-same_either true x = refl
-same_either false x = refl
 
 not_some : {X : Type 0} (o : Option X) → not (is_some o) ≡ true → o ≡ None
 not_some None e = refl
@@ -62,20 +57,13 @@ keeps-tested a t (Some m) = by (has_stood a t) (moved_one_percent m a.price) whe
 -- and then there is none
 pub kept-none : (k : Kept) (step : Step) (mean : Option ℕ) → k.left_limit ≡ false → keeps_price k step.moment mean ≡ true → reference k step mean ≡ None
 kept-none k step mean left keeps =
-    (λ i. if not (is_trading k.phase) then None else if left i then forced mean else later_price k step mean k.band) ∙ by (is_trading k.phase) k.band keeps
+    (λ i. if not (is_trading k.phase) then None else if left i then forced mean else later_price k step mean) ∙ by (is_trading k.phase) (run_reference k).last keeps
   where
-    by : (trading : Bool) (o : Option Banded) → (not trading || option_map_or (λ b. not (is_some (moved_price (adoption k b) step.moment mean))) o false) ≡ true → (if not trading then None else later_price k step mean o) ≡ None
+    by : (trading : Bool) (o : Option Adoption) → (not trading || option_map_or (λ last. not (is_some (moved_price last step.moment mean))) o false) ≡ true
+        → (if not trading then None else priced_by k.released (record { begun = (run_reference k).begun; last = o }) step.moment (offered k step) mean) ≡ None
     by false o e = refl
     by true None e = absurd cc
-    by true (Some b) e = ap (because Moved) (not_some (moved_price (adoption k b) step.moment mean) e)
-
--- until the next moment at which one may come
-pub moves-after : (k : Kept) (b : Banded) (deals : List Deal) (t until : ℕ) → IsRested k → k.band ≡ Some b → not (is_some (moved_price (adoption k b) t (mean_of deals))) ≡ true → has_stood (adoption k b) t ≡ true
-    → ((u : ℕ) → u < until → live u deals ≡ deals) → PricesFrom k deals t until
-moves-after k b deals t until rested is keeps stood all = prices-moved k b deals t until rested is stood (not_some (moved_price (adoption k b) t (mean_of deals)) keeps) all
-
-pub keeps-banded : (k : Kept) (b : Banded) (t : ℕ) (mean : Option ℕ) → is_trading k.phase ≡ true → k.band ≡ Some b → keeps_price k t mean ≡ true → not (is_some (moved_price (adoption k b) t mean)) ≡ true
-keeps-banded k b t mean trading is keeps = (λ i. not (sym trading i) || option_map_or (λ b. not (is_some (moved_price (adoption k b) t mean))) (sym is i) false) ∙ keeps
+    by true (Some last) e = ap (because Moved) (not_some (moved_price last step.moment mean) e)
 
 -- The record.
 
@@ -117,7 +105,7 @@ is_here k x inside = by (is_tick x) (is_done k.phase) (is_some k.terms) inside w
 
 -- before time brings anything but a new reference price
 pub awaited : (market : MarketView) (x : Record) (k : Kept) (deals : List Deal) (due : Due) (t : ℕ) (deal : Option Deal) → t ≡ moment_of x → IsDue (Some due) k deals → brings_deal_or_time x ≡ true → due.from ≤ t → t < due.waits → market ≡ due.market
-    → deal ≡ deal_of market.day k.id x → is_out k ≡ false → (if is_some k.begun then option_to_list deal else []) ≡ option_to_list deal → (triggers_by k.short.prior_close deal && not k.short.triggered) ≡ false
+    → deal ≡ deal_of market.day k.id x → is_out k ≡ false → (if is_some k.run then option_to_list deal else []) ≡ option_to_list deal → (triggers_by k.short.prior_close deal && not k.short.triggered) ≡ false
     → IsAwaited k market x deal (record due { from = t })
 awaited market x k deals due t deal at is kind from until same own inside counts restricts = by (is inside) where
   by : IsIdle k deals due → IsAwaited k market x deal (record due { from = t })
@@ -152,7 +140,7 @@ module _ (market : MarketView) (x : Record) (k : Kept) (due : Due) (deal : Optio
   took =
       (λ j. record k {
         terms = of_plain.listed j;
-        quote = if is_some k.begun then or_else (of_plain.quoted j) k.quote else k.quote;
+        run = option_map (requoted (of_plain.quoted j)) k.run;
         halted = of_plain.halted j;
         auction = heard (of_plain.indicated j) k.auction;
         left_limit = false;
@@ -163,7 +151,7 @@ module _ (market : MarketView) (x : Record) (k : Kept) (due : Due) (deal : Optio
         restricts = triggers_by (of_plain.prior_close j) (sym w.own j) && not k.short.triggered;
       })
       ∙ (λ j. record k {
-        quote = same_either (is_some k.begun) k.quote j;
+        run = same_run k.run j;
         left_limit = false;
         released = None;
         deal = deal;
@@ -225,7 +213,7 @@ module _ (market : MarketView) (x : Record) (k : Kept) (deals : List Deal) (due 
       by s = record { runs = s.runs; halted = s.halted; stays = s.stays; low = s.low; high = s.high; straddles = s.straddles }
 
   -- the window with the deal
-  dealt_in : (stayed ++ (if is_some k.begun then option_to_list deal else [])) ≡ left
+  dealt_in : (stayed ++ (if is_some k.run then option_to_list deal else [])) ≡ left
   dealt_in = λ j. all j ++ w.counts j
 
   no_price : reference (taken k step) step (mean_of (live t (window (taken k step) stayed))) ≡ None
@@ -233,9 +221,9 @@ module _ (market : MarketView) (x : Record) (k : Kept) (deals : List Deal) (due 
       subst (λ (kept : Kept). reference kept step (mean_of (live t (window kept stayed))) ≡ None) (sym taken_in)
       (ap (λ (ds : List Deal). reference with_deal step (mean_of (live t ds))) dealt_in ∙ kept-none with_deal step (mean_of (live t left)) refl keeps)
 
-  keeps_deals : SameLive t left (stayed ++ (if is_some k.begun then option_to_list (deal_of market.day k.id x) else []))
+  keeps_deals : SameLive t left (window (taken k step) stayed)
   keeps_deals =
-      subst (λ (o : Option Deal). SameLive t left (stayed ++ (if is_some k.begun then option_to_list o else []))) w.own
+      subst (λ (kept : Kept). SameLive t left (window kept stayed)) (sym taken_in)
       (subst (λ (ds : List Deal). SameLive t left ds) (sym dealt_in) (record { at = λ u le. refl }))
 
   deal-steps : (before : List Message) → Steps step k k deals left before before
@@ -257,7 +245,6 @@ module _ (market : MarketView) (x : Record) (k : Kept) (deals : List Deal) (due 
     rested = w.rested;
     settled = w.settled;
     waits = w.waits;
-    keeps = subst (λ (u : ℕ). keeps_price k u (mean_of left) ≡ true) (sym w.from) (ap (λ (ds : List Deal). keeps_price k t (mean_of ds)) (sym dealt-recent) ∙ keeps);
   }
 
 -- a stock that is listed is evaluated at ticks too
@@ -275,7 +262,7 @@ keeps-at k gone deals deal t u answer at same is passes = (λ i. keeps_price k (
 -- a record that brings a new reference price, whose deal is all that it leaves for the rules
 pub moved-steps : (k mid new : Kept) (step : Step) (deal : Option Deal) (due : Due) (kept lent left : List Deal) (before after : List Message) → IsAwaited k (record { day = step.day; stopped = step.stopped }) step.input deal due → live step.moment kept ≡ lent
     → ObeysAll lent symbol_rules step (record k { deal = deal }) mid before after
-    → SameLive step.moment left ((if mid.is_fresh then [] else lent) ++ (if is_some mid.begun then option_to_list deal else []))
+    → SameLive step.moment left ((if mid.is_fresh then [] else lent) ++ (if is_some mid.run then option_to_list deal else []))
     → new ≡ finished mid → Steps step k new kept left before after
 moved-steps k mid new step deal due kept lent left before after w gone obeys keeps over =
     let of_plain = plain k step.input w.kind in

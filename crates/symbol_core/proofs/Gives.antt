@@ -1,6 +1,6 @@
 -- What a rule gives at a history for which the symbol stands, by the kept state.
-use Rattle.std.proofs.Common.{◌≡◌, ℕ, Bool, List, [], ◌∷◌, refl, sym, ap, ◌∙◌}
-use Rattle.std.specs.Prelude.{Option, Some, None, true, false, if◌then◌else◌, ◌&&◌, not}
+use Rattle.std.proofs.Common.{◌≡◌, ℕ, Bool, List, [], ◌∷◌, ◌++◌, refl, sym, ap, ◌∙◌}
+use Rattle.std.specs.Prelude.{Option, Some, None, true, false, if◌then◌else◌, ◌&&◌, not, unwrap_or}
 use Rattle.std.specs.Option.{option_map_or}
 use Rattle.std.proofs.Math.Nat.{le_refl}
 use Rattle.session_core.specs.declared.state.Phase.{Phase}
@@ -18,26 +18,33 @@ use Rattle.reopen_core.specs.declared.auction.Trial.{Trial}
 use Rattle.reopen_core.specs.declared.auction.Trial.TheVariants as trial
 use Rattle.reopen_core.specs.AuctionState.{AuctionState, with_trial}
 use Rattle.reopen_core.specs.Trials as trials
+use Rattle.refprice_core.specs.declared.reference.Priced.{Priced}
+use Rattle.refprice_core.specs.Prices as prices
+use Rattle.refprice_core.specs.Prices.{because, forced}
+use Rattle.limit_core.specs.Limits as limits
+use Rattle.price_core.specs.declared.quote.Cause.TheVariants.{First}
 use Rattle.rulebook.specs.declared.symbol.Banded.{Banded}
 use Rattle.window_core.specs.declared.window.Deal.{Deal}
 use Rattle.window_core.specs.Deals.{live, mean_of}
 use Rattle.rulebook.specs.declared.event.Event.{Event}
 use Rattle.rulebook.specs.Auction as auction
 use Rattle.rulebook.specs.Book.{announced, context}
-use Rattle.rulebook.specs.History.{now, records, today}
+use Rattle.rulebook.specs.History.{now, records}
 use Rattle.rulebook.specs.Market.{is_market_halted}
 use Rattle.rulebook.specs.Rules as rules
-use Rattle.rulebook.specs.Rules.{at_band}
+use Rattle.rulebook.specs.Rules.{Context, at_band, meets, or_else}
 use Rattle.rulebook.specs.Symbol as of
 use Rattle.symbol_core.specs.declared.kept.Kept.{Kept}
 use Rattle.symbol_core.specs.declared.kept.Step.{Step}
 use Rattle.symbol_core.specs.Auctions.{auction_by, auction_of, auction_with}
-use Rattle.symbol_core.specs.Kept.{announcing, becoming, brakes, pausing, reopened, reopening, reopening_with, straddling}
-use Rattle.symbol_core.specs.Pricing.{banding}
+use Rattle.symbol_core.specs.Kept.{announcing, auction_begun, becoming, brakes, collars_of, pause_now, pausing, reopened, reopening, reopening_with, straddling}
+use Rattle.symbol_core.specs.Pricing.{band, band_by_time, banding, priced_by, reference}
+use Rattle.symbol_core.specs.Runs.{adoption_by, run_band, run_quote, run_reference}
 use Rattle.symbol_core.specs.Stands.{named, Stands, triggers_first}
+use Rattle.symbol_core.proofs.Runs.{adopted_is, begun_is}
 use Rattle.symbol_core.specs.Window.{window}
 
--- the kept state that a history tells
+-- the kept state that a history tells, but for its run
 abbrev pub told : (List ℕ → Bool) → Kept → Step → List Event → Kept
 told mine k step h =
     let s = k.id in
@@ -46,10 +53,7 @@ told mine k step h =
       terms = of.terms h mine;
       phase = of.phase h s;
       since = of.since h s;
-      begun = of.begun_in s (today h);
-      quote = of.quote h s;
-      band = of.last_band h s;
-      adopted = of.adopted h s;
+      run = k.run;
       straddling = of.was_straddling h s;
       halted = of.is_under_regulatory_halt h s;
       auction = auction_of h s;
@@ -70,10 +74,6 @@ stands-told mine k step deals h s = λ i. record k {
   terms = s.terms i;
   phase = s.phase i;
   since = s.since i;
-  begun = s.begun i;
-  quote = s.quote i;
-  band = s.band i;
-  adopted = s.adopted i;
   straddling = s.straddling i;
   halted = s.halted i;
   auction = s.auction i;
@@ -83,7 +83,7 @@ stands-told mine k step deals h s = λ i. record k {
   restricts = s.restricts i;
 }
 
--- a rule that reads the kept state, the moment and the market's halt
+-- a rule that reads the kept state without its run, the moment and the market's halt
 pub by_kept : (rule : Kept → Step → List Message) (mine : List ℕ → Bool) (k : Kept) (step : Step) (deals : List Deal) (h : List Event) → Stands mine k deals step h
     → rule (told mine k step h) (record step { moment = now h; stopped = is_market_halted h }) ≡ rule k step
 by_kept rule mine k step deals h s =
@@ -124,27 +124,65 @@ reopen-gives k step mine deals h s =
 -- the end of a limit state, and its begin
 
 abbrev pub leaving : Kept → Step → List Message
-leaving k step = if is_limit k.phase && not (at_band k.phase k.quote k.band) then becoming k Trading else []
+leaving k step = if is_limit k.phase && not (at_band k.phase (run_quote k) (run_band k)) then becoming k Trading else []
 
 abbrev pub entering : Kept → Step → List Message
 entering k step =
     if not (is_trading k.phase) then []
-    else if at_band LimitLow k.quote k.band then becoming k LimitLow
-    else if at_band LimitHigh k.quote k.band then becoming k LimitHigh
+    else if at_band LimitLow (run_quote k) (run_band k) then becoming k LimitLow
+    else if at_band LimitHigh (run_quote k) (run_band k) then becoming k LimitHigh
     else []
 
 pub leave-gives : (k : Kept) (step : Step) (mine : List ℕ → Bool) (deals : List Deal) (h : List Event) → Stands mine k deals step h
     → rules.leave_limit (context step.day (named mine k.id) step.input h) ≡ leaving k step
-leave-gives k step mine deals h s = by_kept leaving mine k step deals h s
+leave-gives k step mine deals h s = λ i. if is_limit (sym s.phase i) && not (at_band (sym s.phase i) (sym s.quote i) (sym s.band i)) then becoming k Trading else []
 
 pub enter-gives : (k : Kept) (step : Step) (mine : List ℕ → Bool) (deals : List Deal) (h : List Event) → Stands mine k deals step h
     → rules.enter_limit (context step.day (named mine k.id) step.input h) ≡ entering k step
-enter-gives k step mine deals h s = by_kept entering mine k step deals h s
+enter-gives k step mine deals h s = λ i.
+    if not (is_trading (sym s.phase i)) then []
+    else if at_band LimitLow (sym s.quote i) (sym s.band i) then becoming k LimitLow
+    else if at_band LimitHigh (sym s.quote i) (sym s.band i) then becoming k LimitHigh
+    else []
+
+-- a price, else another
+because_either : (p q : Option ℕ) → because First (or_else p q) ≡ or_else (because First p) (because First q)
+because_either None q = refl
+because_either (Some p) q = refl
+
+-- the new reference price outside the end of a limit state, by the run's last bands
+later-gives : (c : Context) (o : Option Banded)
+    → rules.later_price c o
+    ≡ priced_by (rules.released c.history c.symbol) (record { begun = of.begun c.history c.symbol; last = adoption_by (of.adopted c.history c.symbol) o }) c.moment (rules.offered c) (rules.mean_now c)
+later-gives c None = because_either (rules.released c.history c.symbol) (prices.first_price (of.begun c.history c.symbol) c.moment (rules.offered c) (rules.mean_now c))
+later-gives c (Some b) = refl
+
+reference-gives : (k : Kept) (step : Step) (mine : List ℕ → Bool) (deals : List Deal) (h : List Event) → Stands mine k deals step h
+    → rules.reference (context step.day (named mine k.id) step.input h) ≡ reference k step (of.mean step.day h k.id)
+reference-gives k step mine deals h s =
+    ap (λ (o : Option Priced). if not (is_trading (of.phase h k.id)) then None else if rules.has_left_limit h k.id then forced (of.mean step.day h k.id) else o)
+    (later-gives (context step.day (named mine k.id) step.input h) (of.last_band h k.id))
+    ∙ (λ i.
+    if not (is_trading (sym s.phase i)) then None
+    else if sym s.left_limit i then forced (of.mean step.day h k.id)
+    else priced_by (sym s.released i) (record { begun = begins i; last = adopts i }) (sym s.moment i)
+    (or_else (of.opening_price step.day k.id step.input) (if rules.opens_on_quotes k.id step.input then of.prior_close_of (sym s.terms i) else None)) (of.mean step.day h k.id))
+  where
+    begins : of.begun h k.id ≡ (run_reference k).begun
+    begins = ap (λ (o : Option ℕ). unwrap_or o 0) (sym s.begun) ∙ begun_is k.run
+
+    adopts : adoption_by (of.adopted h k.id) (of.last_band h k.id) ≡ (run_reference k).last
+    adopts = sym s.adopted ∙ adopted_is k.run
 
 pub banding-gives : (mean : Option ℕ) (k : Kept) (step : Step) (mine : List ℕ → Bool) (deals : List Deal) (h : List Event) → Stands mine k deals step h
     → of.mean step.day h k.id ≡ mean → rules.publish_band (context step.day (named mine k.id) step.input h) ≡ banding mean k step
 banding-gives mean k step mine deals h s e =
-    by_kept (banding (of.mean step.day h k.id)) mine k step deals h s ∙ ap (λ (m : Option ℕ). banding m k step) e
+    (λ i. elim (reference-gives k step mine deals h s i) [ Some r ↦ rules.band c r.cause r.price | None ↦ option_map_or (rules.band_by_time c) (sym s.band i) [] ])
+    ∙ by_kept (λ l later. elim (reference k step (of.mean step.day h k.id)) [ Some r ↦ band l later r.cause r.price | None ↦ option_map_or (band_by_time l later) (run_band k) [] ]) mine k step deals h s
+    ∙ ap (λ (m : Option ℕ). banding m k step) e
+  where
+    c : Context
+    c = context step.day (named mine k.id) step.input h
 
 -- the mean of the history is that of the window
 pub mean-gives : (k : Kept) (step : Step) (mine : List ℕ → Bool) (deals : List Deal) (h : List Event) → Stands mine k deals step h
@@ -155,7 +193,9 @@ mean-gives k step mine deals h s =
 
 pub straddle-gives : (k : Kept) (step : Step) (mine : List ℕ → Bool) (deals : List Deal) (h : List Event) → Stands mine k deals step h
     → rules.straddle (context step.day (named mine k.id) step.input h) ≡ straddling k step
-straddle-gives k step mine deals h s = by_kept straddling mine k step deals h s
+straddle-gives k step mine deals h s = λ i. straddles (is_trading (sym s.phase i) && meets limits.straddles (sym s.quote i) (sym s.band i)) (sym s.straddling i) where
+  straddles : (now was : Bool) → List Message
+  straddles now was = if now && not was then out.Straddle k.id true ∷ [] else if was && not now then out.Straddle k.id false ∷ [] else []
 
 abbrev pub restricting : Kept → Step → List Message
 restricting k step = if k.restricts then out.Short k.id Triggered ∷ [] else []
@@ -164,9 +204,15 @@ pub restrict-gives : (k : Kept) (step : Step) (mine : List ℕ → Bool) (deals 
     → rules.restrict (context step.day (named mine k.id) step.input h) ≡ restricting k step
 restrict-gives k step mine deals h s = by_kept restricting mine k step deals h s
 
+-- a pause, with these bands
+abbrev pausing_with : Option Banded → Kept → Step → List Message
+pausing_with band k step = option_map_or (λ p. becoming k p ++ (if auction.is_paused p then option_map_or (λ b. collars_of k.id (auction_begun k step b)) band [] else [])) (pause_now k step) []
+
 pub pause-gives : (k : Kept) (step : Step) (mine : List ℕ → Bool) (deals : List Deal) (h : List Event) → Stands mine k deals step h
     → rules.pause (context step.day (named mine k.id) step.input h) ≡ pausing k step
-pause-gives k step mine deals h s = by_kept pausing mine k step deals h s
+pause-gives k step mine deals h s =
+    (λ i. pausing_with (sym s.band i) (told mine k step h) (record step { moment = now h; stopped = is_market_halted h }))
+    ∙ by_kept (pausing_with (run_band k)) mine k step deals h s
 
 pub announced-gives : (k : Kept) (step : Step) (mine : List ℕ → Bool) (deals : List Deal) (h : List Event) (x : Record) → Stands mine k deals step h → announced (named mine k.id) x h ≡ announcing k x
 announced-gives k step mine deals h (in_.Day t d c) s = refl

@@ -1,5 +1,5 @@
 -- A symbol that isn't closed still isn't once a rule after the turn has said something.
-use Rattle.std.proofs.Common.{◌≡◌, ℕ, Bool, true, false, List, [], ◌∷◌, ◌++◌, refl, ap, ◌∙◌}
+use Rattle.std.proofs.Common.{◌≡◌, ℕ, Bool, true, false, List, [], ◌∷◌, refl}
 use Rattle.std.specs.Prelude.{Option, Some, None, if◌then◌else◌, ◌&&◌, ◌||◌, not}
 use Rattle.std.specs.Option.{option_map_or}
 use Rattle.session_core.specs.declared.state.Phase.{Phase}
@@ -24,6 +24,7 @@ use Rattle.symbol_core.specs.declared.kept.Kept.{Kept}
 use Rattle.symbol_core.specs.declared.kept.Step.{Step}
 use Rattle.symbol_core.specs.Kept.{auction_begun, collars_of, is_straddling_now, pausing, pausing_as, reopened, reopening, reopening_with, straddling}
 use Rattle.symbol_core.specs.Pricing.{band, band_by_time, banding, reference, time_changes}
+use Rattle.symbol_core.specs.Runs.{run_band, run_quote}
 use Rattle.symbol_core.specs.Stands.{phase_after}
 use Rattle.symbol_core.proofs.Gives.{entering, leaving}
 
@@ -41,7 +42,7 @@ pausing-goes_on k step e =
       by : (pauses last : Bool) → is_done (phase_after k.phase (option_map_or (pausing_as k step) (if pauses then (if last then Some phase.Closing else Some phase.Paused) else None) [])) ≡ false
       by false last = e
       by true true = refl
-      by true false = round k.band
+      by true false = round (run_band k)
 
 pub reopening-goes_on : (k : Kept) (step : Step) → GoesOn k.phase (reopening k step)
 reopening-goes_on k step e = by k.auction where
@@ -58,7 +59,7 @@ reopening-goes_on k step e = by k.auction where
       by_trial (with_trial step.moment t a) t
 
 pub leaving-goes_on : (k : Kept) (step : Step) → GoesOn k.phase (leaving k step)
-leaving-goes_on k step e = by (is_limit k.phase && not (at_band k.phase k.quote k.band)) where
+leaving-goes_on k step e = by (is_limit k.phase && not (at_band k.phase (run_quote k) (run_band k))) where
   by : (leaves : Bool) → is_done (phase_after k.phase (if leaves then out.State k.id phase.Trading ∷ [] else [])) ≡ false
   by true = refl
   by false = e
@@ -78,12 +79,12 @@ banding-goes_on mean k step e = by (reference k step mean) where
   by_time None = e
   by_time (Some last) = by_change Cause.Times last.reference (is_trading k.phase && time_changes k step last)
 
-  by : (o : Option Priced) → is_done (phase_after k.phase (elim o [ Some r ↦ band k step r.cause r.price | None ↦ option_map_or (band_by_time k step) k.band [] ])) ≡ false
+  by : (o : Option Priced) → is_done (phase_after k.phase (elim o [ Some r ↦ band k step r.cause r.price | None ↦ option_map_or (band_by_time k step) (run_band k) [] ])) ≡ false
   by (Some r) = by_terms r.cause r.price k.terms
-  by None = by_time k.band
+  by None = by_time (run_band k)
 
 pub entering-goes_on : (k : Kept) (step : Step) → GoesOn k.phase (entering k step)
-entering-goes_on k step e = by (is_trading k.phase) (at_band phase.LimitLow k.quote k.band) (at_band phase.LimitHigh k.quote k.band) where
+entering-goes_on k step e = by (is_trading k.phase) (at_band phase.LimitLow (run_quote k) (run_band k)) (at_band phase.LimitHigh (run_quote k) (run_band k)) where
   by : (trading low high : Bool) → is_done (phase_after k.phase (if not trading then [] else if low then out.State k.id phase.LimitLow ∷ [] else if high then out.State k.id phase.LimitHigh ∷ [] else [])) ≡ false
   by false low high = e
   by true true high = refl

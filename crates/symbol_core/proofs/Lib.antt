@@ -1,4 +1,5 @@
 pub mod Histories
+pub mod Runs
 pub mod Deals
 pub mod Phases
 pub mod Pauses

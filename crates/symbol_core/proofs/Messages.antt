@@ -17,9 +17,11 @@ use Rattle.rulebook.specs.History.{Found, now, newest, open_step, today, last}
 use Rattle.rulebook.specs.Symbol.{begins_run, quote_in, is_times, deals_in, deals_of}
 use Rattle.window_core.specs.declared.window.Deal.{Deal}
 use Rattle.symbol_core.specs.declared.kept.Kept.{Kept}
+use Rattle.symbol_core.specs.declared.kept.Run.{Run}
 use Rattle.symbol_core.specs.declared.kept.Step.{Step}
 use Rattle.symbol_core.specs.Auctions.{auction_by, auction_of}
-use Rattle.symbol_core.specs.Kept.{in_round, straddled, with_auction, released, banded, restarts}
+use Rattle.symbol_core.specs.Kept.{in_round, straddled, with_auction, released, banded, restarts, run_banded}
+use Rattle.symbol_core.specs.Runs.{adoption_by, run_band}
 use Rattle.session_core.specs.declared.day.Day.{Day}
 use Rattle.wire_in.specs.declared.record.Record.{Record}
 use Rattle.session_core.specs.Durations.{five_minutes}
@@ -27,6 +29,7 @@ use Rattle.symbol_core.specs.Window.{SameLive, counted_deal}
 use Rattle.symbol_core.specs.Stands.{Stands}
 use Rattle.symbol_core.proofs.Deals.{deals_from, deals_said, deals_banded, window_begins}
 use Rattle.symbol_core.proofs.Histories.{same, newest-today, newest-run, now-run, begun-run, on_run, last-own, last-other}
+use Rattle.symbol_core.proofs.Runs.{has_begun, run_keeps}
 use Rattle.rulebook.proofs.Histories.{now-today}
 use Rattle.wire_out.specs.declared.message.Message.TheVariants as out
 use Rattle.rulebook.specs.Auction as auction
@@ -53,6 +56,10 @@ run_stays day s m x h input e bands adoptions counts =
       deals = deals_said day s x m h false e input counts;
     }
 
+-- and its last adoption
+pub last_adoption : {day : Day} {s : ℕ} {m : Message} {h : List Event} → RunStays day s m h → adoption_by (of.adopted (Published m ∷ h) s) (of.last_band (Published m ∷ h) s) ≡ adoption_by (of.adopted h s) (of.last_band h s)
+last_adoption stays = λ i. adoption_by (stays.adopted i) (stays.band i)
+
 pub stands-straddled : (mine : List ℕ → Bool) (k : Kept) (deals : List Deal) (step : Step) (on : Bool) (h : List Event) → Stands mine k deals step h → Stands mine (straddled k on) deals step (Published (out.Straddle k.id on) ∷ h)
 stands-straddled mine k deals step on h s =
     record {
@@ -65,7 +72,7 @@ stands-straddled mine k deals step on h s =
       begun = s.begun;
       quote = s.quote ∙ sym run.quote;
       band = s.band ∙ sym run.band;
-      adopted = s.adopted ∙ sym run.adopted;
+      adopted = s.adopted ∙ sym (last_adoption run);
       straddling = sym (ap (λ (o : Option (Found Bool)). option_map_or (λ straddle. straddle.value) o false) last_is);
       halted = s.halted;
       auction = s.auction ∙ ap (λ (o : Option Banded). auction_by (auction.is_paused (of.phase h k.id)) o (auction.last_round h k.id) (auction.origin h k.id) (auction.indication h k.id)) (sym run.band);
@@ -105,7 +112,7 @@ stands-collared mine k deals step number collars a h is s =
       begun = s.begun;
       quote = s.quote ∙ sym run.quote;
       band = s.band ∙ sym run.band;
-      adopted = s.adopted ∙ sym run.adopted;
+      adopted = s.adopted ∙ sym (last_adoption run);
       straddling = s.straddling;
       halted = s.halted;
       auction = is;
@@ -172,7 +179,7 @@ stands-released mine k deals step price h s =
       begun = s.begun;
       quote = s.quote ∙ sym run.quote;
       band = s.band ∙ sym run.band;
-      adopted = s.adopted ∙ sym run.adopted;
+      adopted = s.adopted ∙ sym (last_adoption run);
       straddling = s.straddling;
       halted = s.halted;
       auction = s.auction ∙ ap (λ (o : Option Banded). auction_by (auction.is_paused (of.phase h k.id)) o (auction.last_round h k.id) (auction.origin h k.id) (auction.indication h k.id)) (sym run.band);
@@ -210,7 +217,7 @@ stands-short mine k deals step kind h s =
       begun = s.begun;
       quote = s.quote ∙ sym run.quote;
       band = s.band ∙ sym run.band;
-      adopted = s.adopted ∙ sym run.adopted;
+      adopted = s.adopted ∙ sym (last_adoption run);
       straddling = s.straddling;
       halted = s.halted;
       auction = s.auction ∙ ap (λ (o : Option Banded). auction_by (auction.is_paused (of.phase h k.id)) o (auction.last_round h k.id) (auction.origin h k.id) (auction.indication h k.id)) (sym run.band);
@@ -230,8 +237,27 @@ stands-short mine k deals step kind h s =
     run : RunStays step.day k.id m h
     run = run_stays step.day k.id m step.input h s.input refl (λ r. refl) (λ r. refl) (λ t r. refl)
 
-pub stands-banded : (mine : List ℕ → Bool) (k : Kept) (deals : List Deal) (step : Step) (b : Banded) (h : List Event) → auction.is_paused k.phase ≡ false → Stands mine k deals step h → Stands mine (banded k step b) deals step (Published (out.Band k.id b.cause b.reference b.bands.lower b.bands.upper) ∷ h)
-stands-banded mine k deals step b h unpaused s =
+-- the last adoption of a run, once it has further bands: those of the time of day leave the reference price
+with_price : (moment : ℕ) (o : Option Banded) → adoption_by moment o ≡ option_map (λ price. record { moment = moment; price = price }) (option_map (λ b. b.reference) o)
+with_price moment None = refl
+with_price moment (Some b) = refl
+
+banded_adoption : (step : Step) (b : Banded) (moment : ℕ) (times : Bool) (o : Option Run) → is_times b.cause ≡ times → option_and_then (λ run. run.reference.last) o ≡ adoption_by moment (option_and_then (λ run. run.band) o)
+    → (times ≡ true → option_map (λ b. b.reference) (option_and_then (λ run. run.band) o) ≡ Some b.reference)
+    → option_and_then (λ run. run.reference.last) (option_map (run_banded step b) o) ≡ adoption_by (if is_some o && not (is_times b.cause) then step.moment else moment) (if is_some o then Some b else option_and_then (λ run. run.band) o)
+banded_adoption step b moment times None e was same = refl
+banded_adoption step b moment false (Some run) e was same =
+    ap (λ (c : Bool). if c then run.reference.last else Some (record { moment = step.moment; price = b.reference })) e
+    ∙ ap (λ (c : Bool). adoption_by (if not c then step.moment else moment) (Some b)) (sym e)
+banded_adoption step b moment true (Some run) e was same =
+    ap (λ (c : Bool). if c then run.reference.last else Some (record { moment = step.moment; price = b.reference })) e
+    ∙ was ∙ with_price moment run.band
+    ∙ ap (λ (p : Option ℕ). option_map (λ price. record { moment = moment; price = price }) p) (same refl)
+    ∙ ap (λ (c : Bool). adoption_by (if not c then step.moment else moment) (Some b)) (sym e)
+
+pub stands-banded : (mine : List ℕ → Bool) (k : Kept) (deals : List Deal) (step : Step) (b : Banded) (h : List Event) → auction.is_paused k.phase ≡ false → (is_times b.cause ≡ true → option_map (λ last. last.reference) (run_band k) ≡ Some b.reference) → Stands mine k deals step h
+    → Stands mine (banded k step b) deals step (Published (out.Band k.id b.cause b.reference b.bands.lower b.bands.upper) ∷ h)
+stands-banded mine k deals step b h unpaused times s =
     record {
       moment = s.moment;
       stopped = s.stopped;
@@ -239,10 +265,10 @@ stands-banded mine k deals step b h unpaused s =
       terms = s.terms;
       phase = s.phase;
       since = s.since;
-      begun = s.begun;
-      quote = s.quote ∙ sym (on_run (quote_in k.id) k.id m h refl (λ r. refl));
-      band = rw (has_run, s.band) (band_run (of.run_in k.id (today h)));
-      adopted = rw (has_run, s.adopted) (adopted_run (of.run_in k.id (today h)) (is_times b.cause) refl (λ r e. s.moment ∙ sym (now-run k.id h r e)));
+      begun = run_keeps (λ o. option_map (λ run. run.reference.begun) o) (run_banded step b) (λ run. refl) k.run ∙ s.begun;
+      quote = run_keeps (λ o. option_and_then (λ run. run.quote) o) (run_banded step b) (λ run. refl) k.run ∙ s.quote ∙ sym (on_run (quote_in k.id) k.id m h refl (λ r. refl));
+      band = band_now k.run ∙ band_is;
+      adopted = banded_adoption step b (of.adopted h k.id) (is_times b.cause) k.run refl (s.adopted ∙ ap (adoption_by (of.adopted h k.id)) (sym s.band)) times ∙ (λ i. adoption_by (adopted_is i) (band_is i));
       straddling = s.straddling;
       halted = s.halted;
       auction = none_of k.auction (auction.is_paused (of.phase h k.id)) (ap (λ (p : Phase). auction.is_paused p) (sym s.phase) ∙ unpaused) s.auction ∙ sym (ap (λ (b : Bool). auction_by b (of.last_band (Published m ∷ h) k.id) (auction.last_round h k.id) (auction.origin h k.id) (auction.indication h k.id)) (ap (λ (p : Phase). auction.is_paused p) (sym s.phase) ∙ unpaused));
@@ -253,7 +279,7 @@ stands-banded mine k deals step b h unpaused s =
       released = s.released;
       deal = s.deal;
       restricts = s.restricts;
-      window = rw (deals_is) (subst (λ (own : List Deal). SameLive (now h) ((if (is_some k.begun && restarts k step) || k.is_fresh then [] else deals) ++ own) (if is_some k.begun && restarts k step then deals_in step.day k.id [] (Accepted step.input ∷ []) else deals_of step.day h k.id)) (own_is k.begun (restarts k step)) (window_begins (now h) (is_some k.begun && restarts k step) k.is_fresh deals (option_to_list k.deal) (counted_deal k) (deals_in step.day k.id [] (Accepted step.input ∷ [])) (deals_of step.day h k.id) s.deal s.window));
+      window = rw (deals_is) (subst (λ (own : List Deal). SameLive (now h) ((if (is_some k.run && restarts k step) || k.is_fresh then [] else deals) ++ own) (if is_some k.run && restarts k step then deals_in step.day k.id [] (Accepted step.input ∷ []) else deals_of step.day h k.id)) (own_is k.run (restarts k step)) (window_begins (now h) (is_some k.run && restarts k step) k.is_fresh deals (option_to_list k.deal) (counted_deal k) (deals_in step.day k.id [] (Accepted step.input ∷ [])) (deals_of step.day h k.id) s.deal s.window));
     }
   where
     m : Message
@@ -266,8 +292,12 @@ stands-banded mine k deals step b h unpaused s =
     none_of a true e is = absurd cc
     none_of a false e is = is
 
-    has_run : is_some k.begun ≡ is_some (of.run_in k.id (today h))
-    has_run = ap (λ (o : Option ℕ). is_some o) s.begun ∙ begun-run k.id (today h)
+    has_run : is_some k.run ≡ is_some (of.run_in k.id (today h))
+    has_run = has_begun k.run ∙ ap (λ (o : Option ℕ). is_some o) s.begun ∙ begun-run k.id (today h)
+
+    band_now : (o : Option Run) → option_and_then (λ run. run.band) (option_map (run_banded step b) o) ≡ (if is_some o then Some b else option_and_then (λ run. run.band) o)
+    band_now None = refl
+    band_now (Some run) = refl
 
     band_run : (o : Option (List Event)) → (if is_some o then Some b else option_map (λ b. b.value) (last (of.band_of k.id) (unwrap_or o []))) ≡ option_map (λ b. b.value) (last (of.band_of k.id) (unwrap_or (option_map (λ r. Published m ∷ r) o) []))
     band_run None = refl
@@ -283,17 +313,23 @@ stands-banded mine k deals step b h unpaused s =
     adopted_run (Some r) true e at = rw e (sym (ap (λ (o : Option (Found Banded)). option_map_or (λ b. b.moment) o 0) (last-other (of.adoption_of k.id) m r (adoption true e))))
     adopted_run (Some r) false e at = rw e (at r refl ∙ sym (ap (λ (o : Option (Found Banded)). option_map_or (λ b. b.moment) o 0) (last-own (of.adoption_of k.id) m b r (adoption false e))))
 
+    band_is : (if is_some k.run then Some b else run_band k) ≡ of.last_band (Published m ∷ h) k.id
+    band_is = rw (has_run, s.band) (band_run (of.run_in k.id (today h)))
+
+    adopted_is : (if is_some k.run && not (is_times b.cause) then step.moment else of.adopted h k.id) ≡ of.adopted (Published m ∷ h) k.id
+    adopted_is = rw has_run (adopted_run (of.run_in k.id (today h)) (is_times b.cause) refl (λ r e. s.moment ∙ sym (now-run k.id h r e)))
+
     input_is : option_map_or newest (of.run_in k.id (today h)) (Some step.input) ≡ Some step.input
     input_is = subst (λ (o : Option Record). option_map_or newest (of.run_in k.id (today h)) o ≡ o) (newest-today h ∙ s.input) (newest-run k.id (today h))
 
-    deals_is : deals_of step.day (Published m ∷ h) k.id ≡ (if is_some k.begun && restarts k step then deals_in step.day k.id [] (Accepted step.input ∷ []) else deals_of step.day h k.id)
+    deals_is : deals_of step.day (Published m ∷ h) k.id ≡ (if is_some k.run && restarts k step then deals_in step.day k.id [] (Accepted step.input ∷ []) else deals_of step.day h k.id)
     deals_is =
         deals_banded step.day k.id (of.begun h k.id + five_minutes) step.input m b (of.run_in k.id (today h)) own input_is
         ∙ ap (λ (v : Bool). if v && (not (is_some (of.last_band h k.id)) && of.opens_before step.day k.id (of.begun h k.id + five_minutes) step.input) then deals_in step.day k.id [] (Accepted step.input ∷ []) else deals_of step.day h k.id) (sym has_run)
-        ∙ ap (λ (o : Option Banded). if is_some k.begun && (not (is_some o) && of.opens_before step.day k.id (of.begun h k.id + five_minutes) step.input) then deals_in step.day k.id [] (Accepted step.input ∷ []) else deals_of step.day h k.id) (sym s.band)
-        ∙ ap (λ (o : Option ℕ). if is_some k.begun && (not (is_some k.band) && of.opens_before step.day k.id (unwrap_or o 0 + five_minutes) step.input) then deals_in step.day k.id [] (Accepted step.input ∷ []) else deals_of step.day h k.id) (sym s.begun)
+        ∙ ap (λ (o : Option Banded). if is_some k.run && (not (is_some o) && of.opens_before step.day k.id (of.begun h k.id + five_minutes) step.input) then deals_in step.day k.id [] (Accepted step.input ∷ []) else deals_of step.day h k.id) (sym s.band)
+        ∙ ap (λ (o : Option ℕ). if is_some k.run && (not (is_some (run_band k)) && of.opens_before step.day k.id (unwrap_or o 0 + five_minutes) step.input) then deals_in step.day k.id [] (Accepted step.input ∷ []) else deals_of step.day h k.id) (sym s.begun)
 
-    own_is : (o : Option ℕ) (r : Bool) → (if is_some o && r then option_to_list k.deal else (if is_some o then option_to_list k.deal else [])) ≡ (if is_some o then option_to_list k.deal else [])
+    own_is : (o : Option Run) (r : Bool) → (if is_some o && r then option_to_list k.deal else (if is_some o then option_to_list k.deal else [])) ≡ (if is_some (option_map (run_banded step b) o) then option_to_list k.deal else [])
     own_is None r = refl
-    own_is (Some t) true = refl
-    own_is (Some t) false = refl
+    own_is (Some run) true = refl
+    own_is (Some run) false = refl

@@ -16,7 +16,7 @@ not_so false e = refl
 pub near_window : (k : Kept) (reference : ℕ) (deals : List Deal) (far : Bool) → AreNear reference deals → far ≡ option_map_or (λ d. moved_one_percent d.price reference) k.deal false → not far ≡ true
     → AreNear reference (window k deals)
 near_window k reference deals far near is is_near =
-    All-append (λ d. moved_one_percent d.price reference ≡ false) (if k.is_fresh then [] else deals) (counted_deal k) (part k.is_fresh) (own (is_some k.begun) k.deal (sym is ∙ not_so far is_near))
+    All-append (λ d. moved_one_percent d.price reference ≡ false) (if k.is_fresh then [] else deals) (counted_deal k) (part k.is_fresh) (own (is_some k.run) k.deal (sym is ∙ not_so far is_near))
   where
     part : (fresh : Bool) → AreNear reference (if fresh then [] else deals)
     part true = All-nil (λ d. moved_one_percent d.price reference ≡ false)

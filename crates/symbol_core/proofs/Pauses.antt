@@ -8,12 +8,18 @@ use Rattle.pause_core.specs.declared.turning.Brakes.{Brakes}
 use Rattle.pause_core.specs.Phases.{is_in_regulatory_halt, is_trading}
 use Rattle.pause_core.specs.Turns as turns
 use Rattle.refprice_core.specs.declared.reference.Priced.{Priced}
-use Rattle.refprice_core.specs.Prices.{forced}
+use Rattle.refprice_core.specs.declared.reference.Adoption.{Adoption}
+use Rattle.refprice_core.specs.Prices.{because, first_price, forced, moved_price, observed}
+use Rattle.price_core.specs.declared.quote.Cause.{Cause}
+use Rattle.price_core.specs.declared.quote.Cause.TheVariants.{First, Forced, Moved}
+use Rattle.rulebook.specs.Rules.{or_else}
+use Rattle.rulebook.specs.Symbol.{is_times}
 use Rattle.rulebook.specs.Auction.{is_paused}
 use Rattle.symbol_core.specs.declared.kept.Kept.{Kept}
 use Rattle.symbol_core.specs.declared.kept.Step.{Step}
 use Rattle.symbol_core.specs.Kept.{begins_auction}
-use Rattle.symbol_core.specs.Pricing.{later_price, reference}
+use Rattle.symbol_core.specs.Pricing.{later_price, offered, reference, released_first}
+use Rattle.symbol_core.specs.Runs.{run_band, run_reference}
 
 -- a rule that pauses no stock
 abbrev pub Unpaused : (Phase → Brakes → Option Phase) → Type 0
@@ -48,7 +54,7 @@ halt-unpaused p b = halted_phase b.halted (is_in_regulatory_halt p) (turns.phase
 
 -- such a phase begins no auction
 pub alone : (k : Kept) (p : Phase) (o : Option Phase) → o ≡ Some p → option_map_or is_paused o false ≡ false → begins_auction k p ≡ false
-alone k p o is e = ap (λ (b : Bool). b && is_some k.band) (ap (λ (q : Option Phase). option_map_or is_paused q false) (sym is) ∙ e)
+alone k p o is e = ap (λ (b : Bool). b && is_some (run_band k)) (ap (λ (q : Option Phase). option_map_or is_paused q false) (sym is) ∙ e)
 
 -- a stock that trades isn't paused
 pub trading-unpaused : (p : Phase) → is_trading p ≡ true → is_paused p ≡ false
@@ -66,6 +72,34 @@ trading-unpaused phase.Closed e = refl
 pub priced-unpaused : (k : Kept) (step : Step) (mean : Option ℕ) (r : Priced) → reference k step mean ≡ Some r → is_paused k.phase ≡ false
 priced-unpaused k step mean r e = trading-unpaused k.phase (by (is_trading k.phase) e)
   where
-    by : (trades : Bool) → (if not trades then None else if k.left_limit then forced mean else later_price k step mean k.band) ≡ Some r → trades ≡ true
+    by : (trades : Bool) → (if not trades then None else if k.left_limit then forced mean else later_price k step mean) ≡ Some r → trades ≡ true
     by true e = refl
     by false e = absurd cc
+
+-- A new reference price isn't of the time of day.
+
+abbrev by_time : Option Priced → Bool
+by_time o = option_map_or (λ r. is_times r.cause) o false
+
+because_adopts : (c : Cause) (p : Option ℕ) → is_times c ≡ false → by_time (because c p) ≡ false
+because_adopts c None e = refl
+because_adopts c (Some p) e = e
+
+observed_adopts : (begun : ℕ) (last : Option Adoption) (t : ℕ) (offered mean : Option ℕ) → by_time (observed begun last t offered mean) ≡ false
+observed_adopts begun None t offered mean = because_adopts First (first_price begun t offered mean) refl
+observed_adopts begun (Some last) t offered mean = because_adopts Moved (moved_price last t mean) refl
+
+either_adopts : (p : Option ℕ) (o : Option Priced) → by_time o ≡ false → by_time (or_else (because First p) o) ≡ false
+either_adopts None o e = e
+either_adopts (Some p) o e = refl
+
+pub priced-adopts : (k : Kept) (step : Step) (mean : Option ℕ) (r : Priced) → reference k step mean ≡ Some r → is_times r.cause ≡ false
+priced-adopts k step mean r e = sym (ap by_time e) ∙ by (is_trading k.phase) k.left_limit
+  where
+    last : Option Adoption
+    last = (run_reference k).last
+
+    by : (trades left : Bool) → by_time (if not trades then None else if left then forced mean else later_price k step mean) ≡ false
+    by false left = refl
+    by true true = because_adopts Forced mean refl
+    by true false = either_adopts (released_first k.released last) (observed (run_reference k).begun last step.moment (offered k step) mean) (observed_adopts (run_reference k).begun last step.moment (offered k step) mean)

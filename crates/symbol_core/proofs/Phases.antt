@@ -19,10 +19,12 @@ use Rattle.reopen_core.specs.Collars.{first_collars}
 use Rattle.rulebook.specs.declared.symbol.Banded.{Banded}
 use Rattle.price_core.specs.declared.quote.Collars.{Collars}
 use Rattle.symbol_core.specs.Auctions.{auction_by, auction_of}
-use Rattle.symbol_core.specs.Kept.{auction_begun, begins_auction, turned, quoted_by, begins, with_auction}
+use Rattle.symbol_core.specs.Kept.{auction_begun, begins_auction, turned, quoted_by, begins, run_of, with_auction}
+use Rattle.symbol_core.specs.Runs.{adoption_by, run_adopted, run_band, run_begun, run_quote}
 use Rattle.symbol_core.specs.Window.{SameLive, counted_deal}
 use Rattle.symbol_core.specs.Stands.{Stands}
 use Rattle.symbol_core.proofs.Deals.{deals_said, window_begins}
+use Rattle.symbol_core.proofs.Runs.{by_test}
 use Rattle.symbol_core.proofs.Messages.{RunStays, collared-round, run_stays, stands-collared}
 use Rattle.rulebook.proofs.Histories.{now-today}
 use Rattle.symbol_core.proofs.Histories.{newest-today, of_run, last-own, state-own, begins-own, pauses-own, record_alone}
@@ -47,6 +49,10 @@ quote-record s (in_.Clock t) = refl
 quote-record s (in_.Notice t i k) = refl
 quote-record s (in_.Indication t i p u) = refl
 
+-- the bands that a phase leaves
+turned-band : (k : Kept) (step : Step) (p : Phase) → run_band (turned k step p) ≡ (if begins k p then None else run_band k)
+turned-band k step p = by_test (λ o. option_and_then (λ run. run.band) o) (begins k p) (Some (run_of k.id step)) k.run
+
 -- where this is then the auction
 pub stands-turned-with : (mine : List ℕ → Bool) (k : Kept) (deals : List Deal) (step : Step) (p : Phase) (a : Option AuctionState) (h : List Event) → a ≡ auction_of (Published (out.State k.id p) ∷ h) k.id → Stands mine k deals step h
     → Stands mine (with_auction (turned k step p) a) deals step (Published (out.State k.id p) ∷ h)
@@ -58,10 +64,10 @@ stands-turned-with mine k deals step p a h is s =
       terms = s.terms;
       phase = sym (ap (λ (o : Option (Found Phase)). option_map_or (λ state. state.value) o Shut) last_is);
       since = s.moment ∙ sym (now-today h) ∙ sym (ap (λ (o : Option (Found Phase)). option_map_or (λ state. state.moment) o 0) last_is);
-      begun = rw (begun_is, now-today h, ← s.begun, ← s.moment);
-      quote = rw (in_run (quote_in k.id) (λ r. refl), begun_is, alone, quote-record, ← s.quote);
-      band = rw (in_run (λ r. option_map (λ b. b.value) (last (of.band_of k.id) r)) (λ r. refl), begun_is, alone, ← s.band);
-      adopted = rw (in_run (λ r. option_map_or (λ b. b.moment) (last (of.adoption_of k.id) r) 0) (λ r. refl), begun_is, alone, ← s.adopted);
+      begun = by_test (λ o. option_map (λ run. run.reference.begun) o) (begins k p) (Some (run_of k.id step)) k.run ∙ begun_now;
+      quote = by_test (λ o. option_and_then (λ run. run.quote) o) (begins k p) (Some (run_of k.id step)) k.run ∙ quote_now;
+      band = turned-band k step p ∙ band_now;
+      adopted = by_test (λ o. option_and_then (λ run. run.reference.last) o) (begins k p) (Some (run_of k.id step)) k.run ∙ adoption_now (begins k p) ∙ (λ i. adoption_by (adopted_now i) (band_now i));
       straddling = s.straddling;
       halted = s.halted;
       auction = is;
@@ -90,7 +96,23 @@ stands-turned-with mine k deals step p a h is s =
     in_run : {X : Type 0} (value : List Event → X) → ((r : List Event) → value (Published m ∷ r) ≡ value r) → value (of.run (Published m ∷ h) k.id) ≡ (if begins_run k.id m (today h) then value (step_record (today h)) else value (of.run h k.id))
     in_run value ignores = of_run value m (begins_run k.id m (today h)) (today h) (of.run_in k.id (today h)) ignores
 
-    own_is : (b : Bool) → (if is_some (if b then Some step.moment else k.begun) then option_to_list k.deal else []) ≡ (if b then option_to_list k.deal else counted_deal k)
+    begun_now : (if begins k p then Some step.moment else run_begun k) ≡ of.begun_in k.id (today (Published m ∷ h))
+    begun_now = rw (begun_is, now-today h, ← s.begun, ← s.moment)
+
+    quote_now : (if begins k p then quoted_by k.id step.input else run_quote k) ≡ of.quote (Published m ∷ h) k.id
+    quote_now = rw (in_run (quote_in k.id) (λ r. refl), begun_is, alone, quote-record, ← s.quote)
+
+    band_now : (if begins k p then None else run_band k) ≡ of.last_band (Published m ∷ h) k.id
+    band_now = rw (in_run (λ r. option_map (λ b. b.value) (last (of.band_of k.id) r)) (λ r. refl), begun_is, alone, ← s.band)
+
+    adopted_now : (if begins k p then 0 else of.adopted h k.id) ≡ of.adopted (Published m ∷ h) k.id
+    adopted_now = rw (in_run (λ r. option_map_or (λ b. b.moment) (last (of.adoption_of k.id) r) 0) (λ r. refl), begun_is, alone)
+
+    adoption_now : (b : Bool) → (if b then None else run_adopted k) ≡ adoption_by (if b then 0 else of.adopted h k.id) (if b then None else run_band k)
+    adoption_now true = refl
+    adoption_now false = s.adopted ∙ ap (adoption_by (of.adopted h k.id)) (sym s.band)
+
+    own_is : (b : Bool) → (if is_some (if b then Some (run_of k.id step) else k.run) then option_to_list k.deal else []) ≡ (if b then option_to_list k.deal else counted_deal k)
     own_is true = refl
     own_is false = refl
 
@@ -118,8 +140,8 @@ stands-turned mine k deals step p h alone s = stands-turned-with mine k deals st
 
     none_is : None ≡ auction_of after k.id
     none_is =
-        none_begins p (is_limit k.phase) k.band (auction.last_round after k.id) (auction.origin after k.id) (auction.indication after k.id) alone
-        ∙ (λ i. auction_by (auction.is_paused (turns.phase i)) (turns.band i) (auction.last_round after k.id) (auction.origin after k.id) (auction.indication after k.id))
+        none_begins p (is_limit k.phase) (run_band k) (auction.last_round after k.id) (auction.origin after k.id) (auction.indication after k.id) alone
+        ∙ (λ i. auction_by (auction.is_paused (turns.phase i)) ((sym (turned-band k step p) ∙ turns.band) i) (auction.last_round after k.id) (auction.origin after k.id) (auction.indication after k.id))
 
 -- a pause leaves the run as it is
 pause_keeps : (p : Phase) (limit : Bool) (band : Option Banded) → auction.is_paused p ≡ true → band ≡ (if is_trading p && not limit then None else band)
@@ -134,7 +156,7 @@ pause_keeps phase.Stopped limit band e = absurd cc
 pause_keeps phase.Closed limit band e = absurd cc
 
 -- A pause with an auction: the phase, and then the collars of its first round.
-pub stands-paused : (mine : List ℕ → Bool) (k : Kept) (deals : List Deal) (step : Step) (p : Phase) (b : Banded) (h : List Event) → auction.is_paused p ≡ true → k.band ≡ Some b → Stands mine k deals step h
+pub stands-paused : (mine : List ℕ → Bool) (k : Kept) (deals : List Deal) (step : Step) (p : Phase) (b : Banded) (h : List Event) → auction.is_paused p ≡ true → run_band k ≡ Some b → Stands mine k deals step h
     → let c = first_collars (auction.origin_of k.phase) b.bands b.reference in Stands mine (with_auction (turned k step p) (Some (auction_begun k step b))) deals step (Published (out.Collar k.id 0 c.lower c.upper) ∷ Published (out.State k.id p) ∷ h)
 stands-paused mine k deals step p b h paused banded s = stands-collared mine (with_auction (turned k step p) (auction_of first k.id)) deals step 0 c (Some (auction_begun k step b)) first auction_is turns
   where
@@ -157,7 +179,7 @@ stands-paused mine k deals step p b h paused banded s = stands-collared mine (wi
     is_paused = sym paused ∙ ap (λ (q : Phase). auction.is_paused q) turns.phase
 
     band_is : Some b ≡ of.last_band (Published m ∷ first) k.id
-    band_is = sym banded ∙ pause_keeps p (is_limit k.phase) k.band paused ∙ turns.band ∙ sym run.band
+    band_is = sym banded ∙ pause_keeps p (is_limit k.phase) (run_band k) paused ∙ sym (turned-band k step p) ∙ turns.band ∙ sym run.band
 
     pauses : auction.pauses k.id (out.State k.id p) ≡ true
     pauses = pauses-own k.id p ∙ paused

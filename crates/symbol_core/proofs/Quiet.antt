@@ -1,6 +1,7 @@
 -- A stock at a quotation, a trade or a tick at which no rule says anything.
 use Rattle.std.proofs.Common.{arith, ◌≡◌, ℕ, ◌<◌, ◌≤◌, Bool, true, false, List, [], ◌∷◌, ◌++◌, refl, sym, ap, ◌∙◌, subst}
-use Rattle.std.specs.Prelude.{Option, Some, None, IfSome, is_some}
+use Rattle.std.specs.Prelude.{Option, Some, None, IfSome, is_some, option_map}
+use Rattle.price_core.specs.declared.quote.Quotation.{Quotation}
 use Rattle.wire_in.specs.declared.record.Record.{Record}
 use Rattle.wire_in.specs.declared.record.Record.TheVariants as in_
 use Rattle.wire_out.specs.declared.message.Message.{Message}
@@ -14,13 +15,14 @@ use Rattle.symbol_core.specs.declared.due.Due.{Due}
 use Rattle.symbol_core.specs.declared.kept.Kept.{Kept}
 use Rattle.symbol_core.specs.declared.kept.Step.{Step}
 use Rattle.symbol_core.specs.declared.symbol.MarketView.{MarketView}
-use Rattle.symbol_core.specs.Idle.{IsDue, IsQuiet, IsSettled, Waits, WaitsAt, comes_often, is_out}
-use Rattle.symbol_core.specs.Kept.{announcing}
+use Rattle.symbol_core.specs.Idle.{IsDue, IsQuiet, IsSettled, Waits, WaitsAt, changes_bands, comes_often, is_out}
+use Rattle.symbol_core.specs.Kept.{announcing, quoted_by, requoted}
 use Rattle.symbol_core.specs.Pricing.{reference}
 use Rattle.symbol_core.specs.Stands.{ObeysAll, Says, Speaks, Stands}
 use Rattle.symbol_core.specs.Taken.{finished, taken}
 use Rattle.symbol_core.specs.Window.{window}
 use Rattle.symbol_core.proofs.Chains.{none}
+use Rattle.symbol_core.proofs.Runs.{run_keeps}
 use Rattle.symbol_core.proofs.Unmoved.{quiet-nothing}
 
 announces_nothing : (k : Kept) (x : Record) → comes_often x ≡ true → announcing k x ≡ []
@@ -47,14 +49,18 @@ asks_nothing s (in_.Indication t i p u) e = absurd cc
 
 -- Time brings nothing once the record is taken in, nor at the end of the step.
 
+-- the bands that time brings, once a quotation is taken in
+bands_taken : (k : Kept) (quote : Option Quotation) (later : Step) → changes_bands (record k { run = option_map (requoted quote) k.run }) later ≡ changes_bands k later
+bands_taken k quote later = run_keeps (λ o. changes_bands (record k { run = o }) later) (requoted quote) (λ run. refl) k.run
+
 waits_taken : (k : Kept) (step : Step) (day : Day) (stopped : Bool) (from until : ℕ) (x : Record) → x ≡ step.input → comes_often x ≡ true → Waits k day stopped from until → Waits (taken k step) day stopped from until
 waits_taken held step day stopped from until (in_.Day t d c) is e w = absurd cc
 waits_taken held step day stopped from until (in_.Listing t name k l c) is e w = absurd cc
-waits_taken held step day stopped from until (in_.Trade t i n p q f) is e w = subst (λ (y : Record). Waits (taken held (record step { input = y })) day stopped from until) is (record { closes = w.closes; starts = w.starts; pauses = w.pauses; reopens = w.reopens; bands = w.bands })
+waits_taken held step day stopped from until (in_.Trade t i n p q f) is e w = subst (λ (y : Record). Waits (taken held (record step { input = y })) day stopped from until) is (record { closes = w.closes; starts = w.starts; pauses = w.pauses; reopens = w.reopens; bands = λ later on le lt. bands_taken held (quoted_by held.id (in_.Trade t i n p q f)) later ∙ w.bands later on le lt })
 waits_taken held step day stopped from until (in_.Cancel t i n) is e w = absurd cc
-waits_taken held step day stopped from until (in_.Quote t i b o y z) is e w = subst (λ (y : Record). Waits (taken held (record step { input = y })) day stopped from until) is (record { closes = w.closes; starts = w.starts; pauses = w.pauses; reopens = w.reopens; bands = w.bands })
-waits_taken held step day stopped from until (in_.IndexTick t v) is e w = subst (λ (y : Record). Waits (taken held (record step { input = y })) day stopped from until) is (record { closes = w.closes; starts = w.starts; pauses = w.pauses; reopens = w.reopens; bands = w.bands })
-waits_taken held step day stopped from until (in_.Clock t) is e w = subst (λ (y : Record). Waits (taken held (record step { input = y })) day stopped from until) is (record { closes = w.closes; starts = w.starts; pauses = w.pauses; reopens = w.reopens; bands = w.bands })
+waits_taken held step day stopped from until (in_.Quote t i b o y z) is e w = subst (λ (y : Record). Waits (taken held (record step { input = y })) day stopped from until) is (record { closes = w.closes; starts = w.starts; pauses = w.pauses; reopens = w.reopens; bands = λ later on le lt. bands_taken held (quoted_by held.id (in_.Quote t i b o y z)) later ∙ w.bands later on le lt })
+waits_taken held step day stopped from until (in_.IndexTick t v) is e w = subst (λ (y : Record). Waits (taken held (record step { input = y })) day stopped from until) is (record { closes = w.closes; starts = w.starts; pauses = w.pauses; reopens = w.reopens; bands = λ later on le lt. bands_taken held (quoted_by held.id (in_.IndexTick t v)) later ∙ w.bands later on le lt })
+waits_taken held step day stopped from until (in_.Clock t) is e w = subst (λ (y : Record). Waits (taken held (record step { input = y })) day stopped from until) is (record { closes = w.closes; starts = w.starts; pauses = w.pauses; reopens = w.reopens; bands = λ later on le lt. bands_taken held (quoted_by held.id (in_.Clock t)) later ∙ w.bands later on le lt })
 waits_taken held step day stopped from until (in_.Notice t i kind) is e w = absurd cc
 waits_taken held step day stopped from until (in_.Indication t i p u) is e w = absurd cc
 

@@ -1,6 +1,6 @@
 -- A stock in a run that takes a quotation in at which no rule says anything.
 use Rattle.std.proofs.Common.{arith, ◌≡◌, ℕ, ◌<◌, ◌≤◌, Bool, true, false, List, refl, sym, ap, ◌∙◌, subst}
-use Rattle.std.specs.Prelude.{Option, Some, None, if◌then◌else◌, filter, is_some}
+use Rattle.std.specs.Prelude.{Option, Some, None, filter, is_some, option_map}
 use Rattle.price_core.specs.declared.quote.Quotation.{Quotation}
 use Rattle.wire_in.specs.declared.record.Record.{Record}
 use Rattle.wire_in.specs.declared.record.Record.TheVariants as in_
@@ -9,14 +9,14 @@ use Rattle.wire_out.specs.declared.message.Message.{Message}
 use Rattle.window_core.specs.declared.window.Deal.{Deal}
 use Rattle.window_core.specs.Deals.{live, mean_of}
 use Rattle.window_core.proofs.Deals.{live-live}
-use Rattle.rulebook.specs.Rules.{or_else}
 use Rattle.symbol_core.specs.declared.due.Due.{Due}
 use Rattle.symbol_core.specs.declared.kept.Kept.{Kept}
+use Rattle.symbol_core.specs.declared.kept.Run.{Run}
 use Rattle.symbol_core.specs.declared.kept.Step.{Step}
 use Rattle.symbol_core.specs.declared.symbol.MarketView.{MarketView}
 use Rattle.symbol_core.specs.Evaluates.{Evaluates}
-use Rattle.symbol_core.specs.Idle.{IsDue, IsIdle, IsRested, IsSettled, WaitsAt, is_out, quoted}
-use Rattle.symbol_core.specs.Kept.{quoted_by, with_quote}
+use Rattle.symbol_core.specs.Idle.{IsDue, IsIdle, IsRested, IsSettled, IsSettledAt, WaitsAt, changes_bands, is_out, quoted}
+use Rattle.symbol_core.specs.Kept.{quoted_by, requoted, with_quote}
 use Rattle.symbol_core.specs.Pricing.{reference}
 use Rattle.symbol_core.specs.Steps.{Steps}
 use Rattle.symbol_core.specs.Taken.{leaves, taken}
@@ -24,6 +24,7 @@ use Rattle.symbol_core.specs.Window.{SameLive, window}
 use Rattle.symbol_core.proofs.Cancels.{leaves-all}
 use Rattle.symbol_core.proofs.Evaluated.{step-evaluated, step_for}
 use Rattle.symbol_core.proofs.Quiet.{speaks-quiet, waits-due, waits-taken}
+use Rattle.symbol_core.proofs.Runs.{run_keeps}
 use Rattle.symbol_core.proofs.Steps.{step-evaluates}
 use Rattle.symbol_core.proofs.Unmoved.{window_rested}
 
@@ -31,34 +32,45 @@ use Rattle.symbol_core.proofs.Unmoved.{window_rested}
 pub settled-market : (k : Kept) (deals : List Deal) (due : Due) (market : MarketView) → IsDue (Some due) k deals → is_out k ≡ false → market ≡ due.market → IsSettled k market.stopped
 settled-market k deals due market is inside same = let idle = is inside in subst (λ (m : MarketView). IsSettled k m.stopped) (sym same) idle.settled
 
+-- what a quotation leaves
+kept_quoted : {X : Type 0} (value : Kept → X) (k : Kept) (quote : Quotation) → ((run : Run) (other : Option Quotation) → value (record k { run = Some (requoted other run) }) ≡ value (record k { run = Some run })) → value (with_quote k quote) ≡ value k
+kept_quoted value k quote leaves = run_keeps (λ o. value (record k { run = o })) (requoted (Some quote)) (λ run. leaves run (Some quote)) k.run
+
+reference_quoted : (k : Kept) (quote : Quotation) (step : Step) (mean : Option ℕ) → reference (with_quote k quote) step mean ≡ reference k step mean
+reference_quoted k quote step mean = kept_quoted (λ l. reference l step mean) k quote (λ run other. refl)
+
+-- settled with the quotation that it then has
+settled_quoted : (k : Kept) (quote : Quotation) (stopped : Bool) → is_some k.run ≡ true → IsSettledAt k (Some quote) stopped → IsSettled (with_quote k quote) stopped
+settled_quoted k quote stopped runs settled = by k.run runs settled where
+  by : (o : Option Run) → is_some o ≡ true → IsSettledAt (record k { run = o }) (Some quote) stopped → IsSettled (with_quote (record k { run = o }) quote) stopped
+  by None e s = absurd cc
+  by (Some run) e s = record { runs = s.runs; halted = s.halted; stays = s.stays; low = s.low; high = s.high; straddles = s.straddles }
+
 -- when the stock is due after it
-pub quoted-due : (k : Kept) (deals : List Deal) (due : Due) (t : ℕ) (quote : Quotation) (market : MarketView) → IsDue (Some due) k deals → due.from ≤ t → market ≡ due.market → IsSettled (with_quote k (Some quote)) market.stopped
-    → IsDue (Some (record due { from = t })) (with_quote k (Some quote)) (live t deals)
-quoted-due k deals due t quote market is from same settled = λ inside. by (is inside) where
-  by : IsIdle k deals due → IsIdle (with_quote k (Some quote)) (live t deals) (record due { from = t })
+pub quoted-due : (k : Kept) (deals : List Deal) (due : Due) (t : ℕ) (quote : Quotation) (market : MarketView) → IsDue (Some due) k deals → due.from ≤ t → market ≡ due.market → is_some k.run ≡ true → IsSettledAt k (Some quote) market.stopped
+    → IsDue (Some (record due { from = t })) (with_quote k quote) (live t deals)
+quoted-due k deals due t quote market is from same run settled = λ inside. by (is inside) where
+  by : IsIdle k deals due → IsIdle (with_quote k quote) (live t deals) (record due { from = t })
   by idle =
       let waits = idle.waits in
       let rested = idle.rested in
       record {
         rested = record { left_limit = rested.left_limit; released = rested.released; deal = rested.deal; is_fresh = rested.is_fresh; restricts = rested.restricts };
-        settled = subst (λ (m : MarketView). IsSettled (with_quote k (Some quote)) m.stopped) same settled;
+        settled = subst (λ (m : MarketView). IsSettled (with_quote k quote) m.stopped) same (settled_quoted k quote market.stopped run settled);
         waits = record {
           closes = waits.closes;
           starts = waits.starts;
           pauses = waits.pauses;
           reopens = waits.reopens;
-          bands = λ step day le lt. waits.bands step day (omega arith) lt;
+          bands = λ step day le lt. kept_quoted (λ l. changes_bands l step) k quote (λ run other. refl) ∙ waits.bands step day (omega arith) lt;
         };
         within = idle.within;
-        prices = λ step tick le lt. ap (λ (ds : List Deal). reference k step (mean_of ds)) (live-live t step.moment le deals) ∙ idle.prices step tick (omega arith) lt;
+        prices = λ step tick le lt. reference_quoted k quote step (mean_of (live step.moment (live t deals))) ∙ ap (λ (ds : List Deal). reference k step (mean_of ds)) (live-live t step.moment le deals) ∙ idle.prices step tick (omega arith) lt;
       }
-
-quote_first : (a : Bool) (q : Quotation) (o : Option Quotation) (b : Option Quotation) → a ≡ true → o ≡ Some q → Some q ≡ (if a then or_else o b else b)
-quote_first a q o b is offered = rw (is, offered) refl
 
 module _ (market : MarketView) (t i y z : ℕ) (bid offer : Option ℕ) (k : Kept) (deals : List Deal) (due : Due) (quote : Quotation)
     (is : IsDue (Some due) k deals) (inside : is_out k ≡ false) (from : due.from ≤ t) (until : t < due.until) (same : market ≡ due.market)
-    (run : is_some k.begun ≡ true) (settled : IsSettled (with_quote k (Some quote)) market.stopped) (offered : quoted_by k.id (in_.Quote t i bid offer y z) ≡ Some quote) where
+    (run : is_some k.run ≡ true) (settled : IsSettledAt k (Some quote) market.stopped) (offered : quoted_by k.id (in_.Quote t i bid offer y z) ≡ Some quote) where
   abbrev x : Record
   x = in_.Quote t i bid offer y z
 
@@ -69,7 +81,7 @@ module _ (market : MarketView) (t i y z : ℕ) (bid offer : Option ℕ) (k : Kep
   idle = is inside
 
   abbrev with_it : Kept
-  with_it = with_quote k (Some quote)
+  with_it = with_quote k quote
 
   rested : IsRested with_it
   rested = record { left_limit = idle.rested.left_limit; released = idle.rested.released; deal = idle.rested.deal; is_fresh = idle.rested.is_fresh; restricts = idle.rested.restricts }
@@ -77,7 +89,7 @@ module _ (market : MarketView) (t i y z : ℕ) (bid offer : Option ℕ) (k : Kep
   -- the kept state once the quotation is taken in
   took : with_it ≡ taken k step
   took = λ j. record k {
-    quote = quote_first (is_some k.begun) quote (quoted_by k.id x) k.quote run offered j;
+    run = option_map (requoted (sym offered j)) k.run;
     left_limit = idle.rested.left_limit j;
     released = idle.rested.released j;
     deal = idle.rested.deal j;
@@ -99,6 +111,7 @@ module _ (market : MarketView) (t i y z : ℕ) (bid offer : Option ℕ) (k : Kep
   no_price =
       ap (λ (ds : List Deal). reference with_it step (mean_of (live t ds))) (window_rested with_it stayed rested ∙ all)
       ∙ ap (λ (ds : List Deal). reference with_it step (mean_of ds)) (live-live t t (omega arith) deals)
+      ∙ reference_quoted k quote step (mean_of (live t deals))
       ∙ idle.prices (record step { input = in_.Clock t }) refl from until
 
   keeps : SameLive t (live t deals) (window (taken k step) stayed)
@@ -109,13 +122,13 @@ module _ (market : MarketView) (t i y z : ℕ) (bid offer : Option ℕ) (k : Kep
   pub quote-steps : (before : List Message) → Steps step k with_it deals (live t deals) before before
   quote-steps before =
       let spoken = speaks-quiet (taken k step) stayed step before (Some due.waits) refl (waits-taken k step (Some due.waits) waits)
-      (subst (λ (kept : Kept). IsSettled kept market.stopped) took settled)
+      (subst (λ (kept : Kept). IsSettled kept market.stopped) took (settled_quoted k quote market.stopped run settled))
       (subst (λ (kept : Kept). reference kept step (mean_of (live t (window kept stayed))) ≡ None) took no_price) refl in
       step-evaluates step k spoken.said (taken k step) (taken k step) with_it deals (filter (leaves k.id x) deals) stayed stayed (live t deals) before spoken.between before
       refl refl refl refl spoken.announces spoken.obeys keeps took
 
 pub quoted-evaluated : (market : MarketView) (x : Record) (k : Kept) (deals : List Deal) (due : Due) (quote : Quotation) (before : List Message) → IsDue (Some due) k deals → is_out k ≡ false → due.from ≤ moment_of x → moment_of x < due.until
-    → market ≡ due.market → is_some k.begun ≡ true → IsSettled (with_quote k (Some quote)) market.stopped → quoted_by k.id x ≡ Some quote
+    → market ≡ due.market → is_some k.run ≡ true → IsSettledAt k (Some quote) market.stopped → quoted_by k.id x ≡ Some quote
     → Evaluates market x (record { kept = k; deals = deals }) (quoted (record { kept = k; deals = deals }) (moment_of x) quote) before before
 quoted-evaluated market (in_.Day t d c) k deals due quote before is inside from until same run settled offered = absurd cc
 quoted-evaluated market (in_.Listing t name tier l c) k deals due quote before is inside from until same run settled offered = absurd cc

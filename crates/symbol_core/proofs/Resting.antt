@@ -33,6 +33,7 @@ use Rattle.symbol_core.specs.declared.kept.Kept.{Kept}
 use Rattle.symbol_core.specs.Auctions.{auction_by}
 use Rattle.symbol_core.specs.Kept.{heard}
 use Rattle.symbol_core.specs.Rests.{Held, Rests, deals_today}
+use Rattle.symbol_core.specs.Runs.{adoption_by, run_adopted, run_band, run_begun, run_quote}
 use Rattle.symbol_core.specs.Silent.{AllSilent, IsOfOthers, IsSilent, SaysNothing}
 use Rattle.symbol_core.specs.Taken.{renewed}
 use Rattle.symbol_core.specs.Window.{SameLive}
@@ -40,7 +41,7 @@ use Rattle.symbol_core.proofs.Deals.{deals_from}
 use Rattle.symbol_core.proofs.Histories.{begun-run, last-other, of_begun, on_run}
 use Rattle.symbol_core.proofs.Live.{same_later, same_then}
 use Rattle.symbol_core.proofs.Others.{deals-others, halted-others, indicated-others, quoted-others, terms-others, triggered-others}
-use Rattle.symbol_core.proofs.Taken.{auction-taken, auction_since, halted-taken, quote-taken, run_taken}
+use Rattle.symbol_core.proofs.Taken.{adoption-taken, auction-taken, auction_since, halted-taken, quote-taken, run_taken}
 
 -- one more message that says nothing of it
 rests-message : (mine : List ℕ → Bool) (held : Held) (m : Message) (h : List Event) → IsSilent held.kept.id m → Rests mine held h → Rests mine held (Published m ∷ h)
@@ -52,7 +53,7 @@ rests-message mine held m h q r =
       begun = r.begun ∙ ap (λ (b : Bool). if b then Some (now (today h)) else of.begun_in s (today h)) (sym none_begins);
       quote = r.quote ∙ sym (on_run (quote_in s) s m h none_begins (λ e. refl));
       band = r.band ∙ sym band_is;
-      adopted = r.adopted ∙ sym (on_run (λ e. option_map_or (λ b. b.moment) (last (of.adoption_of s) e) 0) s m h none_begins (λ e. ap (λ (o : Option (Found Banded)). option_map_or (λ b. b.moment) o 0) (last-other (of.adoption_of s) m e none_adopts)));
+      adopted = r.adopted ∙ sym (λ i. adoption_by (adopted_is i) (band_is i));
       straddling = r.straddling ∙ sym (ap (λ (o : Option (Found Bool)). option_map_or (λ straddle. straddle.value) o false) (last-other (of.straddle_of s) m (today h) q.straddle));
       halted = r.halted;
       auction = r.auction ∙ (λ i. auction_by (auction.is_paused (sym phase_is i)) (sym band_is i) (sym round_is i) (origin_is i) (indication_is i));
@@ -91,6 +92,9 @@ rests-message mine held m h q r =
 
     none_adopts : of.adoption_of s m ≡ None
     none_adopts = ap (λ (o : Option Banded). option_and_then (λ b. if is_times b.cause then None else Some b) o) q.band
+
+    adopted_is : of.adopted (Published m ∷ h) s ≡ of.adopted h s
+    adopted_is = on_run (λ e. option_map_or (λ b. b.moment) (last (of.adoption_of s) e) 0) s m h none_begins (λ e. ap (λ (o : Option (Found Banded)). option_map_or (λ b. b.moment) o 0) (last-other (of.adoption_of s) m e none_adopts))
 
     counts : (day : Day) (t : ℕ) (e : List Event) → deals_from day s t (Published m ∷ e) ≡ deals_from day s t e
     counts day t e = ap (λ (o : Option Banded). deals_in day s [] (if (is_some o && not (is_some (last (of.band_of s) e))) && option_map_or (of.opens_before day s (t + five_minutes)) (newest e) false then Published m ∷ step_record e else Published m ∷ counted_in day s (t + five_minutes) e)) q.band
@@ -132,10 +136,11 @@ rests-record mine held x h not_day o same r =
       terms = r.terms ∙ sym (terms-others mine x (records h) not_day o.name);
       phase = along (λ t. held.kept.phase ≡ of.phase_in s t) r.phase;
       since = along (λ t. held.kept.since ≡ option_map_or (λ state. state.moment) (last (of.state_of s) t) 0) r.since;
-      begun = along (λ t. held.kept.begun ≡ of.begun_in s t) r.begun;
-      quote = along (λ t. held.kept.quote ≡ quote_in s (unwrap_or (of.run_in s t) [])) (r.quote ∙ sym (run_taken (quote_in s) x (of.run_in s (today h)) (λ e. quote-taken s x e ∙ ap (λ (q : Option Quotation). or_else q (quote_in s e)) (quoted-others s x o.symbol))));
-      band = along (λ t. held.kept.band ≡ option_map (λ b. b.value) (last (of.band_of s) (unwrap_or (of.run_in s t) []))) (r.band ∙ sym (run_taken (λ e. option_map (λ b. b.value) (last (of.band_of s) e)) x (of.run_in s (today h)) (λ e. refl)));
-      adopted = along (λ t. held.kept.adopted ≡ option_map_or (λ b. b.moment) (last (of.adoption_of s) (unwrap_or (of.run_in s t) [])) 0) (r.adopted ∙ sym (run_taken (λ e. option_map_or (λ b. b.moment) (last (of.adoption_of s) e) 0) x (of.run_in s (today h)) (λ e. refl)));
+      begun = along (λ t. run_begun held.kept ≡ of.begun_in s t) r.begun;
+      quote = along (λ t. run_quote held.kept ≡ quote_in s (unwrap_or (of.run_in s t) [])) (r.quote ∙ sym (run_taken (quote_in s) x (of.run_in s (today h)) (λ e. quote-taken s x e ∙ ap (λ (q : Option Quotation). or_else q (quote_in s e)) (quoted-others s x o.symbol))));
+      band = along (λ t. run_band held.kept ≡ option_map (λ b. b.value) (last (of.band_of s) (unwrap_or (of.run_in s t) []))) (r.band ∙ sym (run_taken (λ e. option_map (λ b. b.value) (last (of.band_of s) e)) x (of.run_in s (today h)) (λ e. refl)));
+      adopted = along (λ t. run_adopted held.kept ≡ adoption_by (option_map_or (λ b. b.moment) (last (of.adoption_of s) (unwrap_or (of.run_in s t) [])) 0) (option_map (λ b. b.value) (last (of.band_of s) (unwrap_or (of.run_in s t) []))))
+          (r.adopted ∙ sym (adoption-taken s x (of.run_in s (today h))));
       straddling = along (λ t. held.kept.straddling ≡ option_map_or (λ straddle. straddle.value) (last (of.straddle_of s) t) false) r.straddling;
       halted = along (λ t. held.kept.halted ≡ is_under_regulatory_halt_in s (records t)) (r.halted ∙ sym (halted-taken s x (records (today h)) ∙ halted-others s x (is_under_regulatory_halt_in s (records (today h))) o.symbol));
       auction = along (λ t. held.kept.auction ≡ auction_since s t) (r.auction ∙ sym (auction-taken s x (today h) ∙ ap (λ (i : Option Indication). heard i (auction_since s (today h))) (indicated-others s x o.symbol)));

@@ -78,7 +78,7 @@ pub record Parts (step : Step) (k said mid : Kept) (kept dropped left : List Dea
   pub announces : Says (announcing (taken k step) step.input) step (taken k step) said before between
   pub drops : SameLive step.moment dropped (filter (leaves k.id step.input) kept)
   pub obeys : ObeysAll dropped symbol_rules step said mid between after
-  pub keeps : SameLive step.moment left ((if mid.is_fresh then [] else dropped) ++ (if is_some mid.begun then option_to_list (taken k step).deal else []))
+  pub keeps : SameLive step.moment left ((if mid.is_fresh then [] else dropped) ++ (if is_some mid.run then option_to_list (taken k step).deal else []))
 
 evaluated : (step : Step) (k said mid : Kept) (kept dropped left : List Deal) (before between after : List Message) → Parts step k said mid kept dropped left before between after
     → Steps step k (finished mid) kept left before after
@@ -100,7 +100,7 @@ evaluated step k said mid kept dropped left before between after parts =
           (subst (λ (i : ℕ). Stands mine mid dropped step (publish (all_obeyed step.day (named mine i) step.input symbol_rules (publish ms H)) (publish ms H))) a.id (o.stands mine (publish ms H) (opened mine others h p))) in
           let same : option_to_list mid.deal ≡ option_to_list (taken k step).deal = t.deal ∙ ap (λ (i : ℕ). deals_in step.day i [] (Accepted step.input ∷ [])) (o.id ∙ a.id) ∙ sym (own-taken step.day k.id step.input) in
           rests-finished mine mid dropped left step p.index all (day_opened mine step k kept others h p (step_of step.day (named mine k.id) step.input H))
-          (subst (λ (own : List Deal). SameLive step.moment left ((if mid.is_fresh then [] else dropped) ++ (if is_some mid.begun then own else []))) (sym same) parts.keeps) t;
+          (subst (λ (own : List Deal). SameLive step.moment left ((if mid.is_fresh then [] else dropped) ++ (if is_some mid.run then own else []))) (sym same) parts.keeps) t;
       id = o.id ∙ a.id;
     }
   where
@@ -125,7 +125,7 @@ pub step-evaluates : (step : Step) (k said mid took new : Kept) (kept stayed dro
     → stayed ≡ filter (leaves k.id step.input) kept → dropped ≡ live step.moment stayed → lent ≡ dropped → took ≡ taken k step
     → Says (announcing took step.input) step took said before between
     → ObeysAll lent symbol_rules step said mid between after
-    → SameLive step.moment left ((if mid.is_fresh then [] else dropped) ++ (if is_some mid.begun then option_to_list took.deal else []))
+    → SameLive step.moment left ((if mid.is_fresh then [] else dropped) ++ (if is_some mid.run then option_to_list took.deal else []))
     → new ≡ finished mid
     → Steps step k new kept left before after
 step-evaluates step k said mid took new kept stayed dropped lent left before between after s d l t a o f n =
@@ -135,5 +135,5 @@ step-evaluates step k said mid took new kept stayed dropped lent left before bet
       announces = subst (λ (m : Kept). Says (announcing m step.input) step m said before between) t a;
       drops = subst (λ (ds : List Deal). SameLive step.moment ds (filter (leaves k.id step.input) kept)) (sym (d ∙ ap (live step.moment) s)) (same-live step.moment (filter (leaves k.id step.input) kept));
       obeys = subst (λ (ds : List Deal). ObeysAll ds symbol_rules step said mid between after) l o;
-      keeps = subst (λ (m : Kept). SameLive step.moment left ((if mid.is_fresh then [] else dropped) ++ (if is_some mid.begun then option_to_list m.deal else []))) t f;
+      keeps = subst (λ (m : Kept). SameLive step.moment left ((if mid.is_fresh then [] else dropped) ++ (if is_some mid.run then option_to_list m.deal else []))) t f;
     }))

@@ -1,8 +1,9 @@
 -- Taking a record in: the kept state that the code leaves stands for the history with it.
 use Rattle.std.proofs.Common.{◌≡◌, ℕ, ◌+◌, ◌≤◌, Bool, true, false, List, [], ◌∷◌, ◌++◌, refl, sym, ap, ◌∙◌, subst, arith}
-use Rattle.std.specs.Prelude.{Option, Some, None, if◌then◌else◌, option_map, unwrap_or, ◌&&◌, ◌||◌, ◌==◌, not, is_some, filter, option_to_list}
+use Rattle.std.specs.Prelude.{Option, Some, None, if◌then◌else◌, option_map, option_and_then, unwrap_or, ◌&&◌, ◌||◌, ◌==◌, not, is_some, filter, option_to_list}
 use Rattle.std.specs.Option.{option_map_or}
 use Rattle.std.proofs.lemmas.List.Elements.{filter-append}
+use Rattle.price_core.specs.declared.quote.Quotation.{Quotation}
 use Rattle.session_core.specs.declared.day.Day.{Day}
 use Rattle.wire_in.specs.declared.record.Record.{Record}
 use Rattle.reopen_core.specs.declared.auction.Indication.{Indication}
@@ -23,15 +24,18 @@ use Rattle.rulebook.specs.Symbol.{cancels, counted_in, is_under_regulatory_halt_
 use Rattle.eligible_core.specs.Conditions.{eligible}
 use Rattle.window_core.specs.declared.window.Deal.{Deal}
 use Rattle.symbol_core.specs.declared.kept.Kept.{Kept}
+use Rattle.symbol_core.specs.declared.kept.Run.{Run}
 use Rattle.symbol_core.specs.declared.kept.Step.{Step}
 use Rattle.symbol_core.specs.Auctions.{auction_by}
-use Rattle.symbol_core.specs.Kept.{heard, quoted_by}
+use Rattle.symbol_core.specs.Kept.{heard, quoted_by, requoted}
+use Rattle.symbol_core.specs.Runs.{adoption_by, run_adopted, run_band, run_begun, run_quote}
 use Rattle.symbol_core.specs.Rests.{Rests}
 use Rattle.symbol_core.specs.Taken.{halted_by, listed_by, deal_of, leaves, prior_close_by, taken, triggers_by}
 use Rattle.symbol_core.specs.Stands.{Stands}
 use Rattle.symbol_core.specs.Window.{SameLive}
 use Rattle.window_core.specs.Deals.{live, is_live}
 use Rattle.symbol_core.proofs.Histories.{begun-run}
+use Rattle.symbol_core.proofs.Runs.{has_begun, run_keeps}
 use Rattle.wire_in.specs.declared.record.NoticeKind.TheVariants as notice
 use Rattle.wire_in.specs.declared.record.Record.TheVariants as in_
 use Rattle.rulebook.specs.Auction as auction
@@ -98,6 +102,12 @@ own-taken day s (in_.Indication t i p u) = refl
 pub run_taken : {X : Type 0} (value : List Event → X) (x : Record) (o : Option (List Event)) → ((r : List Event) → value (Accepted x ∷ r) ≡ value r) → value (unwrap_or (option_map (λ r. Accepted x ∷ r) o) []) ≡ value (unwrap_or o [])
 run_taken value x None ignores = refl
 run_taken value x (Some r) ignores = ignores r
+
+-- the last adoption of the run after a record
+pub adoption-taken : (s : ℕ) (x : Record) (o : Option (List Event))
+    → adoption_by (option_map_or (λ b. b.moment) (last (of.adoption_of s) (unwrap_or (option_map (λ r. Accepted x ∷ r) o) [])) 0) (option_map (λ b. b.value) (last (of.band_of s) (unwrap_or (option_map (λ r. Accepted x ∷ r) o) [])))
+    ≡ adoption_by (option_map_or (λ b. b.moment) (last (of.adoption_of s) (unwrap_or o [])) 0) (option_map (λ b. b.value) (last (of.band_of s) (unwrap_or o [])))
+adoption-taken s x o = run_taken (λ r. adoption_by (option_map_or (λ b. b.moment) (last (of.adoption_of s) r) 0) (option_map (λ b. b.value) (last (of.band_of s) r))) x o (λ r. refl)
 
 -- the auction of the events of a day
 abbrev pub auction_since : ℕ → List Event → Option AuctionState
@@ -180,10 +190,12 @@ stands-taken mine k kept step index h not_day name day s at stopped later =
       terms = ap (λ (o : Option Terms). listed_by x o) s.terms ∙ terms-taken mine x (records h) not_day name;
       phase = along (λ t. k.phase ≡ of.phase_in k.id t) s.phase;
       since = along (λ t. k.since ≡ option_map_or (λ state. state.moment) (last (of.state_of k.id) t) 0) s.since;
-      begun = along (λ t. k.begun ≡ of.begun_in k.id t) s.begun;
-      quote = along (λ t. (if is_some k.begun then or_else (quoted_by k.id x) k.quote else k.quote) ≡ quote_in k.id (unwrap_or (of.run_in k.id t) [])) (rw (has_run, s.quote) (quote_run (of.run_in k.id (today h))));
-      band = along (λ t. k.band ≡ option_map (λ b. b.value) (last (of.band_of k.id) (unwrap_or (of.run_in k.id t) []))) (s.band ∙ sym (run_taken (λ r. option_map (λ b. b.value) (last (of.band_of k.id) r)) x (of.run_in k.id (today h)) (λ r. refl)));
-      adopted = along (λ t. k.adopted ≡ option_map_or (λ b. b.moment) (last (of.adoption_of k.id) (unwrap_or (of.run_in k.id t) [])) 0) (s.adopted ∙ sym (run_taken (λ r. option_map_or (λ b. b.moment) (last (of.adoption_of k.id) r) 0) x (of.run_in k.id (today h)) (λ r. refl)));
+      begun = taken_keeps (λ o. option_map (λ run. run.reference.begun) o) (λ run q. refl) ∙ along (λ t. run_begun k ≡ of.begun_in k.id t) s.begun;
+      quote = quote_now k.run ∙ along (λ t. (if is_some k.run then or_else (quoted_by k.id x) (run_quote k) else run_quote k) ≡ quote_in k.id (unwrap_or (of.run_in k.id t) [])) quote_is;
+      band = taken_keeps (λ o. option_and_then (λ run. run.band) o) (λ run q. refl) ∙ along (λ t. run_band k ≡ option_map (λ b. b.value) (last (of.band_of k.id) (unwrap_or (of.run_in k.id t) []))) (s.band ∙ sym (run_taken (λ r. option_map (λ b. b.value) (last (of.band_of k.id) r)) x (of.run_in k.id (today h)) (λ r. refl)));
+      adopted = taken_keeps (λ o. option_and_then (λ run. run.reference.last) o) (λ run q. refl)
+          ∙ along (λ t. run_adopted k ≡ adoption_by (option_map_or (λ b. b.moment) (last (of.adoption_of k.id) (unwrap_or (of.run_in k.id t) [])) 0) (option_map (λ b. b.value) (last (of.band_of k.id) (unwrap_or (of.run_in k.id t) []))))
+          (s.adopted ∙ sym (adoption-taken k.id x (of.run_in k.id (today h))));
       straddling = along (λ t. k.straddling ≡ option_map_or (λ straddle. straddle.value) (last (of.straddle_of k.id) t) false) s.straddling;
       halted = along (λ t. halted_by k.id x k.halted ≡ is_under_regulatory_halt_in k.id (records t)) (ap (λ (b : Bool). halted_by k.id x b) s.halted ∙ sym (halted-taken k.id x (records (today h))));
       auction = along (λ t. heard (indicated_by k.id x) k.auction ≡ auction_since k.id t) (ap (heard (indicated_by k.id x)) s.auction ∙ sym (auction-taken k.id x (today h)));
@@ -197,8 +209,9 @@ stands-taken mine k kept step index h not_day name day s at stopped later =
       released = refl;
       deal = own-taken step.day k.id x;
       restricts = λ i. triggers_is i && not (before_is i);
-      window = along (λ t. SameLive (moment_of x) (filter (leaves k.id x) kept ++ (if is_some k.begun then option_to_list (deal_of step.day k.id x) else [])) (deals_in step.day k.id [] (counted_in step.day k.id (unwrap_or (of.begun_in k.id t) 0 + five_minutes) (unwrap_or (of.run_in k.id t) []))))
-          (rw has_run (window_taken step.day k.id x (now h) (moment_of x) (of.begun h k.id + five_minutes) kept (option_to_list (deal_of step.day k.id x)) (of.run_in k.id (today h)) (rw at at later) (own-taken step.day k.id x) kept_live));
+      window = subst (λ (runs : Bool). SameLive (moment_of x) (filter (leaves k.id x) kept ++ (if runs then option_to_list (deal_of step.day k.id x) else [])) (deals_of step.day (Accepted x ∷ h) k.id)) (sym (taken_keeps (λ o. is_some o) (λ run q. refl)))
+          (along (λ t. SameLive (moment_of x) (filter (leaves k.id x) kept ++ (if is_some k.run then option_to_list (deal_of step.day k.id x) else [])) (deals_in step.day k.id [] (counted_in step.day k.id (unwrap_or (of.begun_in k.id t) 0 + five_minutes) (unwrap_or (of.run_in k.id t) []))))
+          (rw has_run (window_taken step.day k.id x (now h) (moment_of x) (of.begun h k.id + five_minutes) kept (option_to_list (deal_of step.day k.id x)) (of.run_in k.id (today h)) (rw at at later) (own-taken step.day k.id x) kept_live)));
     }
   where
     x : Record
@@ -226,9 +239,20 @@ stands-taken mine k kept step index h not_day name day s at stopped later =
     kept_live : SameLive (now h) kept (deals_of step.day h k.id)
     kept_live = subst (λ (o : Option (Day × ℕ)). SameLive (now h) kept (option_map_or (λ d. deals_of d.0 h k.id) o [])) day s.deals
 
-    has_run : is_some k.begun ≡ is_some (of.run_in k.id (today h))
-    has_run = ap (λ (o : Option ℕ). is_some o) s.begun ∙ begun-run k.id (today h)
+    has_run : is_some k.run ≡ is_some (of.run_in k.id (today h))
+    has_run = has_begun k.run ∙ ap (λ (o : Option ℕ). is_some o) s.begun ∙ begun-run k.id (today h)
+
+    -- a value of the run that a quotation leaves
+    taken_keeps : {X : Type 0} (value : Option Run → X) → ((run : Run) (quote : Option Quotation) → value (Some (requoted quote run)) ≡ value (Some run)) → value (option_map (requoted (quoted_by k.id x)) k.run) ≡ value k.run
+    taken_keeps value leaves = run_keeps value (requoted (quoted_by k.id x)) (λ run. leaves run (quoted_by k.id x)) k.run
+
+    quote_now : (o : Option Run) → option_and_then (λ run. run.quote) (option_map (requoted (quoted_by k.id x)) o) ≡ (if is_some o then or_else (quoted_by k.id x) (option_and_then (λ run. run.quote) o) else option_and_then (λ run. run.quote) o)
+    quote_now None = refl
+    quote_now (Some run) = refl
 
     quote_run : (o : Option (List Event)) → (if is_some o then or_else (quoted_by k.id x) (quote_in k.id (unwrap_or o [])) else quote_in k.id (unwrap_or o [])) ≡ quote_in k.id (unwrap_or (option_map (λ r. Accepted x ∷ r) o) [])
     quote_run None = refl
     quote_run (Some r) = sym (quote-taken k.id x r)
+
+    quote_is : (if is_some k.run then or_else (quoted_by k.id x) (run_quote k) else run_quote k) ≡ quote_in k.id (unwrap_or (option_map (λ r. Accepted x ∷ r) (of.run_in k.id (today h))) [])
+    quote_is = rw (has_run, s.quote) (quote_run (of.run_in k.id (today h)))

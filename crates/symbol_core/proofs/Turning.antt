@@ -1,6 +1,6 @@
 -- The rules that turn a phase, in one call.
 use Rattle.std.proofs.Common.{◌≡◌, ℕ, Bool, true, false, cond, List, [], ◌∷◌, ◌++◌, refl, sym, ap, ◌∙◌, subst}
-use Rattle.std.specs.Prelude.{Option, Some, None, if◌then◌else◌, map, option_to_list, unwrap_or}
+use Rattle.std.specs.Prelude.{Option, Some, None, if◌then◌else◌, option_to_list, unwrap_or}
 use Rattle.std.specs.Option.{option_map_or}
 use Rattle.std.proofs.lemmas.List.{map-append}
 use Rattle.session_core.specs.declared.state.Phase.{Phase}

@@ -34,6 +34,7 @@ use Rattle.rulebook.specs.History.{publish}
 use Rattle.rulebook.specs.Rules as rules
 use Rattle.rulebook.specs.Rules.{Context, at_band}
 use Rattle.rulebook.specs.Symbol as of
+use Rattle.rulebook.specs.Symbol.{is_times}
 use Rattle.rulebook.proofs.Histories.{publish-append}
 use Rattle.symbol_core.specs.declared.kept.Kept.{Kept}
 use Rattle.symbol_core.specs.declared.kept.Step.{Step}
@@ -42,6 +43,7 @@ use Rattle.symbol_core.specs.Evaluates.{Opens, open_history, part_of, step_of}
 use Rattle.symbol_core.specs.Kept.{announcing, auction_begun, banded, becoming, begins_auction, brakes, collars_of, in_round, is_straddling_now, pause_now, pausing, pausing_as, released, reopened, reopening, reopening_with, straddled, straddling, turned, with_auction}
 use Rattle.symbol_core.specs.Pricing.{band, band_by_time, banding, reference, time_changes}
 use Rattle.symbol_core.specs.Rests.{Held, Rests}
+use Rattle.symbol_core.specs.Runs.{run_band, run_quote}
 use Rattle.symbol_core.specs.Stands.{named, Stands}
 use Rattle.symbol_core.specs.Steps.{Starts}
 use Rattle.symbol_core.specs.Taken.{finished, leaves, renewed, taken}
@@ -51,7 +53,7 @@ use Rattle.symbol_core.proofs.Evaluated.{away, away-open, evaluated-away, starts
 use Rattle.symbol_core.proofs.Finished.{rests-finished}
 use Rattle.symbol_core.proofs.Gives.{announced-gives, banding-gives, enter-gives, entering, leave-gives, leaving, mean-gives, pause-gives, reopen-gives, restrict-gives, restricting, straddle-gives, turned-gives}
 use Rattle.symbol_core.proofs.Messages.{stands-banded, stands-released, stands-short, stands-straddled, stands-with_round}
-use Rattle.symbol_core.proofs.Pauses.{Unpaused, alone, close-unpaused, halt-unpaused, priced-unpaused, start-unpaused, stop-unpaused, trading-unpaused}
+use Rattle.symbol_core.proofs.Pauses.{Unpaused, alone, close-unpaused, halt-unpaused, priced-adopts, priced-unpaused, start-unpaused, stop-unpaused, trading-unpaused}
 use Rattle.symbol_core.proofs.Phases.{stands-paused, stands-turned}
 use Rattle.symbol_core.proofs.Resting.{rests-renewed}
 use Rattle.symbol_core.proofs.Steps.{day_opened, stands-opened}
@@ -103,12 +105,12 @@ turning_said rule unpaused k step =
     (λ p is. becoming_said k step p (alone k p (rule k.phase (brakes k step)) is (unpaused k.phase (brakes k step))))
 
 pausing_said : (k : Kept) (step : Step) → Said step (pausing k step) k
-pausing_said k step = said_some step (pausing_as k step) (pause_now k step) k (λ p is. by p (is_paused p) k.band refl refl) where
+pausing_said k step = said_some step (pausing_as k step) (pause_now k step) k (λ p is. by p (is_paused p) (run_band k) refl refl) where
   rounds : Banded → List Message
   rounds b = collars_of k.id (auction_begun k step b)
 
-  by : (p : Phase) (paused : Bool) (band : Option Banded) → is_paused p ≡ paused → k.band ≡ band → Said step (becoming k p ++ (if paused then option_map_or rounds band [] else [])) k
-  by p false band e is = becoming_said k step p (ap (λ (b : Bool). b && is_some k.band) e)
+  by : (p : Phase) (paused : Bool) (band : Option Banded) → is_paused p ≡ paused → run_band k ≡ band → Said step (becoming k p ++ (if paused then option_map_or rounds band [] else [])) k
+  by p false band e is = becoming_said k step p (ap (λ (b : Bool). b && is_some (run_band k)) e)
   by p true None e is = becoming_said k step p (λ i. e i && is_some (is i))
   by p true (Some b) e is = record { new = with_auction (turned k step p) (Some (auction_begun k step b)); id = refl; stands = λ mine deals h on. stands-paused mine k deals step p b h e is on }
 
@@ -130,23 +132,23 @@ reopening_said k step = said_some step (reopening_with k step) k.auction k (λ a
 
 banding_said : (k : Kept) (step : Step) (mean : Option ℕ) → Said step (banding mean k step) k
 banding_said k step mean = by (reference k step mean) refl where
-  band_said : (why : Cause) (price : ℕ) → is_paused k.phase ≡ false → Said step (band k step why price) k
-  band_said why price unpaused =
+  band_said : (why : Cause) (price : ℕ) → is_paused k.phase ≡ false → (is_times why ≡ true → option_map (λ b. b.reference) (run_band k) ≡ Some price) → Said step (band k step why price) k
+  band_said why price unpaused times =
       said_some step (λ listed. let b = of.bands_of listed step.day step.moment price in out.Band k.id why price b.lower b.upper ∷ []) k.terms k
       (λ listed is.
       let b : Banded = record { cause = why; reference = price; bands = of.bands_of listed step.day step.moment price } in
-      record { new = banded k step b; id = refl; stands = λ mine deals h on. stands-banded mine k deals step b h unpaused on })
+      record { new = banded k step b; id = refl; stands = λ mine deals h on. stands-banded mine k deals step b h unpaused times on })
 
   both_hold : (a b : Bool) → (a && b) ≡ true → a ≡ true
   both_hold true b e = refl
   both_hold false b e = absurd cc
 
-  by : (o : Option Priced) → reference k step mean ≡ o → Said step (elim o [ Some r ↦ band k step r.cause r.price | None ↦ option_map_or (band_by_time k step) k.band [] ]) k
-  by (Some r) is = band_said r.cause r.price (priced-unpaused k step mean r is)
+  by : (o : Option Priced) → reference k step mean ≡ o → Said step (elim o [ Some r ↦ band k step r.cause r.price | None ↦ option_map_or (band_by_time k step) (run_band k) [] ]) k
+  by (Some r) is = band_said r.cause r.price (priced-unpaused k step mean r is) (λ times. let both : true ≡ false = sym times ∙ priced-adopts k step mean r is in absurd cc)
   by None is =
-      said_some step (band_by_time k step) k.band k
+      said_some step (band_by_time k step) (run_band k) k
       (λ last is. said_if step (is_trading k.phase && time_changes k step last) (band k step Times last.reference) [] k
-      (λ so. band_said Times last.reference (trading-unpaused k.phase (both_hold (is_trading k.phase) (time_changes k step last) so))) (λ else_so. none_said step k))
+      (λ so. band_said Times last.reference (trading-unpaused k.phase (both_hold (is_trading k.phase) (time_changes k step last) so)) (λ times. ap (λ (o : Option Banded). option_map (λ b. b.reference) o) is)) (λ else_so. none_said step k))
 
 straddling_said : (k : Kept) (step : Step) → Said step (straddling k step) k
 straddling_said k step =
@@ -172,13 +174,13 @@ announcing_said k step (in_.Notice t i n) = none_said step k
 announcing_said k step (in_.Indication t i p u) = none_said step k
 
 leaving_said : (k : Kept) (step : Step) → Said step (leaving k step) k
-leaving_said k step = said_if step (is_limit k.phase && not (at_band k.phase k.quote k.band)) (becoming k Trading) [] k (λ so. becoming_said k step Trading refl) (λ else_so. none_said step k)
+leaving_said k step = said_if step (is_limit k.phase && not (at_band k.phase (run_quote k) (run_band k))) (becoming k Trading) [] k (λ so. becoming_said k step Trading refl) (λ else_so. none_said step k)
 
 entering_said : (k : Kept) (step : Step) → Said step (entering k step) k
 entering_said k step =
-    said_if step (not (is_trading k.phase)) [] (if at_band LimitLow k.quote k.band then becoming k LimitLow else if at_band LimitHigh k.quote k.band then becoming k LimitHigh else []) k (λ so. none_said step k)
-    (λ else_so. said_if step (at_band LimitLow k.quote k.band) (becoming k LimitLow) (if at_band LimitHigh k.quote k.band then becoming k LimitHigh else []) k (λ so. becoming_said k step LimitLow refl)
-    (λ else_so. said_if step (at_band LimitHigh k.quote k.band) (becoming k LimitHigh) [] k (λ so. becoming_said k step LimitHigh refl) (λ else_so. none_said step k)))
+    said_if step (not (is_trading k.phase)) [] (if at_band LimitLow (run_quote k) (run_band k) then becoming k LimitLow else if at_band LimitHigh (run_quote k) (run_band k) then becoming k LimitHigh else []) k (λ so. none_said step k)
+    (λ else_so. said_if step (at_band LimitLow (run_quote k) (run_band k)) (becoming k LimitLow) (if at_band LimitHigh (run_quote k) (run_band k) then becoming k LimitHigh else []) k (λ so. becoming_said k step LimitLow refl)
+    (λ else_so. said_if step (at_band LimitHigh (run_quote k) (run_band k)) (becoming k LimitHigh) [] k (λ so. becoming_said k step LimitHigh refl) (λ else_so. none_said step k)))
 
 -- The rules on two histories.
 

@@ -27,7 +27,6 @@ use Rattle.wire_in.proofs.RecordKinds.{by_tick, tick as only_ticks}
 use Rattle.rulebook.specs.declared.event.Event.{Event}
 use Rattle.rulebook.specs.declared.event.Event.TheVariants.{Accepted}
 use Rattle.rulebook.specs.declared.symbol.Banded.{Banded}
-use Rattle.rulebook.specs.declared.symbol.Terms.{Terms}
 use Rattle.rulebook.proofs.Histories.{now-publish}
 use Rattle.rulebook.specs.Book.{Named, all_obeyed, announced, context, obeyed, symbol_rules}
 use Rattle.rulebook.specs.History.{publish}
@@ -43,6 +42,7 @@ use Rattle.symbol_core.specs.Kept.{becoming, brakes, pausing_as, reopened, reope
 use Rattle.symbol_core.specs.Pricing.{band, band_by_time, reference, time_changes}
 use Rattle.symbol_core.specs.Idle.{IsDue, IsIdle, IsQuiet, IsRested, IsSettled, Waits, changes_bands, reopens_at, starts_at}
 use Rattle.symbol_core.specs.Rests.{Held}
+use Rattle.symbol_core.specs.Runs.{run_band, run_quote}
 use Rattle.symbol_core.specs.Silent.{IsOfOthers}
 use Rattle.symbol_core.specs.Stands.{named, Stands}
 use Rattle.symbol_core.specs.Taken.{cancelled_by, finished, leaves, taken}
@@ -52,6 +52,7 @@ use Rattle.symbol_core.proofs.Evaluated.{evaluated-away, starts, step_for}
 use Rattle.symbol_core.proofs.Gives.{banding-gives, enter-gives, leave-gives, mean-gives, pause-gives, reopen-gives, restrict-gives, straddle-gives, turned-gives}
 use Rattle.symbol_core.proofs.Live.{same-live}
 use Rattle.symbol_core.proofs.Resting.{rests-apart, rests-same}
+use Rattle.symbol_core.proofs.Runs.{same_run}
 use Rattle.symbol_core.proofs.Steps.{stands-opened}
 
 -- What a tick is not.
@@ -77,7 +78,7 @@ tick_of_none s x e =
       asks = refl;
       cancels = refl;
       takes = λ k step is input r. (λ i. taken k (record step { input = input i }))
-          ∙ (λ i. record k { quote = quote_stays (is_some k.begun) k.quote i; left_limit = sym r.left_limit i; released = sym r.released i; deal = sym r.deal i; is_fresh = sym r.is_fresh i; restricts = sym r.restricts i });
+          ∙ (λ i. record k { run = same_run k.run i; left_limit = sym r.left_limit i; released = sym r.released i; deal = sym r.deal i; is_fresh = sym r.is_fresh i; restricts = sym r.restricts i });
     })
     (λ t v. record {
       others = λ mine. record { symbol = refl; name = refl };
@@ -85,7 +86,7 @@ tick_of_none s x e =
       asks = refl;
       cancels = refl;
       takes = λ k step is input r. (λ i. taken k (record step { input = input i }))
-          ∙ (λ i. record k { quote = quote_stays (is_some k.begun) k.quote i; left_limit = sym r.left_limit i; released = sym r.released i; deal = sym r.deal i; is_fresh = sym r.is_fresh i; restricts = sym r.restricts i });
+          ∙ (λ i. record k { run = same_run k.run i; left_limit = sym r.left_limit i; released = sym r.released i; deal = sym r.deal i; is_fresh = sym r.is_fresh i; restricts = sym r.restricts i });
     }) x e
 
 -- Where no rule says anything, the symbol stays as it is.
@@ -173,8 +174,8 @@ reopens_none k step e = by k.auction e where
       (not_true (nat_lt step.moment (a.round.moment + five_minutes)) e)
 
 -- where time gives the bands that there are, none are published
-bands_none : (k : Kept) (step : Step) → changes_bands k step ≡ false → option_map_or (band_by_time k step) k.band [] ≡ []
-bands_none k step e = by k.band e where
+bands_none : (k : Kept) (step : Step) → changes_bands k step ≡ false → option_map_or (band_by_time k step) (run_band k) [] ≡ []
+bands_none k step e = by (run_band k) e where
   by : (o : Option Banded) → (is_trading k.phase && option_map_or (time_changes k step) o false) ≡ false → option_map_or (band_by_time k step) o [] ≡ []
   by None e = refl
   by (Some last) e = ap (λ (b : Bool). if b then band k step Times last.reference else []) e
@@ -182,7 +183,7 @@ bands_none k step e = by k.band e where
 -- a step without a deal of its own leaves the window as it is
 pub window_rested : (k : Kept) (deals : List Deal) → IsRested k → window k deals ≡ deals
 window_rested k deals r =
-    (λ i. (if r.is_fresh i then [] else deals) ++ (if is_some k.begun then option_to_list (r.deal i) else [])) ∙ ap (λ (ds : List Deal). deals ++ ds) (quote_stays (is_some k.begun) []) ∙ append-nil deals
+    (λ i. (if r.is_fresh i then [] else deals) ++ (if is_some k.run then option_to_list (r.deal i) else [])) ∙ ap (λ (ds : List Deal). deals ++ ds) (quote_stays (is_some k.run) []) ∙ append-nil deals
 
 quiet_rules : (k : Kept) (deals : List Deal) (step : Step) → IsQuiet k deals step
     → (mine : List ℕ → Bool) (h : List Event) → Stands mine k deals step h → NoneSaid step.day (named mine k.id) step.input h symbol_rules
@@ -206,11 +207,11 @@ quiet_rules k deals step quiet mine h s = (
               said rules.leave_limit (leave-gives k step mine deals h s ∙ ap (λ (b : Bool). if b then becoming k Phase.Trading else []) settled.stays),
               (
                 said rules.publish_band (banding-gives mean k step mine deals h s (mean-gives k step mine deals h s)
-                    ∙ ap (λ (o : Option Priced). elim o [ Some r ↦ band k step r.cause r.price | None ↦ option_map_or (band_by_time k step) k.band [] ]) quiet.prices
+                    ∙ ap (λ (o : Option Priced). elim o [ Some r ↦ band k step r.cause r.price | None ↦ option_map_or (band_by_time k step) (run_band k) [] ]) quiet.prices
                     ∙ bands_none k step quiet.bands),
                 (
                   said rules.enter_limit (enter-gives k step mine deals h s
-                      ∙ enters_none (is_trading k.phase) (at_band Phase.LimitLow k.quote k.band) (at_band Phase.LimitHigh k.quote k.band) (becoming k Phase.LimitLow) (becoming k Phase.LimitHigh) settled.low settled.high),
+                      ∙ enters_none (is_trading k.phase) (at_band Phase.LimitLow (run_quote k) (run_band k)) (at_band Phase.LimitHigh (run_quote k) (run_band k)) (becoming k Phase.LimitLow) (becoming k Phase.LimitHigh) settled.low settled.high),
                   (
                     said rules.straddle (straddle-gives k step mine deals h s
                         ∙ (λ i. if settled.straddles i && not k.straddling then out.Straddle k.id true ∷ [] else if k.straddling && not (settled.straddles i) then out.Straddle k.id false ∷ [] else [])

@@ -1,6 +1,6 @@
 -- Until when the rules that wait for a time say nothing at a tick.
-use Rattle.std.proofs.Common.{arith, ◌≡◌, ℕ, ◌+◌, ◌<◌, Bool, true, false, cond, List, [], ◌∷◌, refl, ap, ◌∙◌}
-use Rattle.std.specs.Prelude.{Option, Some, None, if◌then◌else◌, ◌&&◌, ◌||◌, nat_le, nat_lt, not, is_some, option_and_then, option_map, slice_get, unwrap_or}
+use Rattle.std.proofs.Common.{◌≤◌, arith, ◌≡◌, ℕ, ◌+◌, ◌<◌, Bool, true, false, cond, List, [], ◌∷◌, refl, sym, ap, ◌∙◌}
+use Rattle.std.specs.Prelude.{max, Option, Some, None, if◌then◌else◌, ◌&&◌, ◌||◌, nat_le, nat_lt, not, is_some, option_and_then, option_map, slice_get}
 use Rattle.std.specs.Option.{option_map_or}
 use Rattle.std.proofs.lemmas.Bool.Decides.{nat_tests}
 use Rattle.price_core.specs.Moves.{moved_one_percent}
@@ -8,7 +8,7 @@ use Rattle.price_core.specs.declared.quote.Cause.TheVariants.{First, Moved}
 use Rattle.session_core.specs.declared.day.Day.{Day}
 use Rattle.session_core.specs.declared.state.Phase.{Phase}
 use Rattle.session_core.specs.declared.state.Phase.TheVariants.{Closing, Paused}
-use Rattle.session_core.specs.Durations.{fifteen_seconds, five_minutes, thirty_seconds}
+use Rattle.session_core.specs.Durations.{fifteen_seconds, five_minutes}
 use Rattle.session_core.specs.Times.{session_close, session_open}
 use Rattle.wire_in.specs.declared.record.Record.{Record}
 use Rattle.wire_in.specs.Records.{is_tick}
@@ -19,10 +19,10 @@ use Rattle.percent_core.specs.Percentages as percentages
 use Rattle.percent_core.specs.PriceBands.{bands}
 use Rattle.refprice_core.specs.declared.reference.Adoption.{Adoption}
 use Rattle.refprice_core.specs.declared.reference.Priced.{Priced}
-use Rattle.refprice_core.specs.Prices.{because, forced, has_stood, is_in_opening_period, moved_price}
+use Rattle.refprice_core.specs.Prices.{awaits_from, awaits_mean, because, forced, has_stood, moved_price, observed}
 use Rattle.reopen_core.specs.AuctionState.{AuctionState}
 use Rattle.window_core.specs.declared.window.Deal.{Deal}
-use Rattle.window_core.specs.Deals.{AreNear, live, mean_of}
+use Rattle.window_core.specs.Deals.{mean_has_moved, AreNear, live, mean_of}
 use Rattle.window_core.proofs.Near.{near_live_mean}
 use Rattle.wire_in.proofs.RecordKinds.{by_tick}
 use Rattle.rulebook.specs.declared.symbol.Banded.{Banded}
@@ -32,8 +32,9 @@ use Rattle.rulebook.specs.Rules.{or_else}
 use Rattle.rulebook.specs.Symbol as of
 use Rattle.symbol_core.specs.declared.kept.Kept.{Kept}
 use Rattle.symbol_core.specs.declared.kept.Step.{Step}
-use Rattle.symbol_core.specs.Idle.{IsRested, PricesFrom, awaits_after, awaits_mean, changes_bands, pauses_at, reopens_at, starts_at}
-use Rattle.symbol_core.specs.Pricing.{adoption, later_price, offered, reference, time_changes}
+use Rattle.symbol_core.specs.Idle.{IsRested, PricesFrom, changes_bands, pauses_at, reopens_at, starts_at}
+use Rattle.symbol_core.specs.Pricing.{later_price, offered, priced_by, reference, time_changes}
+use Rattle.symbol_core.specs.Runs.{run_band, run_reference}
 
 nothing_and : (b : Bool) → (b && false) ≡ false
 nothing_and true = refl
@@ -91,8 +92,8 @@ reopens-without k u is = ap (λ (o : Option AuctionState). option_map_or (λ b. 
 -- The bands that time brings.
 
 -- time brings no bands where the part of the session stays
-times_stay : (k : Kept) (a b : Step) → a.day ≡ b.day → percentages.span a.moment a.day ≡ percentages.span b.moment b.day → option_map_or (time_changes k a) k.band false ≡ option_map_or (time_changes k b) k.band false
-times_stay k a b day span = by k.band where
+times_stay : (k : Kept) (a b : Step) → a.day ≡ b.day → percentages.span a.moment a.day ≡ percentages.span b.moment b.day → option_map_or (time_changes k a) (run_band k) false ≡ option_map_or (time_changes k b) (run_band k) false
+times_stay k a b day span = by (run_band k) where
   one : (last : Banded) (o : Option Terms)
       → option_map_or (λ listed. rules.differs (of.bands_of listed a.day a.moment last.reference) last.bands) o false ≡ option_map_or (λ listed. rules.differs (of.bands_of listed b.day b.moment last.reference) last.bands) o false
   one last None = refl
@@ -104,117 +105,130 @@ times_stay k a b day span = by k.band where
   by None = refl
   by (Some last) = one last k.terms
 
-pub bands-stay : (k : Kept) (a b : Step) → b.day ≡ a.day → percentages.span b.moment a.day ≡ percentages.span a.moment a.day → option_map_or (time_changes k a) k.band false ≡ false → changes_bands k b ≡ false
+pub bands-stay : (k : Kept) (a b : Step) → b.day ≡ a.day → percentages.span b.moment a.day ≡ percentages.span a.moment a.day → option_map_or (time_changes k a) (run_band k) false ≡ false → changes_bands k b ≡ false
 bands-stay k a b day span none =
     ap (λ (changes : Bool). is_trading k.phase && changes) (times_stay k b a day (ap (λ (d : Day). percentages.span b.moment d) day ∙ span) ∙ none)
     ∙ nothing_and (is_trading k.phase)
 
 pub bands-never : (k : Kept) (step : Step) → is_trading k.phase ≡ false → changes_bands k step ≡ false
-bands-never k step e = ap (λ (b : Bool). b && option_map_or (time_changes k step) k.band false) e
+bands-never k step e = ap (λ (b : Bool). b && option_map_or (time_changes k step) (run_band k) false) e
 
 -- The reference price.
 
--- the new reference price at a tick, by whether a mean would be taken
-abbrev by_mean : Bool → Option ℕ → Option Banded → Option Priced
+-- the mean, where it has moved and is awaited
+abbrev moved : ℕ → Bool → Option ℕ → Option ℕ
+moved price awaits mean = option_and_then (λ m. if moved_one_percent m price && awaits then Some m else None) mean
+
+-- the new reference price at a tick, by whether a mean is awaited
+abbrev by_mean : Bool → Option ℕ → Option Adoption → Option Priced
 by_mean awaits mean None = because First (if awaits then mean else None)
-by_mean awaits mean (Some b) = because Moved (option_and_then (λ m. if moved_one_percent m b.reference && awaits then Some m else None) mean)
+by_mean awaits mean (Some last) = because Moved (moved last.price awaits mean)
+
+-- whether a mean is awaited
+abbrev awaits : Kept → ℕ → Bool
+awaits k t = awaits_mean (run_reference k).begun (run_reference k).last t
 
 offers_none : (k : Kept) (step : Step) → is_tick step.input ≡ true → offered k step ≡ None
 offers_none k step tick = by step.input tick where
   by : (x : Record) → is_tick x ≡ true → or_else (of.opening_price step.day k.id x) (if rules.opens_on_quotes k.id x then of.prior_close_of k.terms else None) ≡ None
   by = by_tick (λ x. or_else (of.opening_price step.day k.id x) (if rules.opens_on_quotes k.id x then of.prior_close_of k.terms else None) ≡ None) (λ t. refl) (λ t v. refl)
 
+late_or_early : (t from : ℕ) → nat_lt t from ≡ not (nat_le from t)
+late_or_early t from = by (nat_le from t) refl where
+  by : (late : Bool) → nat_le from t ≡ late → nat_lt t from ≡ not late
+  by true e = grind (arith, nat_tests)
+  by false e = grind (arith, nat_tests)
+
 reference_by_mean : (k : Kept) (step : Step) (mean : Option ℕ) → IsRested k → is_tick step.input ≡ true
-    → reference k step mean ≡ (if not (is_trading k.phase) then None else by_mean (awaits_mean k step.moment) mean k.band)
+    → reference k step mean ≡ (if not (is_trading k.phase) then None else by_mean (awaits k step.moment) mean (run_reference k).last)
 reference_by_mean k step mean r tick =
-    (λ i. if not (is_trading k.phase) then None else if r.left_limit i then forced mean else later_price k step mean k.band)
-    ∙ ap (λ (o : Option Priced). if not (is_trading k.phase) then None else o) (by k.band)
+    (λ i. if not (is_trading k.phase) then None else if r.left_limit i then forced mean else priced_by (r.released i) (run_reference k) step.moment (offers_none k step tick i) mean)
+    ∙ ap (λ (o : Option Priced). if not (is_trading k.phase) then None else o) (by (run_reference k).begun (run_reference k).last)
   where
-    opening : (b : Bool) → (if b then offered k step else mean) ≡ (if not b then mean else None)
-    opening true = offers_none k step tick
+    opening : (b : Bool) → (if not b then None else mean) ≡ (if b then mean else None)
+    opening true = refl
     opening false = refl
 
-    by : (o : Option Banded) → later_price k step mean o ≡ by_mean (awaits_after k step.moment o) mean o
-    by (Some b) = refl
-    by None = (λ i. because First (or_else (r.released i) (if is_in_opening_period (unwrap_or k.begun 0) step.moment then offered k step else mean))) ∙ ap (λ (o : Option ℕ). because First o) (opening (is_in_opening_period (unwrap_or k.begun 0) step.moment))
+    by : (begun : ℕ) (o : Option Adoption) → priced_by None (record { begun = begun; last = o }) step.moment None mean ≡ by_mean (awaits_mean begun o step.moment) mean o
+    by begun (Some last) = refl
+    by begun None =
+        ap (λ (early : Bool). because First (if early then None else mean)) (late_or_early step.moment (begun + five_minutes))
+        ∙ ap (because First) (opening (nat_le (begun + five_minutes) step.moment))
 
 pub prices-never : (k : Kept) (deals : List Deal) (from until : ℕ) → is_trading k.phase ≡ false → PricesFrom k deals from until
 prices-never k deals from until e = λ step tick le before.
-    ap (λ (b : Bool). if not b then None else if k.left_limit then forced (mean_of (live step.moment deals)) else later_price k step (mean_of (live step.moment deals)) k.band) e
+    ap (λ (b : Bool). if not b then None else if k.left_limit then forced (mean_of (live step.moment deals)) else later_price k step (mean_of (live step.moment deals))) e
 
 -- without deals
-no_mean : (trading awaits : Bool) (o : Option Banded) → (if not trading then None else by_mean awaits None o) ≡ None
+no_mean : (trading awaits : Bool) (o : Option Adoption) → (if not trading then None else by_mean awaits None o) ≡ None
 no_mean false awaits o = refl
 no_mean true true None = refl
 no_mean true false None = refl
-no_mean true awaits (Some b) = refl
+no_mean true awaits (Some last) = refl
 
 pub prices-empty : (k : Kept) (deals : List Deal) (from until : ℕ) → IsRested k → option_map (λ d. d.moment) (slice_get deals 0) ≡ None → PricesFrom k deals from until
-prices-empty k [] from until r e = λ step tick le before. reference_by_mean k step None r tick ∙ no_mean (is_trading k.phase) (awaits_mean k step.moment) k.band
+prices-empty k [] from until r e = λ step tick le before. reference_by_mean k step None r tick ∙ no_mean (is_trading k.phase) (awaits k step.moment) (run_reference k).last
 prices-empty k (d ∷ deals) from until r e = absurd cc
-
--- in the first five minutes of a run, without bands
-pub prices-first : (k : Kept) (deals : List Deal) (from : ℕ) → IsRested k → is_some k.band ≡ false → PricesFrom k deals from (unwrap_or k.begun 0 + five_minutes)
-prices-first k deals from r e = λ step tick le before.
-    let early : is_in_opening_period (unwrap_or k.begun 0) step.moment ≡ true = grind (arith, nat_tests) in
-    reference_by_mean k step (mean_of (live step.moment deals)) r tick ∙ by step (mean_of (live step.moment deals)) early k.band e
-  where
-    by : (step : Step) (mean : Option ℕ) → is_in_opening_period (unwrap_or k.begun 0) step.moment ≡ true → (o : Option Banded) → is_some o ≡ false → (if not (is_trading k.phase) then None else by_mean (awaits_after k step.moment o) mean o) ≡ None
-    by step mean early None none = ap (λ (b : Bool). if not (is_trading k.phase) then None else because First (if not b then mean else None)) early ∙ same_either (not (is_trading k.phase)) None
-    by step mean early (Some b) none = absurd cc
-
--- with bands, by whether the mean has moved
-abbrev moved : ℕ → Bool → Option ℕ → Option ℕ
-moved price awaits mean = option_and_then (λ m. if moved_one_percent m price && awaits then Some m else None) mean
-
-by_bands : (k : Kept) (b : Banded) (step : Step) (mean : Option ℕ) → IsRested k → is_tick step.input ≡ true → k.band ≡ Some b → moved b.reference (has_stood (adoption k b) step.moment) mean ≡ None → reference k step mean ≡ None
-by_bands k b step mean r tick is none =
-    reference_by_mean k step mean r tick
-    ∙ ap (λ (o : Option Banded). if not (is_trading k.phase) then None else by_mean (awaits_after k step.moment o) mean o) is
-    ∙ ap (λ (o : Option ℕ). if not (is_trading k.phase) then None else because Moved o) none
-    ∙ same_either (not (is_trading k.phase)) None
 
 not_awaited : (price : ℕ) (mean : Option ℕ) → moved price false mean ≡ None
 not_awaited price None = refl
 not_awaited price (Some m) = ap (λ (b : Bool). if b then Some m else None) (nothing_and (moved_one_percent m price))
 
-not_moved : (price : ℕ) (now later : Bool) (mean : Option ℕ) → now ≡ true → moved price now mean ≡ None → moved price later mean ≡ None
-not_moved price now later None stood none = refl
-not_moved price now later (Some m) stood none = by (moved_one_percent m price) now stood none where
-  by : (b now : Bool) → now ≡ true → (if b && now then Some m else None) ≡ None → (if b && later then Some m else None) ≡ None
-  by false now stood none = refl
-  by true true stood none = absurd cc
-  by true false stood none = absurd cc
+-- before a mean is awaited
+pub prices-unawaited : (k : Kept) (deals : List Deal) (from : ℕ) → IsRested k → PricesFrom k deals from (awaits_from (run_reference k).begun (run_reference k).last)
+prices-unawaited k deals from r = λ step tick le before.
+    let early : awaits k step.moment ≡ false = grind (arith, nat_tests) in
+    let mean = mean_of (live step.moment deals) in
+    reference_by_mean k step mean r tick
+    ∙ ap (λ (b : Bool). if not (is_trading k.phase) then None else by_mean b mean (run_reference k).last) early
+    ∙ ap (λ (o : Option Priced). if not (is_trading k.phase) then None else o) (by mean (run_reference k).last)
+    ∙ same_either (not (is_trading k.phase)) None
+  where
+    by : (mean : Option ℕ) (o : Option Adoption) → by_mean false mean o ≡ None
+    by mean None = refl
+    by mean (Some last) = ap (because Moved) (not_awaited last.price mean)
 
--- 30 seconds after the last reference price
-pub prices-stand : (k : Kept) (b : Banded) (deals : List Deal) (from : ℕ) → IsRested k → k.band ≡ Some b → PricesFrom k deals from (k.adopted + thirty_seconds)
-prices-stand k b deals from r is = λ step tick le before.
-    let early : has_stood (adoption k b) step.moment ≡ false = grind (arith, nat_tests) in
-    by_bands k b step (mean_of (live step.moment deals)) r tick is (ap (λ (awaits : Bool). moved b.reference awaits (mean_of (live step.moment deals))) early ∙ not_awaited b.reference (mean_of (live step.moment deals)))
+-- after a reference price, by whether the mean has moved
+by_last : (k : Kept) (a : Adoption) (step : Step) (mean : Option ℕ) → IsRested k → is_tick step.input ≡ true → (run_reference k).last ≡ Some a → moved a.price (has_stood a step.moment) mean ≡ None → reference k step mean ≡ None
+by_last k a step mean r tick is none =
+    reference_by_mean k step mean r tick
+    ∙ ap (λ (o : Option Adoption). if not (is_trading k.phase) then None else by_mean (awaits_mean (run_reference k).begun o step.moment) mean o) is
+    ∙ ap (λ (o : Option ℕ). if not (is_trading k.phase) then None else because Moved o) none
+    ∙ same_either (not (is_trading k.phase)) None
 
--- a mean that hasn't moved is no new reference price, nor is one before 30 seconds have passed
+-- a mean that hasn't moved is no new reference price
 pub none_moves : (a : Adoption) (t : ℕ) (mean : Option ℕ) → option_map_or (λ m. moved_one_percent m a.price) mean false ≡ false → moved_price a t mean ≡ None
 none_moves a t None e = refl
 none_moves a t (Some m) e = ap (λ (b : Bool). if b && has_stood a t then Some m else None) e
 
-pub none_stands : (a : Adoption) (t : ℕ) (mean : Option ℕ) → has_stood a t ≡ false → moved_price a t mean ≡ None
-none_stands a t None e = refl
-none_stands a t (Some m) e = (λ i. if moved_one_percent m a.price && e i then Some m else None) ∙ ap (λ (b : Bool). if b then Some m else None) (nothing_and (moved_one_percent m a.price))
+pub mean-unmoved : (begun : ℕ) (a : Adoption) (last : Option Adoption) (t : ℕ) (offered mean : Option ℕ) → last ≡ Some a → option_map_or (λ m. moved_one_percent m a.price) mean false ≡ false
+    → observed begun last t offered None ≡ observed begun last t offered mean
+mean-unmoved begun a last t offered mean is e =
+    ap (λ (o : Option Adoption). observed begun o t offered None) is ∙ ap (because Moved) (sym (none_moves a t mean e)) ∙ ap (λ (o : Option Adoption). observed begun o t offered mean) (sym is)
 
--- and else it is
-pub mean_moves : (a : Adoption) (t : ℕ) (mean : Option ℕ) → has_stood a t ≡ true → option_map_or (λ m. moved_one_percent m a.price) mean false ≡ true → moved_price a t mean ≡ mean
-mean_moves a t None e f = refl
-mean_moves a t (Some m) e f = λ i. if f i && e i then Some m else None
-
--- and then while the deals are live, where their mean hasn't moved
-pub prices-moved : (k : Kept) (b : Banded) (deals : List Deal) (from until : ℕ) → IsRested k → k.band ≡ Some b → has_stood (adoption k b) from ≡ true → moved_price (adoption k b) from (mean_of deals) ≡ None
-    → ((u : ℕ) → u < until → live u deals ≡ deals) → PricesFrom k deals from until
-prices-moved k b deals from until r is stood none all_live = λ step tick le before.
-    ap (λ (ds : List Deal). reference k step (mean_of ds)) (all_live step.moment before)
-    ∙ by_bands k b step (mean_of deals) r tick is (not_moved b.reference (has_stood (adoption k b) from) (has_stood (adoption k b) step.moment) (mean_of deals) stood none)
+-- and once another is awaited none comes while the mean of the deals that are left hasn't moved
+pub prices-left : (k : Kept) (a : Adoption) (deals : List Deal) (from awaits until : ℕ) → IsRested k → (run_reference k).last ≡ Some a → awaits ≡ awaits_from (run_reference k).begun (run_reference k).last
+    → ((u : ℕ) → max from awaits ≤ u → u < until → mean_has_moved a.price (live u deals) ≡ false) → PricesFrom k deals from until
+prices-left k a deals from awaits until r is begins near = λ step tick le before. by step tick le before (nat_lt step.moment awaits) refl where
+  by : (step : Step) → is_tick step.input ≡ true → from ≤ step.moment → step.moment < until → (early : Bool) → nat_lt step.moment awaits ≡ early → reference k step (mean_of (live step.moment deals)) ≡ None
+  by step tick le before true e = let soon : step.moment < awaits = grind (arith, nat_tests) in prices-unawaited k deals from r step tick le (omega (arith, soon, begins))
+  by step tick le before false e =
+      let late : awaits ≤ step.moment = grind (arith, nat_tests) in
+      by_last k a step (mean_of (live step.moment deals)) r tick is
+      (none_moves a step.moment (mean_of (live step.moment deals)) (near step.moment (omega (arith, le, late)) before))
 
 -- and never while the price of each deal is near the last reference price
-pub prices-near : (k : Kept) (b : Banded) (deals : List Deal) (from until : ℕ) → IsRested k → k.band ≡ Some b → AreNear b.reference deals → PricesFrom k deals from until
-prices-near k b deals from until r is near = λ step tick le before.
-    by_bands k b step (mean_of (live step.moment deals)) r tick is
-    (none_moves (adoption k b) step.moment (mean_of (live step.moment deals)) (near_live_mean b.reference step.moment deals near))
+pub prices-near : (k : Kept) (a : Adoption) (deals : List Deal) (from until : ℕ) → IsRested k → (run_reference k).last ≡ Some a → AreNear a.price deals → PricesFrom k deals from until
+prices-near k a deals from until r is near = λ step tick le before.
+    by_last k a step (mean_of (live step.moment deals)) r tick is
+    (none_moves a step.moment (mean_of (live step.moment deals)) (near_live_mean a.price step.moment deals near))
+
+-- The price of a release, else what is observed.
+
+pub released-first : (p : Option ℕ) (o : Option Priced) → is_some p ≡ true → because First p ≡ or_else (because First p) o
+released-first None o e = absurd cc
+released-first (Some p) o e = refl
+
+pub released-none : (p : Option ℕ) (o : Option Priced) → is_some p ≡ false → o ≡ or_else (because First p) o
+released-none None o e = refl
+released-none (Some p) o e = absurd cc

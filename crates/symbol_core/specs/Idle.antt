@@ -1,5 +1,5 @@
 -- When a clock or an index tick finds nothing to say of a symbol. Private words: no public clause cites them.
-use Rattle.std.specs.Prelude.{◌≡◌, ◌+◌, ◌<◌, ◌≤◌, ℕ, Bool, true, false, if◌then◌else◌, nat_lt, Option, Some, None, List, [], ◌&&◌, ◌||◌, not, is_some, option_to_list, unwrap_or}
+use Rattle.std.specs.Prelude.{◌≡◌, ◌+◌, ◌<◌, ◌≤◌, ℕ, Bool, true, false, if◌then◌else◌, nat_lt, Option, Some, None, List, [], ◌&&◌, ◌||◌, not, is_some, option_to_list}
 use Rattle.std.specs.Option.{option_map_or}
 use Rattle.price_core.specs.declared.quote.Quotation.{Quotation}
 use Rattle.session_core.specs.declared.day.Day.{Day}
@@ -11,18 +11,18 @@ use Rattle.wire_in.specs.declared.record.Record.TheVariants as in_
 use Rattle.wire_in.specs.Records.{is_tick, moment_of}
 use Rattle.limit_core.specs.Timers.{has_lasted}
 use Rattle.pause_core.specs.Phases.{can_market_halt, can_start, is_done, is_in_regulatory_halt, is_limit, is_trading}
-use Rattle.refprice_core.specs.Prices.{has_stood, is_in_opening_period, moved_price}
+use Rattle.refprice_core.specs.Prices.{moved_price}
 use Rattle.window_core.specs.declared.window.Deal.{Deal}
 use Rattle.window_core.specs.Deals.{live, mean_of}
-use Rattle.rulebook.specs.declared.symbol.Banded.{Banded}
 use Rattle.rulebook.specs.Rules.{asks_to_pause, at_band}
 use Rattle.symbol_core.specs.declared.due.Due.{Due}
 use Rattle.symbol_core.specs.declared.kept.Kept.{Kept}
 use Rattle.symbol_core.specs.declared.kept.Step.{Step}
 use Rattle.symbol_core.specs.declared.symbol.MarketView.{MarketView}
-use Rattle.symbol_core.specs.Kept.{is_straddling_now, with_quote}
-use Rattle.symbol_core.specs.Pricing.{adoption, reference, time_changes}
+use Rattle.symbol_core.specs.Kept.{straddles_at, with_quote}
+use Rattle.symbol_core.specs.Pricing.{reference, time_changes}
 use Rattle.symbol_core.specs.Rests.{Held}
+use Rattle.symbol_core.specs.Runs.{run_band, run_quote, run_reference}
 use Rattle.symbol_core.specs.Taken.{deal_of, triggers_by}
 use Rattle.symbol_core.specs.Window.{window}
 
@@ -34,18 +34,22 @@ pub record IsRested (k : Kept) : Type 0 where
   pub is_fresh : k.is_fresh ≡ false
   pub restricts : k.restricts ≡ false
 
--- in a limit state whose band the quotation has left
-abbrev pub leaves_limit : Kept → Bool
-leaves_limit k = is_limit k.phase && not (at_band k.phase k.quote k.band)
+-- in a limit state whose band that quotation has left
+abbrev pub leaves_limit : Kept → Option Quotation → Bool
+leaves_limit k quote = is_limit k.phase && not (at_band k.phase quote (run_band k))
 
--- no rule says anything at a tick, whatever its time
-pub record IsSettled (k : Kept) (stopped : Bool) : Type 0 where
+-- no rule says anything at a tick, whatever its time, where that is the run's quotation
+pub record IsSettledAt (k : Kept) (quote : Option Quotation) (stopped : Bool) : Type 0 where
   pub runs : (stopped && can_market_halt k.phase) ≡ false
   pub halted : k.halted ≡ is_in_regulatory_halt k.phase
-  pub stays : leaves_limit k ≡ false
-  pub low : (is_trading k.phase && at_band LimitLow k.quote k.band) ≡ false
-  pub high : (is_trading k.phase && at_band LimitHigh k.quote k.band) ≡ false
-  pub straddles : is_straddling_now k ≡ k.straddling
+  pub stays : leaves_limit k quote ≡ false
+  pub low : (is_trading k.phase && at_band LimitLow quote (run_band k)) ≡ false
+  pub high : (is_trading k.phase && at_band LimitHigh quote (run_band k)) ≡ false
+  pub straddles : straddles_at k quote ≡ k.straddling
+
+-- the same with the quotation that there is
+abbrev pub IsSettled : Kept → Bool → Type 0
+IsSettled k stopped = IsSettledAt k (run_quote k) stopped
 
 -- What each rule that waits for a time says nothing before.
 
@@ -72,7 +76,7 @@ ReopensFrom k until = (u : ℕ) → u < until → reopens_at k u ≡ false
 
 -- whether time gives other bands than the last ones
 abbrev pub changes_bands : Kept → Step → Bool
-changes_bands k step = is_trading k.phase && option_map_or (time_changes k step) k.band false
+changes_bands k step = is_trading k.phase && option_map_or (time_changes k step) (run_band k) false
 
 abbrev pub ChangesBandsFrom : Kept → Day → ℕ → ℕ → Type 0
 ChangesBandsFrom k day from until = (step : Step) → step.day ≡ day → from ≤ step.moment → step.moment < until → changes_bands k step ≡ false
@@ -131,17 +135,9 @@ abbrev pub IsDue : Option Due → Kept → List Deal → Type 0
 IsDue None k deals = Unit {0}
 IsDue (Some due) k deals = is_out k ≡ false → IsIdle k deals due
 
--- whether a mean would be taken, 30 seconds after the last reference price and five minutes after the run's begin
-abbrev pub awaits_after : Kept → ℕ → Option Banded → Bool
-awaits_after k t None = not (is_in_opening_period (unwrap_or k.begun 0) t)
-awaits_after k t (Some b) = has_stood (adoption k b) t
-
-abbrev pub awaits_mean : Kept → ℕ → Bool
-awaits_mean k t = awaits_after k t k.band
-
 -- the symbol once a quotation of its run is taken in at a moment, and nothing else
 abbrev pub quoted : Held → ℕ → Quotation → Held
-quoted held t quote = record { kept = with_quote held.kept (Some quote); deals = live t held.deals }
+quoted held t quote = record { kept = with_quote held.kept quote; deals = live t held.deals }
 
 -- a trade, a clock or an index tick
 abbrev pub brings_deal_or_time : Record → Bool
@@ -150,16 +146,15 @@ brings_deal_or_time (in_.IndexTick t value) = true
 brings_deal_or_time (in_.Clock t) = true
 brings_deal_or_time x = false
 
--- a mean is no new reference price at a moment: the stock isn't trading, or it has bands whose reference price stays
+-- a mean is no new reference price at a moment: the stock isn't trading, or its run has a reference price that stays
 abbrev pub keeps_price : Kept → ℕ → Option ℕ → Bool
-keeps_price k t mean = not (is_trading k.phase) || option_map_or (λ b. not (is_some (moved_price (adoption k b) t mean))) k.band false
+keeps_price k t mean = not (is_trading k.phase) || option_map_or (λ last. not (is_some (moved_price last t mean))) (run_reference k).last false
 
 -- no rule says anything at a moment, and from then on until another only a new reference price can come
 pub record IsStill (k : Kept) (deals : List Deal) (due : Due) : Type 0 where
   pub rested : IsRested k
   pub settled : IsSettled k due.market.stopped
   pub waits : Waits k due.market.day due.market.stopped due.from due.waits
-  pub keeps : keeps_price k due.from (mean_of deals) ≡ true
 
 -- at a trade or a tick only a new reference price can come, and a deal that counts and isn't the first of the day to trigger the
 -- short sale restriction
@@ -173,5 +168,5 @@ pub record IsAwaited (k : Kept) (market : MarketView) (x : Record) (deal : Optio
   pub until : moment_of x < due.waits
   pub same : due.market ≡ market
   pub own : deal ≡ deal_of market.day k.id x
-  pub counts : (if is_some k.begun then option_to_list deal else []) ≡ option_to_list deal
+  pub counts : (if is_some k.run then option_to_list deal else []) ≡ option_to_list deal
   pub restricts : (triggers_by k.short.prior_close deal && not k.short.triggered) ≡ false

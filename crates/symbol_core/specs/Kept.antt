@@ -16,6 +16,7 @@ use Rattle.limit_core.specs.Timers.{has_lasted}
 use Rattle.pause_core.specs.declared.turning.Brakes.{Brakes}
 use Rattle.pause_core.specs.Pauses.{pause}
 use Rattle.pause_core.specs.Phases.{is_limit, is_trading}
+use Rattle.refprice_core.specs.ReferenceState.{ReferenceState}
 use Rattle.reopen_core.specs.declared.auction.Indication.{Indication}
 use Rattle.reopen_core.specs.declared.auction.Round.{Round}
 use Rattle.reopen_core.specs.declared.auction.Trial.{Trial}
@@ -24,30 +25,37 @@ use Rattle.reopen_core.specs.AuctionState.{AuctionState, begun, with_indication,
 use Rattle.reopen_core.specs.Trials as trials
 use Rattle.rulebook.specs.declared.symbol.Banded.{Banded}
 use Rattle.rulebook.specs.Auction.{is_paused, indicated_by, origin_of}
-use Rattle.rulebook.specs.Rules.{asks_to_pause, collar, meets}
+use Rattle.rulebook.specs.Rules.{asks_to_pause, collar, meets, or_else}
 use Rattle.rulebook.specs.Symbol.{is_times, opens_before}
 use Rattle.symbol_core.specs.declared.kept.Kept.{Kept}
+use Rattle.symbol_core.specs.declared.kept.Run.{Run}
 use Rattle.symbol_core.specs.declared.kept.Step.{Step}
+use Rattle.symbol_core.specs.Runs.{run_band, run_begun, run_quote}
 
 abbrev pub quoted_by : ℕ → Record → Option Quotation
 quoted_by s (in_.Quote t symbol bid offer x y) = if symbol == s then Some (record { bid = bid; offer = offer }) else None
 quoted_by s x = None
 
--- the kept state with another last quotation
-abbrev pub with_quote : Kept → Option Quotation → Kept
-with_quote k quote = record k { quote = quote }
+-- a run with the quotation that a record is, where it is one
+abbrev pub requoted : Option Quotation → Run → Run
+requoted quote run = record run { quote = or_else quote run.quote }
+
+-- the kept state with another last quotation of its run
+abbrev pub with_quote : Kept → Quotation → Kept
+with_quote k quote = record k { run = option_map (requoted (Some quote)) k.run }
 
 abbrev pub begins : Kept → Phase → Bool
 begins k p = is_trading p && not (is_limit k.phase)
+
+-- the run that begins with the step
+abbrev pub run_of : ℕ → Step → Run
+run_of s step = record { reference = record { begun = step.moment; last = None }; quote = quoted_by s step.input; band = None }
 
 abbrev pub turned : Kept → Step → Phase → Kept
 turned k step p = record k {
   phase = p;
   since = step.moment;
-  begun = if begins k p then Some step.moment else k.begun;
-  quote = if begins k p then quoted_by k.id step.input else k.quote;
-  band = if begins k p then None else k.band;
-  adopted = if begins k p then 0 else k.adopted;
+  run = if begins k p then Some (run_of k.id step) else k.run;
   auction = None;
   left_limit = (is_trading p && is_limit k.phase) || k.left_limit;
   is_fresh = begins k p || k.is_fresh;
@@ -61,7 +69,7 @@ with_auction k auction = record k { auction = auction }
 
 -- an auction begins where the stock is paused in a run that has bands
 abbrev pub begins_auction : Kept → Phase → Bool
-begins_auction k p = is_paused p && is_some k.band
+begins_auction k p = is_paused p && is_some (run_band k)
 
 -- the auction that begins with those bands, and with what the step's record indicates
 abbrev pub auction_begun : Kept → Step → Banded → AuctionState
@@ -83,14 +91,22 @@ released k price = record k { released = Some price }
 
 -- the run's first bands, at an opening trade in its first five minutes, begin the window anew
 abbrev pub restarts : Kept → Step → Bool
-restarts k step = not (is_some k.band) && opens_before step.day k.id (unwrap_or k.begun 0 + five_minutes) step.input
+restarts k step = not (is_some (run_band k)) && opens_before step.day k.id (unwrap_or (run_begun k) 0 + five_minutes) step.input
+
+-- a run's reference price with these bands: those of the time of day leave it
+abbrev pub adopting : Step → Banded → ReferenceState → ReferenceState
+adopting step b reference =
+    record reference { last = if is_times b.cause then reference.last else Some (record { moment = step.moment; price = b.reference }) }
+
+-- a run with these bands
+abbrev pub run_banded : Step → Banded → Run → Run
+run_banded step b run = record run { reference = adopting step b run.reference; band = Some b }
 
 -- outside a run bands count for nothing
 abbrev pub banded : Kept → Step → Banded → Kept
 banded k step b = record k {
-  band = if is_some k.begun then Some b else k.band;
-  adopted = if is_some k.begun && not (is_times b.cause) then step.moment else k.adopted;
-  is_fresh = (is_some k.begun && restarts k step) || k.is_fresh;
+  run = option_map (run_banded step b) k.run;
+  is_fresh = (is_some k.run && restarts k step) || k.is_fresh;
 }
 
 -- A rule over what is kept.
@@ -115,7 +131,7 @@ abbrev pub collars_of : ℕ → AuctionState → List Message
 collars_of s auction = collar s auction.round.number auction.round.collars
 
 abbrev pub pausing_as : Kept → Step → Phase → List Message
-pausing_as k step p = becoming k p ++ (if is_paused p then option_map_or (λ b. collars_of k.id (auction_begun k step b)) k.band [] else [])
+pausing_as k step p = becoming k p ++ (if is_paused p then option_map_or (λ b. collars_of k.id (auction_begun k step b)) (run_band k) [] else [])
 
 abbrev pub pause_now : Kept → Step → Option Phase
 pause_now k step =
@@ -139,8 +155,12 @@ reopening_with k step auction =
 abbrev pub reopening : Kept → Step → List Message
 reopening k step = option_map_or (reopening_with k step) k.auction []
 
+-- whether it straddles its bands, where that is its quotation
+abbrev pub straddles_at : Kept → Option Quotation → Bool
+straddles_at k quote = is_trading k.phase && meets straddles quote (run_band k)
+
 abbrev pub is_straddling_now : Kept → Bool
-is_straddling_now k = is_trading k.phase && meets straddles k.quote k.band
+is_straddling_now k = straddles_at k (run_quote k)
 
 abbrev pub straddling : Kept → Step → List Message
 straddling k step =

@@ -1,4 +1,5 @@
 pub mod Auctions
+pub mod Runs
 pub mod Kept
 pub mod Pricing
 pub mod Window

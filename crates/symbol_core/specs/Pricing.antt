@@ -1,5 +1,5 @@
 -- The rule of new reference prices and bands over what is kept and the mean. Private words: no public clause cites them.
-use Rattle.std.specs.Prelude.{ℕ, Bool, false, Option, Some, None, List, [], ◌∷◌, if◌then◌else◌, not, ◌&&◌, unwrap_or}
+use Rattle.std.specs.Prelude.{ℕ, Bool, false, Option, Some, None, List, [], ◌∷◌, if◌then◌else◌, not, ◌&&◌, is_some}
 use Rattle.std.specs.Option.{option_map_or}
 use Rattle.price_core.specs.declared.quote.Cause.{Cause}
 use Rattle.price_core.specs.declared.quote.Cause.TheVariants as cause
@@ -8,32 +8,35 @@ use Rattle.wire_out.specs.declared.message.Message.TheVariants as out
 use Rattle.pause_core.specs.Phases.{is_trading}
 use Rattle.refprice_core.specs.declared.reference.Adoption.{Adoption}
 use Rattle.refprice_core.specs.declared.reference.Priced.{Priced}
-use Rattle.refprice_core.specs.Prices.{because, forced}
-use Rattle.refprice_core.specs.Prices as prices
+use Rattle.refprice_core.specs.Prices.{because, forced, observed}
+use Rattle.refprice_core.specs.ReferenceState.{ReferenceState}
 use Rattle.rulebook.specs.declared.symbol.Banded.{Banded}
 use Rattle.rulebook.specs.Rules.{or_else, opens_on_quotes, differs}
 use Rattle.rulebook.specs.Symbol.{bands_of, prior_close_of, opening_price}
 use Rattle.symbol_core.specs.declared.kept.Kept.{Kept}
 use Rattle.symbol_core.specs.declared.kept.Step.{Step}
+use Rattle.symbol_core.specs.Runs.{run_band, run_reference}
 
 abbrev pub offered : Kept → Step → Option ℕ
 offered k step = or_else (opening_price step.day k.id step.input) (if opens_on_quotes k.id step.input then prior_close_of k.terms else None)
 
-abbrev pub first_price : Kept → Step → Option ℕ → Option ℕ
-first_price k step mean = or_else k.released (prices.first_price (unwrap_or k.begun 0) step.moment (offered k step) mean)
+-- the price of a release, where the run has taken none yet
+abbrev pub released_first : Option ℕ → Option Adoption → Option ℕ
+released_first released last = if is_some last then None else released
 
-abbrev pub adoption : Kept → Banded → Adoption
-adoption k b = record { moment = k.adopted; price = b.reference }
+-- a new reference price outside the end of a limit state: that of a release, else what the run observes
+abbrev pub priced_by : Option ℕ → ReferenceState → ℕ → Option ℕ → Option ℕ → Option Priced
+priced_by released reference t offered mean =
+    or_else (because cause.First (released_first released reference.last)) (observed reference.begun reference.last t offered mean)
 
-abbrev pub later_price : Kept → Step → Option ℕ → Option Banded → Option Priced
-later_price k step mean None = because cause.First (first_price k step mean)
-later_price k step mean (Some b) = because cause.Moved (prices.moved_price (adoption k b) step.moment mean)
+abbrev pub later_price : Kept → Step → Option ℕ → Option Priced
+later_price k step mean = priced_by k.released (run_reference k) step.moment (offered k step) mean
 
 abbrev pub reference : Kept → Step → Option ℕ → Option Priced
 reference k step mean =
     if not (is_trading k.phase) then None
     else if k.left_limit then forced mean
-    else later_price k step mean k.band
+    else later_price k step mean
 
 abbrev pub band : Kept → Step → Cause → ℕ → List Message
 band k step why price =
@@ -49,5 +52,5 @@ abbrev pub banding : Option ℕ → Kept → Step → List Message
 banding mean k step =
     elim (reference k step mean) [
       | Some r ↦ band k step r.cause r.price
-      | None ↦ option_map_or (band_by_time k step) k.band []
+      | None ↦ option_map_or (band_by_time k step) (run_band k) []
     ]

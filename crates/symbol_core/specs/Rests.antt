@@ -11,6 +11,7 @@ use Rattle.rulebook.specs.Symbol as of
 use Rattle.rulebook.specs.Symbol.{deals_of}
 use Rattle.symbol_core.specs.declared.kept.Kept.{Kept}
 use Rattle.symbol_core.specs.Auctions.{auction_of}
+use Rattle.symbol_core.specs.Runs.{adoption_by, run_adopted, run_band, run_begun, run_quote}
 use Rattle.symbol_core.specs.Window.{SameLive}
 
 -- the kept state and the kept deals
@@ -31,10 +32,10 @@ pub record Rests (own : List ℕ → Bool) (held : Held) (h : List Event) : Type
   pub terms : held.kept.terms ≡ of.terms h own
   pub phase : held.kept.phase ≡ of.phase h held.kept.id
   pub since : held.kept.since ≡ of.since h held.kept.id
-  pub begun : held.kept.begun ≡ of.begun_in held.kept.id (today h)
-  pub quote : held.kept.quote ≡ of.quote h held.kept.id
-  pub band : held.kept.band ≡ of.last_band h held.kept.id
-  pub adopted : held.kept.adopted ≡ of.adopted h held.kept.id
+  pub begun : run_begun held.kept ≡ of.begun_in held.kept.id (today h)
+  pub quote : run_quote held.kept ≡ of.quote h held.kept.id
+  pub band : run_band held.kept ≡ of.last_band h held.kept.id
+  pub adopted : run_adopted held.kept ≡ adoption_by (of.adopted h held.kept.id) (of.last_band h held.kept.id)
   pub straddling : held.kept.straddling ≡ of.was_straddling h held.kept.id
   pub halted : held.kept.halted ≡ of.is_under_regulatory_halt h held.kept.id
   pub auction : held.kept.auction ≡ auction_of h held.kept.id

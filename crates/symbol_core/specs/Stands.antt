@@ -18,6 +18,7 @@ use Rattle.symbol_core.specs.declared.kept.Kept.{Kept}
 use Rattle.symbol_core.specs.declared.kept.Step.{Step}
 use Rattle.symbol_core.specs.Kept.{announcing}
 use Rattle.symbol_core.specs.Auctions.{auction_of}
+use Rattle.symbol_core.specs.Runs.{adoption_by, run_adopted, run_band, run_begun, run_quote}
 use Rattle.symbol_core.specs.Window.{SameLive, window}
 
 -- the symbol of an id whose names are those of a test
@@ -36,10 +37,10 @@ pub record Stands (own : List ℕ → Bool) (k : Kept) (deals : List Deal) (step
   pub terms : k.terms ≡ of.terms h own
   pub phase : k.phase ≡ of.phase h k.id
   pub since : k.since ≡ of.since h k.id
-  pub begun : k.begun ≡ of.begun_in k.id (today h)
-  pub quote : k.quote ≡ of.quote h k.id
-  pub band : k.band ≡ of.last_band h k.id
-  pub adopted : k.adopted ≡ of.adopted h k.id
+  pub begun : run_begun k ≡ of.begun_in k.id (today h)
+  pub quote : run_quote k ≡ of.quote h k.id
+  pub band : run_band k ≡ of.last_band h k.id
+  pub adopted : run_adopted k ≡ adoption_by (of.adopted h k.id) (of.last_band h k.id)
   pub straddling : k.straddling ≡ of.was_straddling h k.id
   pub halted : k.halted ≡ of.is_under_regulatory_halt h k.id
   pub auction : k.auction ≡ auction_of h k.id

@@ -1,5 +1,5 @@
 -- The kept state once a record is taken in. Private words: no public clause cites them.
-use Rattle.std.specs.Prelude.{ℕ, Bool, true, false, Option, Some, None, ◌==◌, if◌then◌else◌, not, ◌&&◌, ◌||◌, is_some}
+use Rattle.std.specs.Prelude.{ℕ, Bool, true, false, Option, Some, None, ◌==◌, if◌then◌else◌, not, ◌&&◌, ◌||◌, option_map}
 use Rattle.std.specs.Option.{option_map_or}
 use Rattle.session_core.specs.declared.day.Day.{Day}
 use Rattle.session_core.specs.declared.state.Phase.TheVariants.{Shut}
@@ -12,11 +12,10 @@ use Rattle.short_core.specs.ShortState.{ShortState, listed}
 use Rattle.window_core.specs.declared.window.Deal.{Deal}
 use Rattle.rulebook.specs.declared.symbol.Terms.{Terms}
 use Rattle.rulebook.specs.Auction.{indicated_by}
-use Rattle.rulebook.specs.Rules.{or_else}
 use Rattle.rulebook.specs.Symbol.{cancels}
 use Rattle.symbol_core.specs.declared.kept.Kept.{Kept}
 use Rattle.symbol_core.specs.declared.kept.Step.{Step}
-use Rattle.symbol_core.specs.Kept.{heard, quoted_by}
+use Rattle.symbol_core.specs.Kept.{heard, quoted_by, requoted}
 
 -- today's terms once a record is taken in
 abbrev pub listed_by : Record → Option Terms → Option Terms
@@ -65,7 +64,7 @@ restricts x deal short = triggers_by (prior_close_by x short.prior_close) deal &
 abbrev pub taken : Kept → Step → Kept
 taken k step = record k {
   terms = listed_by step.input k.terms;
-  quote = if is_some k.begun then or_else (quoted_by k.id step.input) k.quote else k.quote;
+  run = option_map (requoted (quoted_by k.id step.input)) k.run;
   halted = halted_by k.id step.input k.halted;
   auction = heard (indicated_by k.id step.input) k.auction;
   left_limit = false;
@@ -93,10 +92,7 @@ renewed s carried = record {
   terms = None;
   phase = Shut;
   since = 0;
-  begun = None;
-  quote = None;
-  band = None;
-  adopted = 0;
+  run = None;
   straddling = false;
   halted = false;
   auction = None;

@@ -10,7 +10,7 @@ pub record SameLive (t : ℕ) (kept deals : List Deal) : Type 0 where
 
 -- the open step's own deal, where it counts
 abbrev pub counted_deal : Kept → List Deal
-counted_deal k = if is_some k.begun then option_to_list k.deal else []
+counted_deal k = if is_some k.run then option_to_list k.deal else []
 
 -- the deals of the window, the open step's own the last
 abbrev pub window : Kept → List Deal → List Deal

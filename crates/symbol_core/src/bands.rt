@@ -1,14 +1,15 @@
 // Reference prices and price bands (LULD Plan, Section V).
-ghost use Rattle.std.specs.Prelude.{◌≡◌, ◌+◌, ◌≤◌, [], true, false, List, unwrap_or, vec_len, vec_capacity};
+ghost use Rattle.std.specs.Prelude.{◌≡◌, ◌+◌, ◌≤◌, [], true, false, Some, ℕ, List, Option, option_map, vec_len, vec_capacity};
 ghost use Rattle.std.specs.Option.{option_map_or};
 ghost use Rattle.price_core.specs.Moves.{moved_one_percent};
 ghost use Rattle.pause_core.specs.Phases.{is_done};
 ghost use Rattle.window_core.specs.Deals.{AreNear, live, mean_of};
-ghost use Rattle.refprice_core.specs.Prices as prices;
+ghost use Rattle.refprice_core.specs.Prices.{observed};
 ghost use Rattle.rulebook.specs.Auction.{is_paused};
 ghost use Rattle.rulebook.specs.Rules as rules;
-ghost use Rattle.rulebook.specs.Symbol.{bands_of, prior_close_of};
+ghost use Rattle.rulebook.specs.Symbol.{bands_of, is_times, prior_close_of};
 ghost use Rattle.symbol_core.specs.Pricing as pricing;
+ghost use Rattle.symbol_core.specs.Runs.{run_band, run_reference};
 ghost use Rattle.symbol_core.specs.Stands.{ObeysWith, Says};
 ghost use Rattle.symbol_core.specs.Window.{window};
 
@@ -18,7 +19,7 @@ use crate::says::midnight;
 use pause_core::is_trading;
 use percent_core::{bands, category, percent, span};
 use price_core::{Bands, Cause, Price, moved_one_percent};
-use refprice_core::{Adoption, Priced, because, forced, is_in_opening_period};
+use refprice_core::{Priced, Reference, because, forced};
 use rulebook::{Banded, Terms};
 use session_core::{Day, Moment};
 use window_core::{Window, live_mean};
@@ -44,11 +45,7 @@ impl Kept {
     fn mean(&self, t: Moment, deals: &Window) -> Option<Price>
         ensures { result ≡ mean_of (live t (window self.now deals.now.deals)) }
     {
-        let last = if self.begun.is_some() {
-            self.deal
-        } else {
-            None
-        };
+        let last = if self.run.is_some() { self.deal } else { None };
         if self.is_fresh {
             live_mean(t, &[], &last)
         } else {
@@ -56,13 +53,13 @@ impl Kept {
         }
     }
 
-    /// The moment at which the run began, midnight outside a run.
-    pub fn begun_at(&self) -> Moment
-        ensures { result ≡ unwrap_or self.now.begun 0 }
+    /// The run's reference price, and outside a run that of one that began at midnight.
+    pub fn last_reference(&self) -> Reference
+        ensures { result ≡ run_reference self.now }
     {
-        match self.begun {
-            Some(begun) => begun,
-            None => midnight(),
+        match &self.run {
+            Some(run) => run.reference,
+            None => Reference::begin(midnight()),
         }
     }
 
@@ -91,29 +88,6 @@ impl Kept {
         }
     }
 
-    fn first_price(&self, step: &Step, deals: &Window) -> Option<Price>
-        ensures { result ≡ pricing.first_price self.now step.now (mean_of (live step.now.moment (window self.now deals.now.deals))) }
-    {
-        if self.released.is_some() {
-            return self.released;
-        }
-        if is_in_opening_period(self.begun_at(), step.moment) {
-            self.offered(step)
-        } else {
-            self.mean(step.moment, deals)
-        }
-    }
-
-    /// The run's last adoption of a reference price, that of these bands.
-    pub fn adoption(&self, b: &Banded) -> Adoption
-        ensures { result ≡ pricing.adoption self.now b.now }
-    {
-        Adoption {
-            moment: self.adopted,
-            price: b.reference,
-        }
-    }
-
     /// Whether the price of the open step's own deal is at least one per cent away from a reference price.
     fn deal_is_far(&self, reference: Price) -> bool
         ensures { result ≡ option_map_or (λ d. moved_one_percent d.price reference) self.now.deal false }
@@ -139,11 +113,7 @@ impl Kept {
         if self.stays_near(deals, reference) {
             return false;
         }
-        let last = if self.begun.is_some() {
-            self.deal
-        } else {
-            None
-        };
+        let last = if self.run.is_some() { self.deal } else { None };
         if self.is_fresh {
             match self.mean(t, deals) {
                 Some(mean) => moved_one_percent(mean, reference),
@@ -154,28 +124,41 @@ impl Kept {
         }
     }
 
-    fn moved_price(&self, step: &Step, deals: &Window, b: &Banded) -> Option<Price>
-        ensures { result ≡ prices.moved_price (pricing.adoption self.now b.now) step.now.moment (mean_of (live step.now.moment (window self.now deals.now.deals))) }
+    /// The mean of the window, where it may be a new reference price.
+    fn awaited_mean(&self, t: Moment, deals: &Window, reference: &Reference) -> Option<Price>
+        ensures { (offered : Option ℕ) → observed reference.now.begun reference.now.last t offered result ≡ observed reference.now.begun reference.now.last t offered (mean_of (live t (window self.now deals.now.deals))) }
     {
-        let adoption = self.adoption(b);
-        if !adoption.has_stood(step.moment) {
-            None
-        } else if self.mean_has_moved(step.moment, deals, b.reference) {
-            self.mean(step.moment, deals)
-        } else {
-            None
+        if !reference.awaits_mean(t) {
+            return None;
+        }
+        match reference.last() {
+            Some(last) if !self.mean_has_moved(t, deals, last.price) => None,
+            _ => self.mean(t, deals),
+        }
+    }
+
+    /// The price at which the open step released the symbol, where the run has taken none yet.
+    fn released_first(&self, reference: &Reference) -> Option<Price>
+        ensures { result ≡ pricing.released_first self.now.released reference.now.last }
+    {
+        match reference.last() {
+            Some(_) => None,
+            None => self.released,
         }
     }
 }
 
 impl Kept {
     fn later_price(&self, step: &Step, deals: &Window) -> Option<Priced>
-        ensures { result ≡ pricing.later_price self.now step.now (mean_of (live step.now.moment (window self.now deals.now.deals))) self.now.band }
+        ensures { result ≡ pricing.later_price self.now step.now (mean_of (live step.now.moment (window self.now deals.now.deals))) }
     {
-        match self.band {
-            None => because(Cause::First, self.first_price(step, deals)),
-            Some(b) => because(Cause::Moved, self.moved_price(step, deals, &b)),
+        let reference = self.last_reference();
+        let released = self.released_first(&reference);
+        if released.is_some() {
+            return because(Cause::First, released);
         }
+        let mean = self.awaited_mean(step.moment, deals, &reference);
+        reference.observed(step.moment, self.offered(step), mean)
     }
 
     /// A new reference price, where there is one.
@@ -193,6 +176,7 @@ impl Kept {
 
     fn band(&mut self, step: &Step, cause: Cause, price: Price, out: &mut Vec<Message>)
         requires unpaused { is_paused self.old.phase ≡ false }
+        requires times { is_times cause ≡ true → option_map (λ last. last.reference) (run_band self.old) ≡ Some price }
         requires room { vec_len out.old + 1 ≤ vec_capacity out.old }
         ensures says { Says (pricing.band self.old step.now cause price) step.now self.old self.new out.old.items out.new.items }
         ensures room { vec_capacity out.old ≤ vec_capacity out.new }
@@ -227,11 +211,11 @@ impl Kept {
 
     fn band_by_time(&mut self, step: &Step, out: &mut Vec<Message>)
         requires { vec_len out.old + 1 ≤ vec_capacity out.old }
-        ensures says { Says (option_map_or (pricing.band_by_time self.old step.now) self.old.band []) step.now self.old self.new out.old.items out.new.items }
+        ensures says { Says (option_map_or (pricing.band_by_time self.old step.now) (run_band self.old) []) step.now self.old self.new out.old.items out.new.items }
         ensures room { vec_capacity out.old ≤ vec_capacity out.new }
         ensures len { vec_len out.new ≤ vec_len out.old + 1 }
     {
-        if let Some(last) = self.band {
+        if let Some(last) = self.last_band() {
             if is_trading(self.phase) && self.time_changes(step, &last) {
                 self.band(step, Cause::Times, last.reference, out);
             }

@@ -7,10 +7,10 @@ ghost use Rattle.pause_core.specs.Phases.{can_start, is_trading};
 ghost use Rattle.percent_core.specs.Percentages.{span};
 ghost use Rattle.window_core.specs.declared.window.Deal.{Deal};
 ghost use Rattle.rulebook.specs.Rules.{at_band};
-ghost use Rattle.symbol_core.specs.Idle.{ChangesBandsFrom, IsDue, IsRested, IsSettled, PausesFrom, PricesFrom, ReopensFrom, StartsFrom, Waits, WaitsAt, is_out, leaves_limit};
+ghost use Rattle.symbol_core.specs.Idle.{ChangesBandsFrom, IsDue, IsRested, IsSettled, IsSettledAt, PausesFrom, PricesFrom, ReopensFrom, StartsFrom, Waits, WaitsAt, is_out, leaves_limit};
 ghost use Rattle.window_core.specs.Deals.{live, mean_of};
-ghost use Rattle.symbol_core.specs.Kept.{with_quote};
 ghost use Rattle.symbol_core.specs.Pricing.{reference, time_changes};
+ghost use Rattle.symbol_core.specs.Runs.{run_band, run_reference};
 ghost use Rattle.symbol_core.specs.Window.{window};
 
 use crate::kept::{Kept, Step};
@@ -21,11 +21,10 @@ use pause_core::{
     can_market_halt, can_start, is_done, is_in_regulatory_halt, is_limit, is_trading,
 };
 use price_core::Quotation;
-use refprice_core::is_in_opening_period;
-use rulebook::Banded;
+use refprice_core::Adoption;
 use session_core::{
-    Day, END_OF_FIRST_15_MINUTES, FIFTEEN_SECONDS, FIVE_MINUTES, Moment, Phase, SESSION_OPEN,
-    THIRTY_SECONDS, TWENTY_FIVE_MINUTES, close_moment,
+    Day, END_OF_FIRST_15_MINUTES, FIFTEEN_SECONDS, Moment, Phase, SESSION_OPEN,
+    TWENTY_FIVE_MINUTES, close_moment,
 };
 use window_core::Window;
 
@@ -141,20 +140,20 @@ pub fn earlier(a: u64, b: u64) -> u64
 
 impl Kept {
     fn leaves_limit(&self, quote: &Option<Quotation>) -> bool
-        ensures { result ≡ leaves_limit (with_quote self.now quote.now) }
+        ensures { result ≡ leaves_limit self.now quote.now }
     {
-        is_limit(self.phase) && !at_band(self.phase, quote, &self.band)
+        is_limit(self.phase) && !at_band(self.phase, quote, &self.last_band())
     }
 
     fn enters_limit(&self, side: Phase, quote: &Option<Quotation>) -> bool
-        ensures { result ≡ (is_trading self.now.phase && at_band side quote.now self.now.band) }
+        ensures { result ≡ (is_trading self.now.phase && at_band side quote.now (run_band self.now)) }
     {
-        is_trading(self.phase) && at_band(side, quote, &self.band)
+        is_trading(self.phase) && at_band(side, quote, &self.last_band())
     }
 
     /// Whether no rule says anything at a tick, whatever its time, where that is the run's last quotation.
     fn is_settled_at(&self, quote: &Option<Quotation>, stopped: bool) -> bool
-        ensures { result ≡ true → IsSettled (with_quote self.now quote.now) stopped }
+        ensures { result ≡ true → IsSettledAt self.now quote.now stopped }
     {
         !(stopped && can_market_halt(self.phase))
             && self.halted == is_in_regulatory_halt(self.phase)
@@ -168,16 +167,16 @@ impl Kept {
     fn is_settled(&self, stopped: bool) -> bool
         ensures { result ≡ true → IsSettled self.now stopped }
     {
-        self.is_settled_at(&self.quote, stopped)
+        self.is_settled_at(&self.last_quote(), stopped)
     }
 
     /// Whether a quotation leaves a stock in a run in peace, whatever the time.
     pub fn is_settled_by(&self, quote: &Quotation, stopped: bool) -> bool
         ensures listed { result ≡ true → is_out self.now ≡ false }
-        ensures run { result ≡ true → is_some self.now.begun ≡ true }
-        ensures settled { result ≡ true → IsSettled (with_quote self.now (Some quote.now)) stopped }
+        ensures run { result ≡ true → is_some self.now.run ≡ true }
+        ensures settled { result ≡ true → IsSettledAt self.now (Some quote.now) stopped }
     {
-        !self.is_out() && self.begun.is_some() && self.is_settled_at(&Some(*quote), stopped)
+        !self.is_out() && self.run.is_some() && self.is_settled_at(&Some(*quote), stopped)
     }
 }
 
@@ -221,9 +220,9 @@ impl Kept {
     }
 
     fn time_brings_bands(&self, step: &Step) -> bool
-        ensures { result ≡ option_map_or (time_changes self.now step.now) self.now.band false }
+        ensures { result ≡ option_map_or (time_changes self.now step.now) (run_band self.now) false }
     {
-        match &self.band {
+        match &self.last_band() {
             Some(last) => self.time_changes(step, last),
             None => false,
         }
@@ -245,47 +244,30 @@ impl Kept {
 
 // The same of a new reference price (LULD Plan, Section V).
 impl Kept {
-    /// In a run without bands: five minutes after its begin.
-    fn first_from(&self, t: Moment) -> u64
-        ensures { IsRested self.now → is_some self.now.band ≡ false → (deals : List Deal) → PricesFrom self.now deals t result }
+    /// After a reference price: never while the price of each deal is near it. Else where, once another mean is awaited, that of
+    /// the deals that are left may be far from it.
+    fn moves_from(&self, t: Moment, last: &Adoption, deals: &Window) -> u64
+        ensures { IsRested self.now → (run_reference self.now).last ≡ Some last.now → PricesFrom self.now deals.now.deals t result }
     {
-        if is_in_opening_period(self.begun_at(), t) {
-            self.begun_at().nanos() + FIVE_MINUTES
-        } else {
-            0
-        }
-    }
-
-    /// With bands: never while the price of each deal is near the last reference price. Else 30 seconds after that one, and
-    /// then where a deal leaves the mean.
-    fn moves_from(&self, t: Moment, last: &Banded, deals: &Window) -> u64
-        ensures { IsRested self.now → self.now.band ≡ Some last.now → PricesFrom self.now deals.now.deals t result }
-    {
-        if deals.stays_near(last.reference) {
+        if deals.stays_near(last.price) {
             return u64::MAX;
         }
-        let adoption = self.adoption(last);
-        if !adoption.has_stood(t) {
-            self.adopted.nanos() + THIRTY_SECONDS
-        } else if deals.mean_has_moved(last.reference) {
-            0
-        } else {
-            deals.live_until()
-        }
+        let awaits = self.last_reference().awaits_from();
+        deals.moves_from(t.nanos().max(awaits), last.price)
     }
 
-    fn prices_from(&self, t: Moment, deals: &Window) -> u64
+    /// From when on time may bring a new reference price, in nanoseconds of the day.
+    pub fn prices_from(&self, t: Moment, deals: &Window) -> u64
         ensures { IsRested self.now → PricesFrom self.now deals.now.deals t result }
     {
         if !is_trading(self.phase) {
             return u64::MAX;
         }
-        if deals.oldest().is_none() {
-            return u64::MAX;
-        }
-        match &self.band {
+        let reference = self.last_reference();
+        match &reference.last() {
             Some(last) => self.moves_from(t, last, deals),
-            None => self.first_from(t),
+            None if deals.oldest().is_none() => u64::MAX,
+            None => reference.awaits_from(),
         }
     }
 }

@@ -1,4 +1,5 @@
 use price_core::{Price, Quotation};
+use refprice_core::Reference;
 use reopen_core::Auction;
 use rulebook::{Banded, Terms};
 use session_core::{Day, Moment, Phase};
@@ -6,40 +7,44 @@ use short_core::Short;
 use window_core::Deal;
 use wire_in::Record;
 
-/// What is kept of one symbol.
+/// What is kept of a run of continuous trading.
+#[derive(Clone, Copy, Debug)]
+pub struct Run {
+    pub reference: Reference,
+    /// Its last quotation.
+    pub quote: Option<Quotation>,
+    /// Its last bands.
+    pub band: Option<Banded>,
+}
+
+/// What is kept of one symbol. The small fields stand together, so that no room is left between them.
 #[derive(Clone, Copy, Debug)]
 pub struct Kept {
     pub id: u16,
-    /// Today's listing.
-    pub terms: Option<Terms>,
     pub phase: Phase,
-    /// The moment of the phase.
-    pub since: Moment,
-    /// The moment at which the run began.
-    pub begun: Option<Moment>,
-    /// The run's last quotation.
-    pub quote: Option<Quotation>,
-    /// The run's last bands.
-    pub band: Option<Banded>,
-    /// The moment at which the run last took a reference price.
-    pub adopted: Moment,
     pub straddling: bool,
     /// Whether a regulatory halt is in effect.
     pub halted: bool,
-    /// The reopening auction, while the symbol is paused.
-    pub auction: Option<Auction>,
-    /// The short sale restriction.
-    pub short: Short,
     /// Whether the open step has left a limit state.
     pub left_limit: bool,
-    /// The price at which the open step released the symbol.
-    pub released: Option<Price>,
-    /// The open step's own deal, not yet among the kept ones.
-    pub deal: Option<Deal>,
     /// Whether the kept deals are of before the window's begin.
     pub is_fresh: bool,
     /// Whether the open step's trade is the first of today that triggers the short sale restriction.
     pub restricts: bool,
+    /// The moment of the phase.
+    pub since: Moment,
+    /// Today's listing.
+    pub terms: Option<Terms>,
+    /// Today's last run.
+    pub run: Option<Run>,
+    /// The reopening auction, while the symbol is paused.
+    pub auction: Option<Auction>,
+    /// The short sale restriction.
+    pub short: Short,
+    /// The price at which the open step released the symbol.
+    pub released: Option<Price>,
+    /// The open step's own deal, not yet among the kept ones.
+    pub deal: Option<Deal>,
 }
 
 /// What the open step has for each rule.

@@ -4,9 +4,8 @@ ghost use Rattle.window_core.specs.Deals.{live, mean_of};
 ghost use Rattle.limit_core.specs.Limits.{straddles};
 ghost use Rattle.rulebook.specs.Rules.{at_band, meets};
 ghost use Rattle.refprice_core.specs.Prices.{moved_price};
-ghost use Rattle.symbol_core.specs.Idle.{IsDue, IsRested, IsSettled, IsStill, PricesFrom, brings_deal_or_time, is_out, keeps_price};
-ghost use Rattle.symbol_core.specs.Kept.{with_quote};
-ghost use Rattle.symbol_core.specs.Pricing.{adoption};
+ghost use Rattle.symbol_core.specs.Idle.{IsDue, IsRested, IsSettled, IsSettledAt, IsStill, PricesFrom, brings_deal_or_time, is_out, keeps_price};
+ghost use Rattle.symbol_core.specs.Runs.{run_band, run_reference};
 ghost use Rattle.symbol_core.specs.Taken.{deal_of, triggers_by};
 
 use crate::due::{Due, earlier, is_same};
@@ -15,8 +14,9 @@ use crate::symbol::MarketView;
 use eligible_core::eligible;
 use pause_core::is_trading;
 use price_core::{Bands, NoMemory, Price, Quotation};
+use refprice_core::Adoption;
 use rulebook::Banded;
-use session_core::{Day, Moment, Phase, THIRTY_SECONDS};
+use session_core::{Day, Moment, Phase};
 use window_core::{Deal, Window};
 use wire_in::Record;
 
@@ -51,7 +51,7 @@ pub fn deal_in(id: u16, x: &Record, day: &Day) -> Option<Deal>
     }
 }
 
-/// Removes the deals that are five minutes old. Mostly there are none, which two comparisons tell.
+/// Removes the deals that are five minutes old. Mostly there are none, which one comparison tells.
 pub fn drop_old(t: Moment, deals: &mut Window)
     ensures deals { deals.new.deals ≡ live t deals.old.deals }
     ensures spare { deals.old.spare ≤ deals.new.spare }
@@ -102,6 +102,13 @@ fn is_within(quote: &Quotation, band: &Option<Banded>) -> bool
     }
 }
 
+/// Whether the mean of the kept deals and one more is no new reference price in place of the last one.
+fn is_kept(last: &Adoption, t: Moment, deal: &Option<Deal>, deals: &Window) -> bool
+    ensures { result ≡ not (is_some (moved_price last.now t (mean_of (live t (deals.now.deals ++ option_to_list deal.now))))) }
+{
+    !last.has_stood(t) || !deals.mean_has_moved_with(t, deal, last.price)
+}
+
 impl Due {
     /// Whether time brings nothing but perhaps a new reference price at a moment of a market.
     pub fn waits_for(&self, t: Moment, market: &MarketView) -> bool
@@ -114,33 +121,42 @@ impl Due {
 }
 
 impl Kept {
+    /// Whether a quotation lies within the bands of a run.
+    fn has_within(&self, quote: &Quotation) -> bool
+        ensures run { result ≡ true → is_some self.now.run ≡ true }
+        ensures low { result ≡ true → at_band Phase.LimitLow (Some quote.now) (run_band self.now) ≡ false }
+        ensures high { result ≡ true → at_band Phase.LimitHigh (Some quote.now) (run_band self.now) ≡ false }
+        ensures straddles { result ≡ true → meets straddles (Some quote.now) (run_band self.now) ≡ false }
+    {
+        match &self.run {
+            Some(run) => is_within(quote, &run.band),
+            None => false,
+        }
+    }
+
     /// Whether a quotation lies within the bands of a stock that is trading and isn't straddling.
     fn stays_within(&self, quote: &Quotation) -> bool
         ensures listed { result ≡ true → is_out self.now ≡ false }
-        ensures run { result ≡ true → is_some self.now.begun ≡ true }
-        ensures settled { result ≡ true → (stopped : Bool) → IsSettled self.now stopped → IsSettled (with_quote self.now (Some quote.now)) stopped }
+        ensures run { result ≡ true → is_some self.now.run ≡ true }
+        ensures settled { result ≡ true → (stopped : Bool) → IsSettled self.now stopped → IsSettledAt self.now (Some quote.now) stopped }
     {
-        is_trading(self.phase)
-            && !self.straddling
-            && self.terms.is_some()
-            && self.begun.is_some()
-            && is_within(quote, &self.band)
+        is_trading(self.phase) && !self.straddling && self.terms.is_some() && self.has_within(quote)
     }
 
     /// Whether a quotation leaves a settled stock in a run in peace, whatever the time.
     pub fn stays_settled(&self, quote: &Quotation, stopped: bool) -> bool
         ensures listed { result ≡ true → is_out self.now ≡ false }
-        ensures run { result ≡ true → is_some self.now.begun ≡ true }
-        ensures settled { result ≡ true → IsSettled self.now stopped → IsSettled (with_quote self.now (Some quote.now)) stopped }
+        ensures run { result ≡ true → is_some self.now.run ≡ true }
+        ensures settled { result ≡ true → IsSettled self.now stopped → IsSettledAt self.now (Some quote.now) stopped }
     {
         self.stays_within(quote) || self.is_settled_by(quote, stopped)
     }
 
     /// Whether a deal counts, where there is one: its run has begun.
     fn counts(&self, deal: &Option<Deal>) -> bool
-        ensures { result ≡ true → (if is_some self.now.begun then option_to_list deal.now else []) ≡ option_to_list deal.now }
+        ensures { result ≡ true → (if is_some self.now.run then option_to_list deal.now else []) ≡ option_to_list deal.now }
     {
-        self.begun.is_some() || deal.is_none()
+        self.run.is_some() || deal.is_none()
     }
 
     /// Whether a deal is the first of today that triggers the short sale restriction.
@@ -154,13 +170,6 @@ impl Kept {
         }
     }
 
-    /// Whether the mean of the kept deals and one more is no new reference price in place of that of the last bands.
-    fn keeps_reference(&self, t: Moment, last: &Banded, deal: &Option<Deal>, deals: &Window) -> bool
-        ensures { result ≡ not (is_some (moved_price (adoption self.now last.now) t (mean_of (live t (deals.now.deals ++ option_to_list deal.now))))) }
-    {
-        !self.adoption(last).has_stood(t) || !deals.mean_has_moved_with(t, deal, last.reference)
-    }
-
     /// Whether the mean of the kept deals and one more is no new reference price.
     pub fn keeps_price(&self, t: Moment, deal: &Option<Deal>, deals: &Window) -> bool
         ensures { result ≡ keeps_price self.now t (mean_of (live t (deals.now.deals ++ option_to_list deal.now))) }
@@ -168,8 +177,8 @@ impl Kept {
         if !is_trading(self.phase) {
             return true;
         }
-        match &self.band {
-            Some(last) => self.keeps_reference(t, last, deal, deals),
+        match &self.last_reference().last() {
+            Some(last) => is_kept(last, t, deal, deals),
             None => false,
         }
     }
@@ -177,40 +186,12 @@ impl Kept {
     /// Whether a deal, where there is one, brings a settled stock nothing but perhaps a new reference price.
     pub fn awaits_price(&self, deal: &Option<Deal>) -> bool
         ensures listed { result ≡ true → is_out self.now ≡ false }
-        ensures counts { result ≡ true → (if is_some self.now.begun then option_to_list deal.now else []) ≡ option_to_list deal.now }
+        ensures counts { result ≡ true → (if is_some self.now.run then option_to_list deal.now else []) ≡ option_to_list deal.now }
         ensures restricts { result ≡ true → (triggers_by self.now.short.prior_close deal.now && not self.now.short.triggered) ≡ false }
     {
         // The first price of a run is left to its rule.
-        let has_price = self.band.is_some() || !is_trading(self.phase);
+        let has_price = self.last_reference().last().is_some() || !is_trading(self.phase);
         has_price && !self.is_out() && self.counts(deal) && !self.is_restricted_by(deal)
-    }
-
-    /// From when on time may bring a new reference price in place of that of the last bands, where none comes at a moment,
-    /// in nanoseconds of the day: never while the price of each deal is near that one.
-    fn moves_after(&self, t: Moment, last: &Banded, deals: &Window) -> u64
-        ensures { IsRested self.now → self.now.band ≡ Some last.now → not (is_some (moved_price (adoption self.now last.now) t (mean_of deals.now.deals))) ≡ true → PricesFrom self.now deals.now.deals t result }
-    {
-        if deals.stays_near(last.reference) {
-            return u64::MAX;
-        }
-        if self.adoption(last).has_stood(t) {
-            deals.live_until()
-        } else {
-            self.adopted.nanos() + THIRTY_SECONDS
-        }
-    }
-
-    /// From when on time may bring a new reference price, where none comes at a moment, in nanoseconds of the day.
-    fn prices_after(&self, t: Moment, deals: &Window) -> u64
-        ensures { IsRested self.now → keeps_price self.now t (mean_of deals.now.deals) ≡ true → PricesFrom self.now deals.now.deals t result }
-    {
-        if !is_trading(self.phase) {
-            return u64::MAX;
-        }
-        match &self.band {
-            Some(last) => self.moves_after(t, last, deals),
-            None => 0,
-        }
     }
 
     /// When the stock is next due, where no rule says anything.
@@ -220,7 +201,7 @@ impl Kept {
     {
         Due {
             from: due.from,
-            until: earlier(due.waits, self.prices_after(due.from, deals)),
+            until: earlier(due.waits, self.prices_from(due.from, deals)),
             waits: due.waits,
             market: due.market,
         }

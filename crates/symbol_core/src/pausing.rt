@@ -48,7 +48,7 @@ impl Kept {
         ensures room { vec_capacity out.old ≤ vec_capacity out.new }
         ensures len { vec_len out.new ≤ vec_len out.old + 2 }
     {
-        match self.band {
+        match self.last_band() {
             Some(b) => self.say_pause(step, phase, &b, out),
             None => self.becomes(step, phase, out),
         }

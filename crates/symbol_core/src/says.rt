@@ -2,13 +2,15 @@
 ghost use Rattle.std.specs.Prelude.{true, false, None, Some, ◌≡◌, ◌+◌, ◌≤◌, ◌++◌, ◌∷◌, [], List, option_map, vec_len, vec_capacity};
 ghost use Rattle.rulebook.specs.Auction.{is_paused, origin_of};
 ghost use Rattle.rulebook.specs.Symbol.{is_times};
-ghost use Rattle.symbol_core.specs.Kept.{auction_begun, becoming, begins_auction, in_round, quoted_by, collars_of, turned};
+ghost use Rattle.symbol_core.specs.Kept.{auction_begun, becoming, begins_auction, in_round, collars_of, run_banded, run_of, turned};
+ghost use Rattle.symbol_core.specs.Runs.{run_band};
 ghost use Rattle.symbol_core.specs.Stands.{Says};
 
-use crate::kept::{Kept, Step};
+use crate::kept::{Kept, Run, Step};
 use crate::records::{indicated_by, opens_early, quoted_by};
 use pause_core::{is_limit, is_trading};
 use price_core::{Cause, Price};
+use refprice_core::Reference;
 use reopen_core::{Auction, Origin};
 use rulebook::Banded;
 use session_core::{Moment, Phase};
@@ -55,12 +57,13 @@ fn push(out: &mut Vec<Message>, message: Message)
 
 impl Kept {
     fn begin_run(&mut self, step: &Step)
-        ensures { self.new ≡ record self.old { begun = Some step.now.moment; quote = quoted_by self.old.id step.now.input; band = None; adopted = 0; is_fresh = true } }
+        ensures { self.new ≡ record self.old { run = Some (run_of self.old.id step.now); is_fresh = true } }
     {
-        self.begun = Some(step.moment);
-        self.quote = quoted_by(self.id, &step.input);
-        self.band = None;
-        self.adopted = midnight();
+        self.run = Some(Run {
+            reference: Reference::begin(step.moment),
+            quote: quoted_by(self.id, &step.input),
+            band: None,
+        });
         self.is_fresh = true;
     }
 
@@ -125,7 +128,7 @@ impl Kept {
     /// The symbol is paused, and the first round of its auction begins.
     pub fn say_pause(&mut self, step: &Step, phase: Phase, b: &Banded, out: &mut Vec<Message>)
         requires paused { is_paused phase ≡ true }
-        requires band { self.old.band ≡ Some b.now }
+        requires band { run_band self.old ≡ Some b.now }
         requires room { vec_len out.old + 2 ≤ vec_capacity out.old }
         ensures says { Says (becoming self.old phase ++ collars_of self.old.id (auction_begun self.old step.now b.now)) step.now self.old self.new out.old.items out.new.items }
         ensures room { vec_capacity out.old ≤ vec_capacity out.new }
@@ -142,6 +145,18 @@ impl Kept {
         push(out, self.collar(&auction));
         self.set_phase(step, phase);
         self.auction = Some(auction);
+    }
+}
+
+impl Run {
+    /// Bands, with a reference price that the run takes with them where they aren't those of the time of day.
+    fn take_band(&mut self, step: &Step, b: &Banded)
+        ensures { self.new ≡ run_banded step.now b.now self.old }
+    {
+        self.band = Some(*b);
+        if !is_times(b.cause) {
+            self.reference.adopt(step.moment, b.reference);
+        }
     }
 }
 
@@ -279,20 +294,18 @@ impl Kept {
     fn take_band(&mut self, step: &Step, b: &Banded)
         ensures { self.new ≡ banded self.old step.now b.now }
     {
-        if let Some(begun) = self.begun {
-            if self.band.is_none() && opens_early(self.id, begun, step) {
+        if let Some(run) = &mut self.run {
+            if run.band.is_none() && opens_early(self.id, run.reference.begun(), step) {
                 self.is_fresh = true;
             }
-            self.band = Some(*b);
-            if !is_times(b.cause) {
-                self.adopted = step.moment;
-            }
+            run.take_band(step, b);
         }
     }
 
     /// Price bands.
     pub fn say_band(&mut self, step: &Step, b: &Banded, out: &mut Vec<Message>)
         requires unpaused { is_paused self.old.phase ≡ false }
+        requires times { is_times b.now.cause ≡ true → option_map (λ last. last.reference) (run_band self.old) ≡ Some b.now.reference }
         requires room { vec_len out.old + 1 ≤ vec_capacity out.old }
         ensures says { Says (Message.Band self.old.id b.now.cause b.now.reference b.now.bands.lower b.now.bands.upper ∷ []) step.now self.old self.new out.old.items out.new.items }
         ensures room { vec_capacity out.old ≤ vec_capacity out.new }

@@ -210,7 +210,9 @@ impl Symbol {
         requires { IsDue (Some passed.now.due) (quoted self.old t passed.now.quote).kept (quoted self.old t passed.now.quote).deals }
         ensures { self.new ≡ quoted self.old t passed.now.quote }
     {
-        self.kept.quote = Some(passed.quote);
+        if let Some(run) = &mut self.kept.run {
+            run.take_quote(Some(passed.quote));
+        }
         drop_old(t, &mut self.deals);
         self.due = Some(passed.due);
     }

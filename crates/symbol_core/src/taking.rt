@@ -1,18 +1,30 @@
 // Taking a record in, and what is kept at the end of a step.
 ghost use Rattle.std.specs.Prelude.{◌≡◌, ◌≤◌, ◌++◌, [], None, false, is_some, if◌then◌else◌, filter, length, option_to_list};
 ghost use Rattle.window_core.specs.Deals.{live};
-ghost use Rattle.symbol_core.specs.Kept.{heard};
+ghost use Rattle.symbol_core.specs.Kept.{heard, requoted};
 ghost use Rattle.symbol_core.specs.Taken.{finished, leaves, renewed, restricts, shorted, taken};
 ghost use Rattle.symbol_core.specs.Window.{SameLive};
 
-use crate::kept::{Kept, Step};
+use crate::kept::{Kept, Run, Step};
 use crate::records::{cancelled_by, deal_of, halted_by, indicated_by, listed_by, quoted_by};
 use crate::says::midnight;
+use price_core::Quotation;
 use reopen_core::{Auction, Indication};
 use session_core::{Moment, Phase};
 use short_core::Short;
 use window_core::{Deal, Window};
 use wire_in::Record;
+
+impl Run {
+    /// Takes the quotation that a record is, where it is one.
+    pub fn take_quote(&mut self, quote: Option<Quotation>)
+        ensures { self.new ≡ requoted quote self.old }
+    {
+        if quote.is_some() {
+            self.quote = quote;
+        }
+    }
+}
 
 impl Kept {
     /// The kept state of an id at the begin of a day, with whether the day before triggered the short sale restriction.
@@ -24,10 +36,7 @@ impl Kept {
             terms: None,
             phase: Phase::Shut,
             since: midnight(),
-            begun: None,
-            quote: None,
-            band: None,
-            adopted: midnight(),
+            run: None,
             straddling: false,
             halted: false,
             auction: None,
@@ -45,8 +54,8 @@ impl Kept {
         ensures { self.new ≡ taken self.old step.now }
     {
         self.terms = listed_by(&step.input, self.terms);
-        if self.begun.is_some() {
-            self.quote = quoted_by(self.id, &step.input).or(self.quote);
+        if let Some(run) = &mut self.run {
+            run.take_quote(quoted_by(self.id, &step.input));
         }
         self.halted = halted_by(self.id, &step.input, self.halted);
         hear(indicated_by(self.id, &step.input), &mut self.auction);
@@ -114,10 +123,10 @@ fn begin_window(k: &Kept, deals: &mut Window)
 /// Adds the step's deal, where it counts.
 fn add_deal(k: &Kept, deal: &Option<Deal>, deals: &mut Window)
     requires { length (option_to_list deal.now) ≤ deals.old.spare }
-    ensures { deals.new.deals ≡ deals.old.deals ++ (if is_some k.now.begun then option_to_list deal.now else []) }
+    ensures { deals.new.deals ≡ deals.old.deals ++ (if is_some k.now.run then option_to_list deal.now else []) }
 {
     match deal {
-        Some(deal) if k.begun.is_some() => deals.add(*deal),
+        Some(deal) if k.run.is_some() => deals.add(*deal),
         _ => {}
     }
 }
@@ -125,7 +134,7 @@ fn add_deal(k: &Kept, deal: &Option<Deal>, deals: &mut Window)
 /// The deals of the window that are less than five minutes old become the kept ones.
 pub fn keep_deals(k: &Kept, t: Moment, deal: &Option<Deal>, deals: &mut Window)
     requires { length (option_to_list deal.now) ≤ deals.old.spare }
-    ensures same { SameLive t deals.new.deals ((if k.now.is_fresh then [] else deals.old.deals) ++ (if is_some k.now.begun then option_to_list deal.now else [])) }
+    ensures same { SameLive t deals.new.deals ((if k.now.is_fresh then [] else deals.old.deals) ++ (if is_some k.now.run then option_to_list deal.now else [])) }
     ensures recent { live t (option_to_list deal.now) ≡ option_to_list deal.now → live t deals.new.deals ≡ deals.new.deals }
 {
     begin_window(k, deals);

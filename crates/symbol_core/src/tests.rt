@@ -402,7 +402,15 @@ fn a_symbol_is_due_where_a_mean_may_come(rt: HostRuntime) -> Result<(), Fail> {
         trade(34_210, 1, 500_000, 1)?,
         trade(34_211, 2, 505_000, 0)?,
     ];
-    assert_eq!(rt; due_after(&rt, false, &with_bands)?, Some(34_240));
+    assert_eq!(rt; due_after(&rt, false, &with_bands)?, Some(34_510));
+    let far_before_30_seconds = [
+        new_day(3)?,
+        listing(500_000)?,
+        clock(34_200)?,
+        trade(34_210, 1, 500_000, 1)?,
+        trade(34_211, 2, 515_000, 0)?,
+    ];
+    assert_eq!(rt; due_after(&rt, false, &far_before_30_seconds)?, Some(34_240));
     let after_30_seconds = [
         new_day(3)?,
         listing(500_000)?,
@@ -633,8 +641,8 @@ fn a_tick_at_which_an_old_trade_leaves_finds_the_next_due(rt: HostRuntime) -> Re
         listing(500_000)?,
         clock(34_200)?,
         trade(34_210, 1, 500_000, 1)?,
-        trade(34_260, 2, 506_000, 0)?,
-        trade(34_261, 3, 494_000, 0)?,
+        trade(34_260, 2, 499_000, 0)?,
+        trade(34_261, 3, 513_000, 0)?,
     ];
     assert_eq!(rt; due_after(&rt, false, &three_trades)?, Some(34_510));
     let first_leaves = [
@@ -642,8 +650,8 @@ fn a_tick_at_which_an_old_trade_leaves_finds_the_next_due(rt: HostRuntime) -> Re
         listing(500_000)?,
         clock(34_200)?,
         trade(34_210, 1, 500_000, 1)?,
-        trade(34_260, 2, 506_000, 0)?,
-        trade(34_261, 3, 494_000, 0)?,
+        trade(34_260, 2, 499_000, 0)?,
+        trade(34_261, 3, 513_000, 0)?,
         clock(34_510)?,
     ];
     assert_eq!(rt; due_after(&rt, false, &first_leaves)?, Some(34_560));
@@ -652,12 +660,28 @@ fn a_tick_at_which_an_old_trade_leaves_finds_the_next_due(rt: HostRuntime) -> Re
         listing(500_000)?,
         clock(34_200)?,
         trade(34_210, 1, 500_000, 1)?,
-        trade(34_260, 2, 506_000, 0)?,
-        trade(34_261, 3, 494_000, 0)?,
+        trade(34_260, 2, 499_000, 0)?,
+        trade(34_261, 3, 513_000, 0)?,
         clock(34_510)?,
         clock(34_561)?,
     ];
     assert_eq!(rt; due_after(&rt, false, &all_leave)?, Some(35_100));
+    Ok(())
+}
+
+#[test]
+fn a_trade_that_leaves_and_keeps_the_mean_near_wakes_no_stock(
+    rt: HostRuntime,
+) -> Result<(), Fail> {
+    let three_trades = [
+        new_day(3)?,
+        listing(500_000)?,
+        clock(34_200)?,
+        trade(34_210, 1, 500_000, 1)?,
+        trade(34_260, 2, 506_000, 0)?,
+        trade(34_261, 3, 494_000, 0)?,
+    ];
+    assert_eq!(rt; due_after(&rt, false, &three_trades)?, Some(34_560));
     Ok(())
 }
 

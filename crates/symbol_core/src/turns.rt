@@ -8,7 +8,8 @@ ghost use Rattle.window_core.specs.declared.window.Deal.{Deal};
 ghost use Rattle.rulebook.specs.Auction.{is_paused};
 ghost use Rattle.rulebook.specs.Rules as rules;
 ghost use Rattle.rulebook.specs.Rules.{at_band, meets};
-ghost use Rattle.symbol_core.specs.Kept.{brakes, is_straddling_now, states, straddling, with_quote};
+ghost use Rattle.symbol_core.specs.Kept.{brakes, is_straddling_now, states, straddles_at, straddling};
+ghost use Rattle.symbol_core.specs.Runs.{run_band, run_quote};
 ghost use Rattle.symbol_core.specs.Stands.{Obeys, ObeysAll, Says, turning_rules};
 
 use crate::kept::{Kept, Step};
@@ -88,6 +89,35 @@ fn straddles_bands(quote: &Option<Quotation>, band: &Option<Banded>) -> bool
 }
 
 impl Kept {
+    /// The run's last quotation.
+    pub fn last_quote(&self) -> Option<Quotation>
+        ensures { result ≡ run_quote self.now }
+    {
+        match &self.run {
+            Some(run) => run.quote,
+            None => None,
+        }
+    }
+
+    /// The run's last bands.
+    pub fn last_band(&self) -> Option<Banded>
+        ensures { result ≡ run_band self.now }
+    {
+        match &self.run {
+            Some(run) => run.band,
+            None => None,
+        }
+    }
+
+    /// Whether the run's last quotation is at that side of its last bands.
+    fn is_at_band(&self, side: Phase) -> bool
+        ensures { result ≡ at_band side (run_quote self.now) (run_band self.now) }
+    {
+        at_band(side, &self.last_quote(), &self.last_band())
+    }
+}
+
+impl Kept {
     /// A limit state is left when the quotation leaves the band (LULD Plan, Section VI).
     pub fn leave_limit(&mut self, step: &Step, out: &mut Vec<Message>)
         requires goes_on { is_done self.old.phase ≡ false }
@@ -96,7 +126,7 @@ impl Kept {
         ensures room { vec_capacity out.old ≤ vec_capacity out.new }
         ensures len { vec_len out.new ≤ vec_len out.old + 1 }
     {
-        if is_limit(self.phase) && !at_band(self.phase, &self.quote, &self.band) {
+        if is_limit(self.phase) && !self.is_at_band(self.phase) {
             self.becomes(step, Phase::Trading, out);
         }
     }
@@ -112,24 +142,24 @@ impl Kept {
         if !is_trading(self.phase) {
             return;
         }
-        if at_band(Phase::LimitLow, &self.quote, &self.band) {
+        if self.is_at_band(Phase::LimitLow) {
             self.becomes(step, Phase::LimitLow, out);
-        } else if at_band(Phase::LimitHigh, &self.quote, &self.band) {
+        } else if self.is_at_band(Phase::LimitHigh) {
             self.becomes(step, Phase::LimitHigh, out);
         }
     }
 
     /// Whether that quotation straddles the bands.
     pub fn straddles_at(&self, quote: &Option<Quotation>) -> bool
-        ensures { result ≡ is_straddling_now (with_quote self.now quote.now) }
+        ensures { result ≡ straddles_at self.now quote.now }
     {
-        is_trading(self.phase) && straddles_bands(quote, &self.band)
+        is_trading(self.phase) && straddles_bands(quote, &self.last_band())
     }
 
     fn is_straddling_now(&self) -> bool
         ensures { result ≡ is_straddling_now self.now }
     {
-        self.straddles_at(&self.quote)
+        self.straddles_at(&self.last_quote())
     }
 
     fn straddling(&mut self, step: &Step, out: &mut Vec<Message>)

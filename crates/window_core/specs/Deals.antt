@@ -27,6 +27,11 @@ abbrev pub mean_of : List Deal → Option ℕ
 mean_of deals =
     if length deals == 0 then None else Some (mean (sum_by (λ d. d.price) deals) (length deals))
 
+-- whether their mean is as far as one per cent away from a reference price, which it isn't where there are none (LULD Plan,
+-- Section V)
+abbrev pub mean_has_moved : ℕ → List Deal → Bool
+mean_has_moved reference deals = option_map_or (λ m. moved_one_percent m reference) (mean_of deals) false
+
 -- the least of their moments, none where there are none
 abbrev pub least_moment : List Deal → Option ℕ
 least_moment [] = None

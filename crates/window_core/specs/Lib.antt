@@ -2,5 +2,6 @@ pub mod Deals
 pub mod Calls
 pub mod WindowState
 pub mod Tallies
+pub mod Leaving
 pub mod Bounds
 pub mod Summed

@@ -2,6 +2,7 @@
 #![tactic(auto)]
 
 mod bounds;
+mod leaving;
 mod queue;
 mod tally;
 #[cfg(test)]

@@ -1,4 +1,4 @@
-ghost use Rattle.std.specs.Prelude.{◌≡◌, ◌==◌, ◌+◌, ◌*◌, ◌≤◌, ◌<◌, ◌++◌, ◌^◌, None, Some, false, filter, if◌then◌else◌, length, option_to_list};
+ghost use Rattle.std.specs.Prelude.{◌-◌, ◌≡◌, ◌==◌, ◌+◌, ◌*◌, ◌≤◌, ◌<◌, ◌++◌, ◌^◌, None, Some, false, filter, if◌then◌else◌, length, option_to_list};
 ghost use Rattle.std.specs.Option.{option_map_or};
 ghost use Rattle.price_core.specs.Moves.{moved_one_percent};
 ghost use Rattle.price_core.specs.Rounding.{mean};
@@ -87,6 +87,19 @@ impl Tally {
         Some(mean(self.sum, self.count))
     }
 
+    /// What is left of deals where one of that price leaves.
+    pub(crate) fn without(&self, price: Price) -> Tally
+        requires sum { price ≤ self.now.sum }
+        requires count { 0 < self.now.count }
+        ensures sum { result.sum ≡ self.now.sum - price }
+        ensures count { result.count ≡ self.now.count - 1 }
+    {
+        Tally {
+            sum: self.sum - u128::from(price.units()),
+            count: self.count - 1,
+        }
+    }
+
     /// Whether the mean is at least one per cent away from a reference price (LULD Plan, Section V). It compares sums,
     /// since a division by the number of deals is slow.
     pub(crate) fn has_moved(&self, reference: Price) -> bool
@@ -97,12 +110,40 @@ impl Tally {
         if self.count == 0 {
             return false;
         }
+        if self.count < MANY {
+            return few_have_moved(self.sum as u64, self.count, reference);
+        }
         let price = reference.units();
         let hundredth = (price + 99) / 100;
         let sum = 2 * self.sum + u128::from(self.count);
         doubled(price + hundredth, self.count) <= sum
             || sum < doubled(price - hundredth + 1, self.count)
     }
+}
+
+/// The sum of the prices of fewer deals fits 64 bits, also where a price is as far as one per cent away from each of them.
+const MANY: u64 = 1_048_576;
+
+/// The same as `has_moved`, of fewer deals.
+fn few_have_moved(sum: u64, count: u64, reference: Price) -> bool
+    requires some { 0 < count }
+    requires few { count < 2 ^ 20 }
+    requires most { sum ≤ 99999999999 * count }
+    ensures { result ≡ option_map_or (λ m. moved_one_percent m reference) (if count == 0 then None else Some (mean sum count)) false }
+{
+    let price = reference.units();
+    let hundredth = (price + 99) / 100;
+    let sum = 2 * sum + count;
+    doubled_few(price + hundredth, count) <= sum || sum < doubled_few(price - hundredth + 1, count)
+}
+
+/// Twice the sum of so many equal prices.
+fn doubled_few(price: u64, count: u64) -> u64
+    requires price { price < 2 ^ 40 }
+    requires count { count < 2 ^ 20 }
+    ensures { result ≡ price * (2 * count) }
+{
+    price * (2 * count)
 }
 
 /// Twice the sum of so many equal prices.

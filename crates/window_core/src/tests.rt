@@ -45,6 +45,39 @@ fn a_mean_is_rounded_half_up(rt: HostRuntime) -> Result<(), Fail> {
 }
 
 #[test]
+fn a_mean_moves_when_a_deal_leaves(rt: HostRuntime) -> Result<(), Fail> {
+    let mut window = Window::new(rt.alloc())?;
+    let reference = Price::new(500_000)?;
+    assert_eq!(rt; window.moves_from(0, reference), u64::MAX);
+    trade(&mut window, after(0)?, 1, 500_000)?;
+    trade(&mut window, after(1)?, 2, 500_000)?;
+    trade(&mut window, after(2)?, 3, 512_000)?;
+    // Of all three the mean is 50.4000, and behind the first one 50.6000.
+    let end = after(300_000_000_000)?.nanos();
+    assert_eq!(rt; window.moves_from(after(2)?.nanos(), reference), end);
+    assert_eq!(rt; window.moves_from(end - 1, reference), end);
+    assert_eq!(rt; window.moves_from(end, reference), end);
+    assert_eq!(rt; window.moves_from(end + 2, reference), u64::MAX);
+    window.cancel(3);
+    assert_eq!(rt; window.moves_from(0, reference), u64::MAX);
+    Ok(())
+}
+
+#[test]
+fn of_nine_deals_the_first_alone_is_looked_at(rt: HostRuntime) -> Result<(), Fail> {
+    let mut window = Window::new(rt.alloc())?;
+    for number in 0..9 {
+        trade(&mut window, after(u64::from(number))?, number, 500_000)?;
+    }
+    let reference = Price::new(500_000)?;
+    assert_eq!(rt;
+        window.moves_from(0, reference),
+        after(300_000_000_000)?.nanos()
+    );
+    Ok(())
+}
+
+#[test]
 fn a_trade_of_exactly_five_minutes_does_not_count(rt: HostRuntime) -> Result<(), Fail> {
     let mut window = Window::new(rt.alloc())?;
     trade(&mut window, after(0)?, 1, 490_000)?;

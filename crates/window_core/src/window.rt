@@ -2,11 +2,12 @@ ghost use Rattle.std.specs.Prelude.{◌≡◌, ℕ, true, false, ◌+◌, ◌≤
 ghost use Rattle.std.specs.Option.{option_map_or};
 ghost use Rattle.price_core.specs.Moves.{moved_one_percent};
 ghost use Rattle.window_core.specs.Calls.{Call, Advance, Add, Cancel, Restart, moment_in, window};
-ghost use Rattle.window_core.specs.Deals.{AreNear, is_live, is_numbered, least_moment, live, mean_of, stays};
+ghost use Rattle.window_core.specs.Deals.{AreNear, is_live, is_numbered, least_moment, live, mean_has_moved, mean_of, stays};
 ghost use Rattle.window_core.specs.Tallies.{Tallies};
 ghost use Rattle.window_core.specs.WindowState.{Represents};
 
 use crate::bounds::PriceBounds;
+use crate::leaving::moves_from;
 use crate::queue::{first, keep_live, later, push_deal, remove, stays_ordered, total_of};
 use crate::tally::Tally;
 use price_core::{NoMemory, Price};
@@ -310,6 +311,18 @@ impl Window {
         ensures { result ≡ true → AreNear reference self.now.deals }
     {
         self.bounds.are_near(reference)
+    }
+
+    /// From when on, at a moment or after it, the mean of those deals that are then less than five minutes old may be at least one
+    /// per cent away from a reference price, where no deal is added (LULD Plan, Section V); both in nanoseconds of the day.
+    /// It looks at a few of the first deals.
+    pub fn moves_from(&self, from: u64, reference: Price) -> u64
+        ensures near { (u : ℕ) → from ≤ u → u < result → mean_has_moved reference (live u self.now.deals) ≡ false }
+    {
+        if !self.is_ordered {
+            return from;
+        }
+        moves_from(&self.items, self.tally(), from, reference)
     }
 
     /// The same of these deals and one more that are less than five minutes old.

@@ -9,5 +9,5 @@ returns c = λ inside.
       settled = still.settled;
       waits = still.waits;
       within = c.earlier.ensures.first;
-      prices = λ step tick le before. c.prices_after.ensures still.rested still.keeps step tick le (omega (arith, before, c.earlier.ensures.second));
+      prices = λ step tick le before. c.prices_from.ensures still.rested step tick le (omega (arith, before, c.earlier.ensures.second));
     }

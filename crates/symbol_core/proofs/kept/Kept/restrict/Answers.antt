@@ -1,6 +1,5 @@
-use Rattle.std.proofs.Common.{Bool, List, [], ◌∷◌, ap, ◌∙◌}
+use Rattle.std.proofs.Common.{Bool, [], ◌∷◌, ap, ◌∙◌}
 use Rattle.std.specs.Prelude.{if◌then◌else◌}
-use Rattle.wire_out.specs.declared.message.Message.{Message}
 use Rattle.wire_out.specs.declared.message.Message.TheVariants as out
 use Rattle.wire_out.specs.declared.message.ShortKind.TheVariants.{Triggered}
 use Rattle.rulebook.specs.Rules as rules

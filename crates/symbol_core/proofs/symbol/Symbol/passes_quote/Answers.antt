@@ -42,5 +42,5 @@ returns-in-Some-clause-due c =
     let yes = c.if-stays_settled.true in
     let settled = by.settled yes (settled-market k deals due c.args.market.now is (by.listed yes) same) in
     subst (λ (held : Held). IsDue (Some c.since.result) (quoted held (moment_of x) quote).kept (quoted held (moment_of x) quote).deals) c.self.view_is
-    (subst (λ (d : Due). IsDue (Some d) (with_quote k (Some quote)) (live (moment_of x) deals)) (sym (c.since.ensures ∙ (λ i. record due { from = c.moment-in-Some.ensures i })))
-    (quoted-due k deals due (moment_of x) quote c.args.market.now is from same settled))
+    (subst (λ (d : Due). IsDue (Some d) (with_quote k quote) (live (moment_of x) deals)) (sym (c.since.ensures ∙ (λ i. record due { from = c.moment-in-Some.ensures i })))
+    (quoted-due k deals due (moment_of x) quote c.args.market.now is from same (by.run yes) settled))
