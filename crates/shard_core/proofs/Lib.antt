@@ -13,3 +13,4 @@ pub mod Taking
 pub mod WorkedJobs
 pub mod OneProof
 pub mod Sent
+pub mod PieceByPiece

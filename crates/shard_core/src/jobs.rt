@@ -137,8 +137,11 @@ fn work_beside<Rt: Threads + Sync, G: Gate>(
     take_back(done, parts, told)
 }
 
-/// Works each of several parts: a single one here, and several ones by as many workers, each of which passes the gate before
-/// it works a part.
+/// The fewest records that several workers take. Fewer are done here sooner than threads begin.
+const FEWEST_BESIDE: usize = 1_024;
+
+/// Works each of several parts: a single one here, as all of them where the records are few, and else several ones by as many
+/// workers, each of which passes the gate before it works a part.
 pub fn work_parts<Rt: Threads + Sync, G: Gate>(
     rt: &Rt,
     gate: &G,
@@ -159,7 +162,7 @@ pub fn work_parts<Rt: Threads + Sync, G: Gate>(
     ensures few { AreFew parts.new }
 {
     let alloc = *said.allocator();
-    if parts.len() == 1 {
+    if parts.len() == 1 || xs.len() < FEWEST_BESIDE {
         work_all(alloc, parts, xs, turns, said, told)
     } else {
         work_beside(rt, gate, alloc, parts, xs, turns, told)

@@ -7,6 +7,7 @@ mod job;
 mod jobs;
 mod order;
 mod part;
+mod pieces;
 mod ranges;
 mod shards;
 mod tagged;

@@ -1,7 +1,7 @@
 // Messages of several parts in one order.
-ghost use Rattle.std.specs.Prelude.{◌≡◌, ℕ, ◌++◌, ◌∷◌, map, flat_map, IfOk, OnOk, OnErr};
+ghost use Rattle.std.specs.Prelude.{◌≡◌, ℕ, ◌+◌, ◌≤◌, ◌++◌, ◌∷◌, map, flat_map, length, IfOk, OnOk, OnErr, vec_len, vec_capacity};
 ghost use Rattle.std.specs.List.Sorted.{IsNonDecreasingBy, IsPermutation};
-ghost use Rattle.shard_core.specs.Merged.{of_input, merged, AreOfFirst};
+ghost use Rattle.shard_core.specs.Merged.{of_input, merged, further, AreOfFirst, GoesOn};
 
 use crate::tagged::Tagged;
 use price_core::NoMemory;
@@ -46,17 +46,42 @@ fn in_order(
     Ok(all)
 }
 
+/// Appends messages to a list that has room for them, each with a place that lies so many further on.
+fn push_further(messages: &[Tagged], first: u32, out: &mut Vec<Tagged>)
+    requires { vec_len out.old + length messages.now ≤ vec_capacity out.old }
+    ensures items { out.new.items ≡ out.old.items ++ further first messages.now }
+{
+    for message in messages {
+        out.push_reserved(Tagged {
+            input: first.saturating_add(message.input),
+            stamped: message.stamped,
+        });
+    }
+}
+
+/// Appends messages, each with a place that lies so many further on. An error leaves the list as it was.
+fn append_further(messages: &[Tagged], first: u32, out: &mut Vec<Tagged>) -> Result<(), NoMemory>
+    ensures items { OnOk result (out.new.items ≡ out.old.items ++ further first messages.now) }
+    ensures err { OnErr result (out.new.items ≡ out.old.items) }
+{
+    out.reserve(messages.len())?;
+    push_further(messages, first, out);
+    Ok(())
+}
+
 /// Appends the messages of the market and of each part, input by input: for each input in order those of the market, and
-/// then those of each part, in order of parts. An error leaves the list as it was.
+/// then those of each part, in order of parts. The input of the place 0 comes out with the first place. An error leaves the
+/// list as it was.
 pub fn merge(
     market: &[Tagged],
     parts: &[Vec<Tagged>],
+    first: u32,
     out: &mut Vec<Tagged>,
 ) -> Result<(), NoMemory>
-    ensures merged { OnOk result ((inputs : ℕ) → AreOfFirst inputs (market.now ∷ map (λ part. part.items) parts.now) → out.new.items ≡ out.old.items ++ merged inputs (market.now ∷ map (λ part. part.items) parts.now)) }
+    ensures merged { OnOk result ((inputs : ℕ) → AreOfFirst inputs (market.now ∷ map (λ part. part.items) parts.now) → out.new.items ≡ out.old.items ++ further first (merged inputs (market.now ∷ map (λ part. part.items) parts.now))) }
+    ensures behind { OnOk result (GoesOn out.old.items out.new.items) }
     ensures err { OnErr result (out.new.items ≡ out.old.items) }
 {
     let all = in_order(*out.allocator(), market, parts)?;
-    out.extend_from_slice(&all)?;
-    Ok(())
+    append_further(&all, first, out)
 }

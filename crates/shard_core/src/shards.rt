@@ -1,12 +1,14 @@
-ghost use Rattle.std.specs.Prelude.{◌≡◌, ℕ, ◌<◌, ◌≤◌, ◌++◌, [], true, List, IfOk, OnOk, OnErr, is_ok, length};
+ghost use Rattle.std.specs.Prelude.{◌≡◌, ℕ, ◌+◌, ◌<◌, ◌≤◌, ◌++◌, [], true, List, IfOk, OnOk, OnErr, is_ok, length};
 ghost use Rattle.wire_in.specs.declared.record.Record.{Record};
 ghost use Rattle.rulebook.specs.Admission.{most_names};
-ghost use Rattle.shard_core.specs.Block.{AreAdmissible, Represents, followed, given};
+ghost use Rattle.shard_core.specs.Block.{AreAdmissible, Represents, followed, given, given_from};
+ghost use Rattle.shard_core.specs.Merged.{GoesOn};
 ghost use Rattle.shard_core.specs.Turns.{AreEmpty};
 
 use crate::anew::{Counts, count, even_out};
 use crate::jobs::work_parts;
 use crate::order::merge;
+use crate::pieces::pieces;
 use crate::tagged::Tagged;
 use crate::turns::{Turn, is_begun, lead_all};
 use market_core::{Lead, Section};
@@ -18,9 +20,15 @@ use wire_in::Record;
 use wire_out::Stamped;
 use yard_core::Gate;
 
+/// The most records of a piece that a single part takes: its notes and messages stay in the nearest cache then.
+const PIECE_OF_ONE: usize = 256;
+
+/// The most records of a piece that several parts take. Threads begin anew for each piece, and ranges are cut anew before it.
+const PIECE_OF_SEVERAL: usize = 16_384;
+
 /// One market in parts: the market's part, and sections of symbols whose ranges of ids lie one behind the other. New names
-/// belong to the last part. Between blocks the ranges are cut anew where their loads are uneven. The room that a block needs
-/// is kept for the next one.
+/// belong to the last part. A block is taken piece by piece, and between pieces the ranges are cut anew where their loads are
+/// uneven. The room that a piece needs is kept for the next one.
 #[derive(Drop)]
 pub struct Shards {
     lead: Lead,
@@ -106,23 +114,34 @@ impl Shards {
         self.working
     }
 
-    /// Appends what one market gives for records that are admissible, one after the other, after those before: each
-    /// message with the place of its record in the block, from 0. At most 65,536 records, and no block before has failed.
-    /// An error leaves the list as it was, and nothing works from then on. Records before any day, which admission refuses,
-    /// are passed over.
-    pub fn block<Rt: Threads + Sync, G: Gate>(
+    /// How many records a piece of a block has at most.
+    pub(crate) fn most_of_piece(&self) -> usize
+        ensures { (0 < result) × (result ≤ 65536) }
+    {
+        if self.parts.len() == 1 {
+            PIECE_OF_ONE
+        } else {
+            PIECE_OF_SEVERAL
+        }
+    }
+
+    /// Appends what one market gives for the records of a piece, each message with the place of its record, from that of the
+    /// first one on.
+    pub(crate) fn piece<Rt: Threads + Sync, G: Gate>(
         &mut self,
         rt: &Rt,
         xs: &[Record],
+        first: u32,
         gate: &G,
         out: &mut Vec<Tagged>,
     ) -> Result<(), NoMemory>
         requires working { self.old.working ≡ true }
-        requires few { length xs.now ≤ 65536 }
+        requires few { first + length xs.now ≤ 65536 }
         ensures given { (capacity : ℕ) (applied : List Record) → Represents self.old applied → AreAdmissible capacity applied xs.now
-            → OnOk result (out.new.items ≡ out.old.items ++ given applied xs.now) }
+            → OnOk result (out.new.items ≡ out.old.items ++ given_from first applied xs.now) }
         ensures stands { (capacity : ℕ) (applied : List Record) → Represents self.old applied → AreAdmissible capacity applied xs.now
             → OnOk result (Represents self.new (followed applied xs.now)) }
+        ensures behind { OnOk result (GoesOn out.old.items out.new.items) }
         ensures err { OnErr result (out.new.items ≡ out.old.items) }
         ensures working { self.new.working ≡ is_ok result }
         ensures parts { length self.new.parts ≡ length self.old.parts }
@@ -149,8 +168,37 @@ impl Shards {
             &mut self.said,
             &mut self.told,
         )?;
-        merge(&self.market, &self.told, out)?;
+        merge(&self.market, &self.told, first, out)?;
         self.working = true;
+        Ok(())
+    }
+
+    /// Appends what one market gives for records that are admissible, one after the other, after those before: each
+    /// message with the place of its record in the block, from 0. At most 65,536 records, and no block before has failed.
+    /// An error leaves the list as it was, and nothing works from then on. Records before any day, which admission refuses,
+    /// are passed over.
+    pub fn block<Rt: Threads + Sync, G: Gate>(
+        &mut self,
+        rt: &Rt,
+        xs: &[Record],
+        gate: &G,
+        out: &mut Vec<Tagged>,
+    ) -> Result<(), NoMemory>
+        requires working { self.old.working ≡ true }
+        requires few { length xs.now ≤ 65536 }
+        ensures given { (capacity : ℕ) (applied : List Record) → Represents self.old applied → AreAdmissible capacity applied xs.now
+            → OnOk result (out.new.items ≡ out.old.items ++ given applied xs.now) }
+        ensures stands { (capacity : ℕ) (applied : List Record) → Represents self.old applied → AreAdmissible capacity applied xs.now
+            → OnOk result (Represents self.new (followed applied xs.now)) }
+        ensures err { OnErr result (out.new.items ≡ out.old.items) }
+        ensures working { self.new.working ≡ is_ok result }
+        ensures parts { length self.new.parts ≡ length self.old.parts }
+    {
+        let before = out.len();
+        let Ok(()) = pieces(rt, self, xs, gate, out) else {
+            out.truncate(before);
+            return Err(NoMemory);
+        };
         Ok(())
     }
 }

@@ -51,10 +51,10 @@ fn messages_are_merged_input_by_input_and_the_market_comes_first(
     let second = vec![in rt.alloc(); tagged(0, 2), tagged(1, 3)]?;
     let parts = vec![in rt.alloc(); first, second]?;
     let mut out = vec![in rt.alloc(); tagged(9, 4)]?;
-    merge(&market, &parts, &mut out)?;
+    merge(&market, &parts, 20, &mut out)?;
     assert!(rt; out.len() == 5 && out[0] == tagged(9, 4));
-    assert!(rt; out[1] == tagged(0, 2) && out[2] == tagged(1, 0));
-    assert!(rt; out[3] == tagged(1, 1) && out[4] == tagged(1, 3));
+    assert!(rt; out[1] == tagged(20, 2) && out[2] == tagged(21, 0));
+    assert!(rt; out[3] == tagged(21, 1) && out[4] == tagged(21, 3));
     Ok(())
 }
 
@@ -347,7 +347,7 @@ fn two_pieces_meet(rt: HostRuntime) -> Result<(), Fail> {
         here: [AtomicBool::new(false), AtomicBool::new(false)],
         met: [AtomicBool::new(false), AtomicBool::new(false)],
     };
-    let xs = session(rt.alloc(), 8, 400)?;
+    let xs = session(rt.alloc(), 8, 2_000)?;
     let mut shards = Shards::new(rt.alloc(), 2)?;
     let mut out = Vec::new(rt.alloc());
     assert!(rt; shards.working() && xs.len() <= 65_536);

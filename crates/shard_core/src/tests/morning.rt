@@ -1,4 +1,4 @@
-// A morning of many stocks, in one block.
+// A day of many stocks until the afternoon, in one block of several pieces.
 use super::{at, day, expect_blocks, opening};
 use price_core::{Index, Leverage, Price, Tier};
 use session_core::Moment;
@@ -75,7 +75,7 @@ fn second_of(second: u64, xs: &mut Vec<Record>) -> Result<(), Fail> {
     Ok(())
 }
 
-/// A day, 500 listings and opening trades, a quote and a trade in each, and a clock each second from 09:30:00 to 12:00:00.
+/// A day, 500 listings and opening trades, a quote and a trade in each, and a clock each second from 09:30:00 to 13:56:40.
 fn morning(alloc: Global) -> Result<Vec<Record>, Fail> {
     let mut xs = Vec::new(alloc);
     xs.extend_from_slice(&[day(3)?])?;
@@ -87,7 +87,7 @@ fn morning(alloc: Global) -> Result<Vec<Record>, Fail> {
     for stock in 0..STOCKS {
         xs.extend_from_slice(&[opening(open, stock)?])?;
     }
-    for second in 1..=9_000u64 {
+    for second in 1..=16_000u64 {
         second_of(second, &mut xs)?;
     }
     Ok(xs)

@@ -7,13 +7,14 @@ use Rattle.market_core.specs.Sections.{SectionState}
 use Rattle.shard_core.specs.declared.tagged.Tagged.{Tagged}
 use Rattle.shard_core.specs.declared.turns.Turn.{Turn}
 use Rattle.shard_core.specs.Block.{ShardsState, followed, market_of}
-use Rattle.shard_core.specs.Merged.{AreOfFirst, merged}
+use Rattle.shard_core.specs.Merged.{AreOfFirst, further, merged}
 use Rattle.shard_core.specs.Turns.{PartsTell, noted}
 use Rattle.shard_core.proofs.Gathered.{answered, stocks_of}
 use Rattle.shard_core.proofs.Markets.{market_with}
 use Rattle.shard_core.proofs.Opening.{begins}
+use Rattle.shard_core.proofs.PieceByPiece.{further-given, none_further}
 use Rattle.shard_core.proofs.Working.{length-map_all}
-use Rattle.shard_core.proofs.shards.Shards.block.Goals as goal
+use Rattle.shard_core.proofs.shards.Shards.piece.Goals as goal
 
 pub returns-then-not-is_begun-clause-given : goal.returns-then-not-is_begun-clause-given
 returns-then-not-is_begun-clause-given g c = λ capacity applied stands lawful.
@@ -24,6 +25,9 @@ pub returns-then-not-is_begun-clause-stands : goal.returns-then-not-is_begun-cla
 returns-then-not-is_begun-clause-stands g c = λ capacity applied stands lawful.
     let now = subst (λ (s : ShardsState). Represents (market_of s) applied) (sym c.self.view_is) stands in
     absurd (true≢false (sym (begins capacity applied c.args.xs.now c.self.inside.lead (stocks_of c.self.inside.parts.items) now lawful) ∙ sym c.is_begun.ensures ∙ c.if-not-is_begun.true))
+
+pub returns-then-not-is_begun-clause-behind : goal.returns-then-not-is_begun-clause-behind
+returns-then-not-is_begun-clause-behind g c = none_further c.args.out.now.items
 
 pub returns-clause-given : goal.returns-clause-given
 returns-clause-given g c = λ capacity applied stands lawful.
@@ -47,7 +51,8 @@ returns-clause-given g c = λ capacity applied stands lawful.
     let lists : (c.deref-4.result.now ∷ map (λ (list : Vec Tagged Global). list.items) c.deref-5.result.now) ≡ market ∷ told
     = λ i. c.deref-4.ensures.value i ∷ map (λ (list : Vec Tagged Global). list.items) ((c.deref-5.ensures.value ∙ with_items_is c.self.inside.told c.work_parts.new.told many) i) in
     (c.in_ok-merge.ensures).merged (length xs) (subst (AreOfFirst (length xs)) (sym lists) all.first)
-    ∙ ap (λ (ls : List (List Tagged)). c.args.out.now.items ++ merged (length xs) ls) lists ∙ ap (λ (ms : List Tagged). c.args.out.now.items ++ ms) all.gives
+    ∙ ap (λ (ls : List (List Tagged)). c.args.out.now.items ++ further c.args.first (merged (length xs) ls)) lists ∙ ap (λ (ms : List Tagged). c.args.out.now.items ++ further c.args.first ms) all.gives
+    ∙ ap (λ (ms : List Tagged). c.args.out.now.items ++ ms) (further-given c.args.first applied xs c.requires.few)
 
 pub returns-clause-stands : goal.returns-clause-stands
 returns-clause-stands g c = λ capacity applied stands lawful.
