@@ -1,5 +1,5 @@
 // A market that evaluates a block of records ahead, and hands out their messages record by record.
-ghost use Rattle.std.specs.Prelude.{◌≡◌, ◌+◌, ◌<◌, ◌≤◌, ◌++◌, ◌∷◌, ℕ, [], List, IfOk, OnOk, length, map, vec_len, vec_capacity};
+ghost use Rattle.std.specs.Prelude.{◌≡◌, ◌==◌, ◌+◌, ◌<◌, ◌≤◌, ◌++◌, ◌∷◌, ℕ, [], false, List, IfOk, OnOk, length, map, vec_len, vec_capacity};
 ghost use Rattle.wire_in.specs.declared.record.Record.{Record};
 ghost use Rattle.rulebook.specs.Admission.{most_names};
 ghost use Rattle.rulebook.specs.Book.{newest_messages};
@@ -87,6 +87,16 @@ impl Ahead {
         ensures bound { result ≤ most_names }
     {
         self.shards.names()
+    }
+
+    /// Whether it has one part, which it never has.
+    pub(crate) fn is_alone(&self) -> bool
+        ensures exact { result ≡ (length self.now.shards.parts == 1) }
+        ensures never { result ≡ false }
+    {
+        // For the proof: it has the invariant, that there are several parts.
+        let _ = &self.shards;
+        false
     }
 
     /// Evaluates a block of records ahead, when those of the block before were handed out. It fails where memory is wanting,

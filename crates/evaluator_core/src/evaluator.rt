@@ -1,4 +1,4 @@
-ghost use Rattle.std.specs.Prelude.{◌≡◌, ◌+◌, ◌<◌, ◌≤◌, ◌++◌, ◌∷◌, ℕ, [], false, List, None, IfOk, OnOk, IsOk, length, vec_len, vec_capacity};
+ghost use Rattle.std.specs.Prelude.{◌≡◌, ◌==◌, ◌+◌, ◌<◌, ◌≤◌, ◌++◌, ◌∷◌, ℕ, [], false, true, List, None, IfOk, OnOk, IsOk, length, vec_len, vec_capacity};
 ghost use Rattle.wire_in.specs.declared.record.Record.{Record};
 ghost use Rattle.wire_in.specs.Records.{name_of};
 ghost use Rattle.rulebook.specs.Admission.{most_names, verdict};
@@ -48,6 +48,17 @@ impl Evaluator {
         match self {
             Evaluator::One(market) => market.names(),
             Evaluator::Many(block) => block.names(),
+        }
+    }
+
+    /// Whether there is one worker, which evaluates nothing ahead.
+    pub fn is_alone(&self) -> bool
+        ensures exact { result ≡ (workers_of self.now == 1) }
+        ensures ahead { result ≡ true → (xs : List Record) → IsAhead self.now xs }
+    {
+        match self {
+            Evaluator::One(_) => true,
+            Evaluator::Many(block) => block.is_alone(),
         }
     }
 

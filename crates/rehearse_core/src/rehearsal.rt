@@ -25,11 +25,8 @@ use stream_core::answer_of;
 use wire_in::Record;
 use yard_core::Gate;
 
-/// How many accepted records one worker evaluates together.
-const FEW: usize = 64;
-
-/// How many accepted records several workers evaluate together.
-const MANY: usize = 65_536;
+/// How many accepted records several workers evaluate together: they stay in the cache.
+const MANY: usize = 16_384;
 
 /// The accepted ones of the records so far, what messages they gave, and those that wait to be evaluated, the oldest first.
 /// So many are evaluated together.
@@ -41,11 +38,11 @@ pub struct Rehearsal {
     pub most: usize,
 }
 
-/// How many accepted records so many workers evaluate together.
+/// How many accepted records so many workers evaluate together. Of one worker none waits.
 fn block_of(workers: u32) -> usize
     ensures { (1 ≤ result) × (result ≤ 65536) }
 {
-    if workers == 1 { FEW } else { MANY }
+    if workers == 1 { 1 } else { MANY }
 }
 
 /// Adds a record to a list that has room.
@@ -58,6 +55,7 @@ fn put(block: &mut Vec<Record>, x: &Record)
 }
 
 /// Evaluates the oldest of the records that wait, and counts its messages.
+#[inline(always)]
 fn evaluate(engine: &mut Engine, tally: &mut Tally, x: &Record) -> Result<(), NoMemory>
     requires sound { IsSound engine.old tally.old }
     requires few { engine.old.evaluated < 2 ^ 42 }
@@ -126,8 +124,8 @@ impl Rehearsal {
         Ok(())
     }
 
-    /// Admits a record that is accepted. It waits, and all that wait are evaluated where they are as many as are evaluated
-    /// together.
+    /// Admits a record that is accepted. One worker evaluates it at once. For several it waits, and all that wait are evaluated
+    /// where they are as many as are evaluated together.
     fn accept<Rt: Threads + Sync, G: Gate>(
         &mut self,
         rt: &Rt,
@@ -145,6 +143,9 @@ impl Rehearsal {
             → verdict capacity (accepted_by was) x.now ≡ None → OnOk result (Rehearses all left self.new.block.items [] self.new.engine self.new.tally) }
     {
         self.engine.admit(x);
+        if self.block.is_empty() && self.engine.evaluator.is_alone() {
+            return evaluate(&mut self.engine, &mut self.tally, x);
+        }
         put(&mut self.block, x);
         if self.block.len() < self.most {
             return Ok(());

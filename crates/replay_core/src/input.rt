@@ -13,7 +13,7 @@ ghost use Rattle.replay_core.specs.InternalSession.{IsFresh};
 ghost use Rattle.replay_core.specs.Replayed.{replay_text, replay_start, Answered, LeavesDisk, Replayed};
 
 use crate::keeper::NoKeeper;
-use engine_core::{Engine, ROUND_MAX, Round, Session, serve_input};
+use engine_core::{Engine, Round, Session, serve_input};
 use host_core::{Fault, Host, Status};
 use price_core::NoMemory;
 use std::alloc::Global;
@@ -27,7 +27,10 @@ const BYTES_MAX: u64 = 1_099_511_627_776;
 /// How many frames one worker judges before it answers them.
 const FRAMES: usize = 64;
 
-/// The most bytes that are read at once for several workers: what a read gave, they evaluate together.
+/// How many frames are judged before several workers evaluate their records together: what is kept of them stays in the cache.
+const MANY_FRAMES: usize = 16_384;
+
+/// The most bytes that are read at once for several workers, in which as many frames have room.
 const BLOCK: usize = 4_194_304;
 
 /// What a replay is told.
@@ -41,9 +44,9 @@ pub struct ReplayOptions {
 
 /// How many frames are judged before so many workers evaluate and answer them.
 fn frames_of(workers: u32) -> usize
-    ensures { (1 ≤ result) × (result ≤ ROUND_MAX) }
+    ensures { (1 ≤ result) × (result ≤ 65536) }
 {
-    if workers == 1 { FRAMES } else { ROUND_MAX }
+    if workers == 1 { FRAMES } else { MANY_FRAMES }
 }
 
 /// The most bytes that are read at once for so many workers.
