@@ -22,8 +22,14 @@ begins holds start input session now cutter round fresh engine workers idle held
   there = omega arith;
   serves = record {
     answered = [];
-    judges = record { cutter = ap pending cutter; waits = record { waiting = []; whole = refl; number_is = fresh; outcomes_are = round; engine_is = engine; workers = workers }; idle = idle };
+    judges = record {
+      cutter = ap pending cutter;
+      answers = record {
+        waits = record { waiting = []; whole = refl; number_is = fresh; outcomes_are = round };
+        evaluates = record { engine_is = engine; workers = workers; ahead = idle };
+        pending_is = expects_same _ _ (sym (expected-none start)) expects;
+      };
+    };
     held = held;
-    pending_is = expects_same _ _ (sym (expected-none start)) expects;
   };
 }

@@ -15,9 +15,10 @@ use Rattle.engine_core.specs.Sessions.{Start, Answered}
 pub ends : {holds : List Record → Outside → Type 0} {start : Start} {input : List ℕ} {read : ℕ} {now : Outside} (most : ℕ) (status : Status) → read ≤ most → Answered holds start input read now
     → (read ≡ length input) ⊎ (read ≡ most) → status ≡ cond (nat_le most read) SessionFull (cond (length (rest_of (take read input)) == 0) Done Truncated)
     → (status ≡ end_of most input) × Answered holds start input (min most (length input)) now
-ends {holds} {start} {input} {read} {now} most status le answered either is = (by either, subst (λ (k : ℕ). Answered holds start input k now) (omega (arith, le, either, answered.there)) answered) where
-  by : (read ≡ length input) ⊎ (read ≡ most) → status ≡ end_of most input
-  by (inl all) =
-      let whole : take read input ≡ input = take_all read input (omega (arith, all)) in
-      is ∙ (λ i. cond (nat_le most (all i)) SessionFull (cond (length (rest_of (whole i)) == 0) Done Truncated))
-  by (inr full) = grind (arith, nat_tests, is, full, answered.there)
+ends {holds} {start} {input} {read} {now} most status le answered either is = (
+  elim either as (λ _. status ≡ end_of most input) [
+    | inl all ↦ is ∙ (λ i. cond (nat_le most (all i)) SessionFull (cond (length (rest_of (take_all read input (omega (arith, all)) i)) == 0) Done Truncated))
+    | inr full ↦ grind (arith, nat_tests, is, full, answered.there)
+  ],
+  subst (λ (k : ℕ). Answered holds start input k now) (omega (arith, le, either, answered.there)) answered,
+)

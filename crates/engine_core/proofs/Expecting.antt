@@ -4,7 +4,7 @@ use Rattle.std.specs.Prelude.{reverse}
 use Rattle.std.specs.Io.KnownBytes.{append_known}
 use Rattle.std.proofs.lemmas.List.{append-nil, take_at, take-append-drop}
 use Rattle.std.proofs.Math.Nat.{add_comm}
-use Rattle.host_core.specs.Outside.{Outside, Agrees, MayLeave}
+use Rattle.host_core.specs.Outside.{Outside, Agrees}
 use Rattle.wire_in.specs.declared.record.Record.{Record}
 use Rattle.wire_in.specs.Cutting.{bodies_of, rest_of}
 use Rattle.wire_in.proofs.Cuts.{bodies_of-append}
@@ -13,15 +13,14 @@ use Rattle.rulebook.specs.Sent.{spelled, replies, reply, judged, with_record, ac
 use Rattle.rulebook.proofs.Sending.{spelled-append, replies-append, accepted_of-append, unacknowledged-append}
 use Rattle.journal_core.specs.Layout.{records_of}
 use Rattle.stream_core.specs.Pending.{SendsPrefix}
-use Rattle.engine_core.specs.Sessions.{Start, held_after, expected, with_acknowledgements, IsSafe, Starved}
+use Rattle.engine_core.specs.Sessions.{Start, held_after, expected, with_acknowledgements, IsSafe}
 use Rattle.engine_core.specs.Rounds.{outcomes_of, records_in}
 use Rattle.engine_core.specs.Serving.{IsKeeping}
 use Rattle.engine_core.proofs.Rounds.{batch_of}
-use Rattle.stream_core.proofs.Sending.{prefix_of_longer}
 
 with_acknowledgements-append : (acknowledges : Bool) (a b : List Frame) → with_acknowledgements acknowledges (a ++ b) ≡ with_acknowledgements acknowledges a ++ with_acknowledgements acknowledges b
-with_acknowledgements-append true a b = refl
-with_acknowledgements-append false a b = unacknowledged-append a b
+with_acknowledgements-append acknowledges a b =
+    elim acknowledges as (λ v. with_acknowledgements v (a ++ b) ≡ with_acknowledgements v a ++ with_acknowledgements v b) [ true ↦ refl | false ↦ unacknowledged-append a b ]
 
 -- what further frames add
 abbrev pub added : Start → List (List ℕ) → List (List ℕ) → List ℕ
@@ -110,36 +109,8 @@ module _ (recovers : List Record → List ℕ → Type 0) (start : Start) where
   safe_sends bodies now image bytes recovered stop =
       rw append-nil at (safe_of recovers start bodies [] image bytes stop.sent stop.rest recovered stop.known stop.prefix)
 
--- where memory was short among some frames, it was so among more
-pub starved_further : {start : Start} {front all : List ℕ} → Begins front all → {now : Outside} → Starved start (bodies_of front) now → Starved start (bodies_of all) now
-starved_further {front = front} begins starved =
-    let more = bodies_of (rest_of front ++ begins.more) in
-    record {
-      answered = starved.answered;
-      waiting = starved.waiting ++ more;
-      frames = ap bodies_of (sym begins.whole) ∙ bodies_of-append front begins.more ∙ ap (λ (b : List (List ℕ)). b ++ more) starved.frames
-          ∙ append_assoc starved.answered starved.waiting more;
-      short = λ one.
-          let next = starved.short one in
-          record { body = next.body; later = next.later ++ more; first = ap (λ (b : List (List ℕ)). b ++ more) next.first; x = next.x; accepted = next.accepted; takes = next.takes };
-      sent = starved.sent;
-    }
-
 -- before the first frame
 pub expected-none : (start : Start) → expected start [] ≡ start.opening
 unfolding expected
-expected-none start = ap (λ (frames : List Frame). start.opening ++ spelled frames) (no_frames start.acknowledges) ∙ append-nil start.opening
-  where
-    no_frames : (acknowledges : Bool) → with_acknowledgements acknowledges [] ≡ []
-    no_frames true = refl
-    no_frames false = refl
-
--- a prefix of what is expected for some frames is one of what is expected for more
-pub safe_prefix : (start : Start) (bodies : List (List ℕ)) (now : Outside) (image bytes : List ℕ) (recovers : List Record → List ℕ → Type 0)
-    → ((records : List Record) (image : List ℕ) → recovers records image → MayLeave now image) → IsSafe recovers start bodies image bytes
-    → SendsPrefix start.sent (expected start bodies) now image bytes
-safe_prefix start bodies now image bytes recovers left safe =
-    let first = take safe.count bodies in
-    let was : MayLeave now image = left (held_after start first) image safe.recovered in
-    prefix_of_longer (expected start first) _ _ (sym (expected-more start first (drop safe.count bodies)) ∙ ap (expected start) (take-append-drop safe.count bodies)) image bytes
-    was (record { was = was; sent = safe.since; rest = safe.unsent; known = safe.sent; prefix = safe.prefix })
+expected-none start =
+    ap (λ (frames : List Frame). start.opening ++ spelled frames) (elim start.acknowledges as (λ v. with_acknowledgements v [] ≡ []) [ true ↦ refl | false ↦ refl ]) ∙ append-nil start.opening

@@ -5,6 +5,7 @@ pub mod Answering
 pub mod Keeping
 pub mod Unwritten
 pub mod Reading
+pub mod Running
 pub mod Asking
 pub mod Ending
 pub mod Statuses

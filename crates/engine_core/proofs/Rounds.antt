@@ -1,11 +1,8 @@
 -- The outcomes of a round, and the records that it accepts.
 use Rattle.std.proofs.Common.{◌≡◌, ℕ, ◌≤◌, List, [], ◌∷◌, ◌++◌, length, refl, sym, ap, ◌∙◌, append_assoc, arith}
-use Rattle.std.specs.Prelude.{Option, Some, None, Result, Ok, Err, IfOk, All}
+use Rattle.std.specs.Prelude.{Some, None, Ok, Err}
 use Rattle.std.proofs.lemmas.List.{reverse-append}
-use Rattle.std.proofs.lemmas.List.Elements.{All-nil, All-cons}
 use Rattle.wire_in.specs.declared.record.Record.{Record}
-use Rattle.wire_in.specs.declared.record.Refusal.{Refusal}
-use Rattle.wire_in.specs.Spelling.{InRange}
 use Rattle.wire_in.specs.Reading.{record_of}
 use Rattle.wire_in.specs.Cutting.{bodies_of, rest_of}
 use Rattle.wire_in.proofs.Cuts.{bodies_of-append, rest_of-append, cut_framed}
@@ -37,16 +34,12 @@ batch_of capacity held (body ∷ later) =
     one_record held (judged capacity held body) (outcomes_of capacity next later) ∙ batch_of capacity next later
 
 -- what was judged may follow
-admissible_passed : (capacity : ℕ) (held : List Record) (x : Record) (v : Option Refusal) → verdict capacity held x ≡ v → IsAdmissible capacity held (record_or_refusal x v)
-admissible_passed capacity held x None is = is
-admissible_passed capacity held x (Some refusal) is = tt
-
-admissible_admitted : (capacity : ℕ) (held : List Record) (r : Result Record Refusal) → IsAdmissible capacity held (admitted capacity held r)
-admissible_admitted capacity held (Ok x) = admissible_passed capacity held x (verdict capacity held x) refl
-admissible_admitted capacity held (Err refusal) = tt
-
 pub admissible_judged : (capacity : ℕ) (held : List Record) (body : List ℕ) → IsAdmissible capacity held (judged capacity held body)
-admissible_judged capacity held body = admissible_admitted capacity held (record_of body)
+admissible_judged capacity held body =
+    elim (record_of body) as (λ r. IsAdmissible capacity held (admitted capacity held r)) [
+      | Ok x ↦ elim (verdict capacity held x) as (λ v. verdict capacity held x ≡ v → IsAdmissible capacity held (record_or_refusal x v)) [ None ↦ λ is. is | Some refusal ↦ λ is. tt ] refl
+      | Err refusal ↦ tt
+    ]
 
 one_admissible : (capacity : ℕ) (held : List Record) (outcome : Outcome) (later : List Outcome) → IsAdmissible capacity held outcome → AreAdmissible capacity (with_record held outcome) (records_in later)
     → AreAdmissible capacity held (records_in (outcome ∷ later))
@@ -76,10 +69,6 @@ pub few_records : (outcomes : List Outcome) → length (records_in outcomes) ≤
 few_records [] = omega arith
 few_records (Ok x ∷ later) = let le = few_records later in omega (arith, le)
 few_records (Err refusal ∷ later) = let le = few_records later in omega (arith, le)
-
-pub ranges_one : (outcome : Outcome) → IfOk outcome InRange → All InRange (records_in (outcome ∷ []))
-ranges_one (Ok x) range = All-cons InRange x [] range (All-nil InRange)
-ranges_one (Err refusal) range = All-nil InRange
 
 -- a whole frame behind whole frames
 pub whole_on : (read taken body : List ℕ) → rest_of read ≡ [] → framed body ≡ taken → (bodies_of (read ++ taken) ≡ bodies_of read ++ body ∷ []) × (rest_of (read ++ taken) ≡ [])

@@ -38,9 +38,9 @@ none_before start {front} {all} begins none =
     before.1 ∙ ap (λ (r : List Record). r ++ start.held) empty
 
 -- nor is one of the round
-pub no_records : {holds : List Record → Outside → Type 0} {start : Start} {front all : List ℕ} {session : Session} {now : Outside} → Serves holds start front session now
-    → Begins front all → AcceptsNone start (bodies_of all) → records_in session.round.outcomes ≡ []
-no_records {start = start} {session = session} serves begins none =
+pub no_records : {holds : List Record → Outside → Type 0} {start : Start} {read : List ℕ} {session : Session} {now : Outside} → Serves holds start read session now
+    → AcceptsNone start (bodies_of read) → records_in session.round.outcomes ≡ []
+no_records {start = start} {session = session} serves none =
     let answered = accepted_grows start.capacity start.held serves.answered in
-    let same = simp (length-append, length-reverse) at (ap length (kept_is serves ∙ none_before start begins none)) in
+    let same = simp (length-append, length-reverse) at (ap length (kept_is serves ∙ none)) in
     nil_from_length (records_in session.round.outcomes) (omega (arith, same, simp length-append at (ap length answered.1)))

@@ -1,33 +1,32 @@
 -- What a session keeps, and what it represents.
-use Rattle.std.specs.Prelude.{◌≡◌, ℕ, ◌+◌, ◌-◌, ◌*◌, ◌^◌, ◌≤◌, List, ◌++◌, length, take, drop, Some}
-use Rattle.host_core.specs.Outside.{Outside, Agrees, Continues}
+use Rattle.std.specs.Prelude.{◌≡◌, ℕ, ◌+◌, ◌-◌, ◌*◌, ◌^◌, ◌≤◌, List, [], ◌++◌, length, take, drop, Option, Some, Result, Err, OnOk}
+use Rattle.host_core.specs.declared.fault.Fault.{Fault}
+use Rattle.host_core.specs.declared.fault.Fault.TheVariants.{Memory}
+use Rattle.host_core.specs.Outside.{Outside, Agrees, Elapses, Continues}
 use Rattle.wire_in.specs.declared.record.Record.{Record}
 use Rattle.wire_in.specs.Cutting.{pending, bodies_of, rest_of}
 use Rattle.journal_core.specs.Layout.{records_of}
 use Rattle.journal_core.specs.Journal.{Adds}
 use Rattle.market_core.specs.MarketState.{most_messages}
-use Rattle.evaluator_core.specs.Evaluating.{IsIdle}
 use Rattle.engine_core.specs.declared.engine.Engine.{Engine}
 use Rattle.engine_core.specs.declared.session.Session.{Session}
-use Rattle.engine_core.specs.Answering.{Waits}
+use Rattle.engine_core.specs.Answering.{Answers}
 use Rattle.engine_core.specs.EngineState.{IsRoomy}
-use Rattle.stream_core.specs.Pending.{Expects}
 use Rattle.engine_core.specs.Rounds.{Outcome, records_in}
-use Rattle.engine_core.specs.Sessions.{Start, IsSafe, held_after, expected}
+use Rattle.engine_core.specs.Sessions.{Start, IsSafe, Starved, held_after}
+use Rattle.engine_core.specs.Unwritten.{WritesNothing, AcceptsNone}
 
 -- The whole frames of the bytes read were judged, these of them were answered, and the others wait in the session's round;
 -- the rest of the bytes is the frame begun. No record is evaluated ahead.
-pub record Judges (start : Start) (answered : List (List ℕ)) (read : List ℕ) (session : Session) : Type 0 where
+pub record Judges (start : Start) (answered : List (List ℕ)) (read : List ℕ) (sent : Option (List ℕ)) (session : Session) : Type 0 where
   pub cutter : pending session.cutter ≡ rest_of read
-  pub waits : Waits start answered (bodies_of read) session.answered session.round.outcomes session.engine
-  pub idle : IsIdle session.engine.evaluator
+  pub answers : Answers start answered (bodies_of read) session.answered session.round.outcomes [] session.engine session.outbox sent
 
--- and what the answered frames gave is held, and was sent but for what is pending
+-- and what the answered frames gave is held
 pub record Serves (holds : List Record → Outside → Type 0) (start : Start) (read : List ℕ) (session : Session) (now : Outside) : Type 0 where
   pub answered : List (List ℕ)
-  pub judges : Judges start answered read session
+  pub judges : Judges start answered read now.sent session
   pub held : holds (held_after start answered) now
-  pub pending_is : Expects start.sent now.sent session.outbox (expected start answered)
 
 -- so many bytes of the input were read, and their whole frames answered
 pub record Reads (holds : List Record → Outside → Type 0) (start : Start) (input : List ℕ) (count : ℕ) (session : Session) (now : Outside) : Type 0 where
@@ -76,3 +75,13 @@ pub record OnlyAnswers (touches : Outside → Outside → Type 0) (old new : Out
   pub read_faults : new.read_faults ≡ old.read_faults
   pub continues : Continues old new
   pub to_disk : touches old new
+
+-- A run of a session. Where it goes on, these bytes are served, and what recovers records then has recovered them before. Of all
+-- bytes, its stops leave what is safe for them, it writes nothing where no record of them is accepted, and memory may have been
+-- short at one of their frames.
+pub record Runs {T : Type 0} (holds : List Record → Outside → Type 0) (recovers later : List Record → List (List Record) → List ℕ → Type 0) (start : Start) (read all : List ℕ) (result : Result T Fault) (session : Session) (old new : Outside) : Type 0 where
+  pub serves : OnOk result (Serves holds start read session new)
+  pub before : OnOk result ((records : List Record) (pending : List (List Record)) (image : List ℕ) → later records pending image → recovers records pending image)
+  pub moments : Elapses old new (Leaves recovers start (bodies_of all))
+  pub nothing : AcceptsNone start (bodies_of all) → WritesNothing old new
+  pub starved : result ≡ Err Memory → Starved start (bodies_of all) new

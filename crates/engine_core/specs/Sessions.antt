@@ -1,5 +1,5 @@
 -- What a session expects to send, and what a stop of it may leave.
-use Rattle.std.specs.Prelude.{◌≡◌, ℕ, ◌≤◌, Bool, true, false, List, [], ◌∷◌, ◌++◌, length, take, drop, Option, Some, Ok}
+use Rattle.std.specs.Prelude.{◌≡◌, ℕ, ◌≤◌, Bool, true, false, List, ◌∷◌, ◌++◌, length, take, drop, Option, Some, Ok}
 use Rattle.std.specs.Io.KnownBytes.{append_known}
 use Rattle.host_core.specs.Outside.{Outside, Ask, Agrees}
 use Rattle.wire_in.specs.declared.record.Record.{Record}
@@ -7,6 +7,7 @@ use Rattle.wire_in.specs.Cutting.{bodies_of}
 use Rattle.wire_out.specs.declared.message.Frame.{Frame}
 use Rattle.rulebook.specs.Sent.{accepted_of, judged, replies, unacknowledged, spelled}
 use Rattle.market_core.specs.Kinds.{TakesMemory}
+use Rattle.stream_core.specs.Asking as asking
 
 -- What a session begins with: how many workers it has, the capacity of records, the records that are held, the newest first,
 -- whether accepted records are acknowledged, what is sent before the first frame is answered, and what was sent before, where
@@ -68,20 +69,11 @@ pub record Starved (start : Start) (bodies : List (List ℕ)) (now : Outside) : 
   pub short : start.workers ≡ 1 → TakesNext start answered waiting
   pub sent : now.sent ≡ append_known start.sent (expected start answered)
 
--- When a read began, some of the first bytes of the input had been read, and all that is expected for the whole frames
--- among them, no more and no less, had been sent.
-pub record IsAnswered (start : Start) (input : List ℕ) (ask : Ask) : Type 0 where
-  pub count : ℕ
-  pub within : count ≤ length input
-  pub left_is : ask.left ≡ drop count input
-  pub sent_is : Some ask.sent ≡ append_known start.sent (expected start (bodies_of (take count input)))
+-- what is expected for the whole frames of these bytes
+abbrev pub answers_to : Start → List ℕ → List ℕ
+answers_to start read = expected start (bodies_of read)
 
--- each of these reads was so
-abbrev pub AllAnswered : Start → List ℕ → List Ask → Type 0
-AllAnswered start input [] = Unit {0}
-AllAnswered start input (ask ∷ asks) = IsAnswered start input ask × AllAnswered start input asks
-
--- behind the reads from before stand those of the session, and each began when all that was read had been answered
+-- behind the reads from before stand those of the session, and when each began, some of the first bytes of the input had been
+-- read, and all that is expected for the whole frames among them, no more and no less, had been sent
 abbrev pub Prompt : Start → List ℕ → Option (List Ask) → Option (List Ask) → Type 0
-Prompt start input old new = (before : List Ask) (sent : List ℕ) → old ≡ Some before → start.sent ≡ Some sent
-    → (since : List Ask) × (new ≡ Some (before ++ since)) × AllAnswered start input since
+Prompt start = asking.Prompt (answers_to start) start.sent

@@ -38,8 +38,7 @@ fn ending(session: &Session, read: u64, most: u64) -> Status
 }
 
 /// Answers the input up to its end, or up to so many bytes, in rounds of as many frames as the session's takes. It
-/// answers Done,
-/// Truncated or SessionFull, or the fault that ended the session.
+/// answers Done, Truncated or SessionFull, or the fault that ended the session.
 pub fn serve_input<Rt: Threads + Sync, K: Keeper, H: Host, G: Gate>(
     rt: &Rt,
     session: &mut Session,

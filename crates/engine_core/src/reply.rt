@@ -1,6 +1,6 @@
 //! What is sent for a frame, appended to what waits.
 
-ghost use Rattle.std.specs.Prelude.{◌≡◌, ◌≢◌, ◌+◌, ◌*◌, ◌<◌, ◌≤◌, ◌^◌, ◌++◌, ◌∷◌, [], ℕ, Bool, true, List, Option, None, Ok, Err, IfErr, OnOk, length, vec_len};
+ghost use Rattle.std.specs.Prelude.{◌≡◌, ◌≢◌, ◌+◌, ◌*◌, ◌<◌, ◌≤◌, ◌^◌, ◌++◌, ◌∷◌, [], ℕ, Bool, List, Option, None, Ok, Err, IfErr, OnOk, length, vec_len};
 ghost use Rattle.std.specs.Io.KnownBytes.{append_known};
 ghost use Rattle.host_core.specs.Outside.{Elapses};
 ghost use Rattle.host_core.specs.Frames.{OnlySends};
@@ -8,12 +8,12 @@ ghost use Rattle.host_core.specs.Faults.{Causes, HasCause};
 ghost use Rattle.wire_in.specs.declared.record.Record.{Record};
 ghost use Rattle.rulebook.specs.Admission.{verdict};
 ghost use Rattle.rulebook.specs.Sent.{spelled, numbered, refused, accepted, reply, with_record};
-ghost use Rattle.rulebook.specs.Book.{messages_of, newest_messages};
+ghost use Rattle.rulebook.specs.Book.{newest_messages};
 ghost use Rattle.market_core.specs.MarketState.{most_messages};
 ghost use Rattle.shard_core.specs.Block.{AreAdmissible};
 ghost use Rattle.stream_core.specs.Pending.{Expects, SendsPrefix};
 ghost use Rattle.engine_core.specs.EngineState.{Represents, IsRoomy};
-ghost use Rattle.engine_core.specs.Answering.{IsShort};
+ghost use Rattle.engine_core.specs.Answering.{IsShort, Appends};
 ghost use Rattle.evaluator_core.specs.Evaluating.{workers_of, IsAhead, IsIdle};
 ghost use Rattle.engine_core.specs.Rounds.{Outcome, IsAdmissible, records_in};
 ghost use Rattle.engine_core.specs.Sessions.{with_acknowledgements};
@@ -164,23 +164,41 @@ pub fn evaluate<H: Host>(
     }
 }
 
-/// Evaluates a record, and appends its messages.
-fn publish<H: Host>(
+/// Appends the messages of an accepted record, numbered on from those before them, and its acknowledgement.
+fn append_accepted<H: Host>(
+    outbox: &mut Outbox,
+    host: &mut H,
+    acknowledges: bool,
+    before: u64,
+    messages: &[Stamped],
+    input: u64,
+) -> Result<(), Fault>
+    requires { before + length messages.now < 2 ^ 64 }
+    ensures appends { (begin : Option (List ℕ)) (text : List ℕ) → Expects begin (H.outside host.old).sent outbox.old text
+        → Appends result begin (text ++ spelled (with_acknowledgements acknowledges (numbered before messages.now ++ Frame.Ack input ∷ []))) outbox.new (H.outside host.old) (H.outside host.new) }
+    ensures keeps { OnlySends (H.outside host.old) (H.outside host.new) }
+    ensures causes { Causes result (H.outside host.old) (H.outside host.new) }
+    ensures fault { IfErr result (λ fault. fault ≡ Fault.Send) }
+{
+    append_messages(outbox, host, before, messages)?;
+    acknowledge(outbox, host, acknowledges, input)
+}
+
+/// Evaluates an accepted record, and appends its messages and its acknowledgement.
+fn answer_record<H: Host>(
     engine: &mut Engine,
     outbox: &mut Outbox,
     host: &mut H,
+    acknowledges: bool,
     x: &Record,
 ) -> Result<(), Fault>
     requires room { engine.old.published + 2 * most_messages < 2 ^ 64 }
     requires count { engine.old.evaluated + 1 < 2 ^ 64 }
     ensures represents { (capacity : ℕ) (accepted evaluated later : List Record) → Represents engine.old capacity accepted evaluated → IsAhead engine.old.evaluator (x.now ∷ later) → verdict capacity evaluated x.now ≡ None
         → OnOk result (Represents engine.new capacity accepted (x.now ∷ evaluated)) }
-    ensures pending { (capacity : ℕ) (accepted evaluated later : List Record) (begin : Option (List ℕ)) (text : List ℕ) → Represents engine.old capacity accepted evaluated
+    ensures appends { (capacity : ℕ) (held evaluated later : List Record) (begin : Option (List ℕ)) (text : List ℕ) → Represents engine.old capacity held evaluated
         → IsAhead engine.old.evaluator (x.now ∷ later) → verdict capacity evaluated x.now ≡ None → Expects begin (H.outside host.old).sent outbox.old text
-        → OnOk result (Expects begin (H.outside host.new).sent outbox.new (text ++ spelled (numbered (length (messages_of evaluated)) (newest_messages (x.now ∷ evaluated))))) }
-    ensures moments { (capacity : ℕ) (accepted evaluated later : List Record) (begin : Option (List ℕ)) (text : List ℕ) → Represents engine.old capacity accepted evaluated
-        → IsAhead engine.old.evaluator (x.now ∷ later) → verdict capacity evaluated x.now ≡ None → Expects begin (H.outside host.old).sent outbox.old text
-        → Elapses (H.outside host.old) (H.outside host.new) (SendsPrefix begin (text ++ spelled (numbered (length (messages_of evaluated)) (newest_messages (x.now ∷ evaluated)))) (H.outside host.old)) }
+        → Appends result begin (text ++ spelled (with_acknowledgements acknowledges (accepted evaluated x.now))) outbox.new (H.outside host.old) (H.outside host.new) }
     ensures ahead { (later : List Record) → IsAhead engine.old.evaluator (x.now ∷ later) → OnOk result (IsAhead engine.new.evaluator later) }
     ensures workers { workers_of engine.new.evaluator ≡ workers_of engine.old.evaluator }
     ensures admission { engine.new.admission ≡ engine.old.admission }
@@ -196,42 +214,14 @@ fn publish<H: Host>(
 {
     let before = engine.published;
     evaluate(engine, outbox, host, x)?;
-    append_messages(outbox, host, before, &engine.messages)
-}
-
-/// Evaluates an accepted record, and appends its messages and its acknowledgement.
-fn answer_record<H: Host>(
-    engine: &mut Engine,
-    outbox: &mut Outbox,
-    host: &mut H,
-    acknowledges: bool,
-    x: &Record,
-) -> Result<(), Fault>
-    requires room { engine.old.published + 2 * most_messages < 2 ^ 64 }
-    requires count { engine.old.evaluated + 1 < 2 ^ 64 }
-    ensures represents { (capacity : ℕ) (accepted evaluated later : List Record) → Represents engine.old capacity accepted evaluated → IsAhead engine.old.evaluator (x.now ∷ later) → verdict capacity evaluated x.now ≡ None
-        → OnOk result (Represents engine.new capacity accepted (x.now ∷ evaluated)) }
-    ensures pending { (capacity : ℕ) (held evaluated later : List Record) (begin : Option (List ℕ)) (text : List ℕ) → Represents engine.old capacity held evaluated
-        → IsAhead engine.old.evaluator (x.now ∷ later) → verdict capacity evaluated x.now ≡ None → Expects begin (H.outside host.old).sent outbox.old text
-        → OnOk result (Expects begin (H.outside host.new).sent outbox.new (text ++ spelled (with_acknowledgements acknowledges (accepted evaluated x.now)))) }
-    ensures moments { (capacity : ℕ) (held evaluated later : List Record) (begin : Option (List ℕ)) (text : List ℕ) → Represents engine.old capacity held evaluated
-        → IsAhead engine.old.evaluator (x.now ∷ later) → verdict capacity evaluated x.now ≡ None → Expects begin (H.outside host.old).sent outbox.old text
-        → Elapses (H.outside host.old) (H.outside host.new) (SendsPrefix begin (text ++ spelled (with_acknowledgements acknowledges (accepted evaluated x.now))) (H.outside host.old)) }
-    ensures ahead { (later : List Record) → IsAhead engine.old.evaluator (x.now ∷ later) → OnOk result (IsAhead engine.new.evaluator later) }
-    ensures workers { workers_of engine.new.evaluator ≡ workers_of engine.old.evaluator }
-    ensures admission { engine.new.admission ≡ engine.old.admission }
-    ensures evaluated { OnOk result (engine.new.evaluated ≡ engine.old.evaluated + 1) }
-    ensures published { OnOk result (engine.new.published ≤ engine.old.published + most_messages) }
-    ensures keeps { OnlySends (H.outside host.old) (H.outside host.new) }
-    ensures causes { Causes result (H.outside host.old) (H.outside host.new) }
-    ensures unread { result ≢ Err Fault.Read }
-    ensures unkept { result ≢ Err Fault.Disk }
-    ensures roomy { IsRoomy engine.old → OnOk result (IsRoomy engine.new) }
-    ensures starved { (begin : Option (List ℕ)) (text : List ℕ) → IsRoomy engine.old → Expects begin (H.outside host.old).sent outbox.old text
-        → result ≡ Err Fault.Memory → IsShort (workers_of engine.old.evaluator) (Ok x.now) begin (H.outside host.new).sent text }
-{
-    publish(engine, outbox, host, x)?;
-    acknowledge(outbox, host, acknowledges, engine.evaluated)
+    append_accepted(
+        outbox,
+        host,
+        acknowledges,
+        before,
+        &engine.messages,
+        engine.evaluated,
+    )
 }
 
 /// Appends the refusal of the frame of that number.
@@ -241,10 +231,8 @@ fn refuse<H: Host>(
     number: u64,
     refusal: Refusal,
 ) -> Result<(), Fault>
-    ensures pending { (acknowledges : Bool) (begin : Option (List ℕ)) (text : List ℕ) → Expects begin (H.outside host.old).sent outbox.old text
-        → OnOk result (Expects begin (H.outside host.new).sent outbox.new (text ++ spelled (with_acknowledgements acknowledges (refused number refusal)))) }
-    ensures moments { (acknowledges : Bool) (begin : Option (List ℕ)) (text : List ℕ) → Expects begin (H.outside host.old).sent outbox.old text
-        → Elapses (H.outside host.old) (H.outside host.new) (SendsPrefix begin (text ++ spelled (with_acknowledgements acknowledges (refused number refusal))) (H.outside host.old)) }
+    ensures appends { (acknowledges : Bool) (begin : Option (List ℕ)) (text : List ℕ) → Expects begin (H.outside host.old).sent outbox.old text
+        → Appends result begin (text ++ spelled (with_acknowledgements acknowledges (refused number refusal))) outbox.new (H.outside host.old) (H.outside host.new) }
     ensures keeps { OnlySends (H.outside host.old) (H.outside host.new) }
     ensures causes { Causes result (H.outside host.old) (H.outside host.new) }
     ensures fault { IfErr result (λ fault. fault ≡ Fault.Send) }
@@ -270,12 +258,9 @@ pub fn answer<H: Host>(
     requires count { engine.old.evaluated + 1 < 2 ^ 64 }
     ensures represents { (capacity : ℕ) (accepted evaluated : List Record) (later : List Outcome) → Represents engine.old capacity accepted evaluated → IsAhead engine.old.evaluator (records_in (outcome.now ∷ later)) → IsAdmissible capacity evaluated outcome.now
         → OnOk result (Represents engine.new capacity accepted (with_record evaluated outcome.now)) }
-    ensures pending { (capacity : ℕ) (accepted evaluated : List Record) (later : List Outcome) (begin : Option (List ℕ)) (text : List ℕ) → Represents engine.old capacity accepted evaluated
+    ensures appends { (capacity : ℕ) (accepted evaluated : List Record) (later : List Outcome) (begin : Option (List ℕ)) (text : List ℕ) → Represents engine.old capacity accepted evaluated
         → IsAhead engine.old.evaluator (records_in (outcome.now ∷ later)) → IsAdmissible capacity evaluated outcome.now → Expects begin (H.outside host.old).sent outbox.old text
-        → OnOk result (Expects begin (H.outside host.new).sent outbox.new (text ++ spelled (with_acknowledgements acknowledges (reply number evaluated outcome.now)))) }
-    ensures moments { (capacity : ℕ) (accepted evaluated : List Record) (later : List Outcome) (begin : Option (List ℕ)) (text : List ℕ) → Represents engine.old capacity accepted evaluated
-        → IsAhead engine.old.evaluator (records_in (outcome.now ∷ later)) → IsAdmissible capacity evaluated outcome.now → Expects begin (H.outside host.old).sent outbox.old text
-        → Elapses (H.outside host.old) (H.outside host.new) (SendsPrefix begin (text ++ spelled (with_acknowledgements acknowledges (reply number evaluated outcome.now))) (H.outside host.old)) }
+        → Appends result begin (text ++ spelled (with_acknowledgements acknowledges (reply number evaluated outcome.now))) outbox.new (H.outside host.old) (H.outside host.new) }
     ensures ahead { (later : List Outcome) → IsAhead engine.old.evaluator (records_in (outcome.now ∷ later)) → OnOk result (IsAhead engine.new.evaluator (records_in later)) }
     ensures workers { workers_of engine.new.evaluator ≡ workers_of engine.old.evaluator }
     ensures admission { engine.new.admission ≡ engine.old.admission }

@@ -1,13 +1,12 @@
 //! A session: from pieces of the input to what is kept and sent.
 
-ghost use Rattle.std.specs.Prelude.{◌≡◌, ◌≢◌, ◌-◌, ◌+◌, ◌*◌, ◌<◌, ◌≤◌, ◌^◌, ◌++◌, ◌∷◌, [], ℕ, Bool, List, Option, None, Err, OnOk, OnErr, IfOk, IfSome, IsSome, length, take};
-ghost use Rattle.host_core.specs.Outside.{Outside, Elapses};
+ghost use Rattle.std.specs.Prelude.{◌≡◌, ◌≢◌, ◌-◌, ◌+◌, ◌*◌, ◌<◌, ◌≤◌, ◌^◌, ◌++◌, ◌∷◌, [], ℕ, List, Option, None, Err, OnOk, IfOk, IfSome, IsSome, length, take};
+ghost use Rattle.host_core.specs.Outside.{Elapses};
 ghost use Rattle.host_core.specs.Frames.{OnlySends, OnlyWrites};
 ghost use Rattle.host_core.specs.Faults.{Causes};
 ghost use Rattle.wire_in.specs.declared.record.Record.{Record};
-ghost use Rattle.wire_in.specs.Spelling.{InRange};
 ghost use Rattle.wire_core.specs.Frames.{framed};
-ghost use Rattle.wire_in.specs.Cutting.{bodies_of, pending};
+ghost use Rattle.wire_in.specs.Cutting.{pending};
 ghost use Rattle.journal_core.specs.Layout.{with_batch};
 ghost use Rattle.rulebook.specs.Sent.{with_record};
 ghost use Rattle.market_core.specs.AdmissionState.{refusal_of};
@@ -15,9 +14,9 @@ ghost use Rattle.stream_core.specs.Pending.{SendsPrefix};
 ghost use Rattle.engine_core.specs.EngineState.{Represents};
 ghost use Rattle.engine_core.specs.Rounds.{Outcome, records_in};
 ghost use Rattle.engine_core.specs.Sessions.{Start, Starved, expected};
-ghost use Rattle.engine_core.specs.Answering.{Answers, Waits};
-ghost use Rattle.engine_core.specs.Unwritten.{WritesNothing, AcceptsNone};
-ghost use Rattle.engine_core.specs.Serving.{Serves, IsSound, IsReady, Keeps, Leaves, OnlyAnswers};
+ghost use Rattle.engine_core.specs.Answering.{Answers, Replies};
+ghost use Rattle.engine_core.specs.Unwritten.{WritesNothing};
+ghost use Rattle.engine_core.specs.Serving.{Serves, Runs, IsSound, IsReady, Keeps, OnlyAnswers};
 
 use crate::engine::{Engine, judge};
 use crate::keeper::Keeper;
@@ -75,8 +74,8 @@ fn whole_frame<'a>(cutter: &Cutter, piece: &'a [u8]) -> Option<&'a [u8]>
 fn judge_next(engine: &mut Engine, round: &mut Round, body: &[u8])
     requires short { length body.now ≤ 255 }
     requires room { length round.old.outcomes < round.old.most }
-    ensures waits { (start : Start) (answered all : List (List ℕ)) (number : ℕ) → Waits start answered all number round.old.outcomes engine.old
-        → Waits start answered (all ++ body.now ∷ []) number round.new.outcomes engine.new }
+    ensures answers { (start : Start) (answered all after : List (List ℕ)) (number : ℕ) (outbox : List ℕ) (sent : Option (List ℕ)) → after ≡ all ++ body.now ∷ []
+        → Answers start answered all number round.old.outcomes [] engine.old outbox sent → Answers start answered after number round.new.outcomes [] engine.new outbox sent }
     ensures more { length round.new.outcomes ≡ length round.old.outcomes + 1 }
     ensures most { round.new.most ≡ round.old.most }
     ensures sound { (answered : ℕ) → IsSound engine.old round.old.outcomes answered → IsSound engine.new round.new.outcomes answered }
@@ -102,21 +101,15 @@ fn answer_each<H: Host>(
     requires most { length outcomes.now ≤ ROUND_MAX }
     requires sound { IsSound engine.old outcomes.now answered }
     requires answered { answered < 2 ^ 42 }
-    ensures answers { (start : Start) (all : List (List ℕ)) → acknowledges ≡ start.acknowledges
-        → Answers start all answered outcomes.now (records_in outcomes.now) engine.old outbox.old (H.outside host.old).sent
-        → OnOk result (Answers start all (answered + length outcomes.now) [] [] engine.new outbox.new (H.outside host.new).sent) }
-    ensures moments { (start : Start) (all : List (List ℕ)) → acknowledges ≡ start.acknowledges
-        → Answers start all answered outcomes.now (records_in outcomes.now) engine.old outbox.old (H.outside host.old).sent
-        → Elapses (H.outside host.old) (H.outside host.new) (SendsPrefix start.sent (expected start all) (H.outside host.old)) }
+    ensures replies { (start : Start) (before all : List (List ℕ)) → acknowledges ≡ start.acknowledges
+        → Answers start before all answered outcomes.now (records_in outcomes.now) engine.old outbox.old (H.outside host.old).sent
+        → Replies result start all (answered + length outcomes.now) [] [] engine.new outbox.new (H.outside host.old) (H.outside host.new) }
     ensures admission { engine.new.admission ≡ engine.old.admission }
     ensures sound { OnOk result (IsSound engine.new [] (answered + length outcomes.now)) }
     ensures keeps { OnlySends (H.outside host.old) (H.outside host.new) }
     ensures causes { Causes result (H.outside host.old) (H.outside host.new) }
     ensures unread { result ≢ Err Fault.Read }
     ensures unkept { result ≢ Err Fault.Disk }
-    ensures starved { (start : Start) (all : List (List ℕ)) → acknowledges ≡ start.acknowledges
-        → Answers start all answered outcomes.now (records_in outcomes.now) engine.old outbox.old (H.outside host.old).sent
-        → result ≡ Err Fault.Memory → Starved start all (H.outside host.new) }
 {
     let mut number = answered;
     for outcome in outcomes {
@@ -133,9 +126,9 @@ fn prepare_round<Rt: Threads + Sync, H: Host, G: Gate>(
     host: &mut H,
     gate: &G,
 ) -> Result<(), Fault>
-    ensures answers { (start : Start) (all : List (List ℕ)) → Answers start all session.old.answered session.old.round.outcomes [] session.old.engine session.old.outbox (H.outside host.old).sent
-        → OnOk result (Answers start all session.new.answered session.new.round.outcomes (records_in session.new.round.outcomes) session.new.engine session.new.outbox (H.outside host.new).sent) }
-    ensures moments { (start : Start) (all : List (List ℕ)) → Answers start all session.old.answered session.old.round.outcomes [] session.old.engine session.old.outbox (H.outside host.old).sent
+    ensures answers { (start : Start) (before all : List (List ℕ)) → Answers start before all session.old.answered session.old.round.outcomes [] session.old.engine session.old.outbox (H.outside host.old).sent
+        → OnOk result (Answers start before all session.new.answered session.new.round.outcomes (records_in session.new.round.outcomes) session.new.engine session.new.outbox (H.outside host.new).sent) }
+    ensures moments { (start : Start) (before all : List (List ℕ)) → Answers start before all session.old.answered session.old.round.outcomes [] session.old.engine session.old.outbox (H.outside host.old).sent
         → Elapses (H.outside host.old) (H.outside host.new) (SendsPrefix start.sent (expected start all) (H.outside host.old)) }
     ensures rest { session.new ≡ record session.old { engine = session.new.engine; outbox = session.new.outbox } }
     ensures admission { session.new.engine.admission ≡ session.old.engine.admission }
@@ -144,7 +137,7 @@ fn prepare_round<Rt: Threads + Sync, H: Host, G: Gate>(
     ensures causes { Causes result (H.outside host.old) (H.outside host.new) }
     ensures unread { result ≢ Err Fault.Read }
     ensures unkept { result ≢ Err Fault.Disk }
-    ensures starved { (start : Start) (all : List (List ℕ)) → Answers start all session.old.answered session.old.round.outcomes [] session.old.engine session.old.outbox (H.outside host.old).sent
+    ensures starved { (start : Start) (before all : List (List ℕ)) → Answers start before all session.old.answered session.old.round.outcomes [] session.old.engine session.old.outbox (H.outside host.old).sent
         → result ≡ Err Fault.Memory → Starved start all (H.outside host.new) }
 {
     prepare(
@@ -167,12 +160,9 @@ fn answer_round<Rt: Threads + Sync, H: Host, G: Gate>(
 ) -> Result<(), Fault>
     requires sound { IsSound session.old.engine session.old.round.outcomes session.old.answered }
     requires answered { session.old.answered < 2 ^ 42 }
-    ensures answers { (start : Start) (all : List (List ℕ)) → acknowledges ≡ start.acknowledges
-        → Answers start all session.old.answered session.old.round.outcomes [] session.old.engine session.old.outbox (H.outside host.old).sent
-        → OnOk result (Answers start all session.new.answered session.new.round.outcomes [] session.new.engine session.new.outbox (H.outside host.new).sent) }
-    ensures moments { (start : Start) (all : List (List ℕ)) → acknowledges ≡ start.acknowledges
-        → Answers start all session.old.answered session.old.round.outcomes [] session.old.engine session.old.outbox (H.outside host.old).sent
-        → Elapses (H.outside host.old) (H.outside host.new) (SendsPrefix start.sent (expected start all) (H.outside host.old)) }
+    ensures replies { (start : Start) (before all : List (List ℕ)) → acknowledges ≡ start.acknowledges
+        → Answers start before all session.old.answered session.old.round.outcomes [] session.old.engine session.old.outbox (H.outside host.old).sent
+        → Replies result start all session.new.answered session.new.round.outcomes [] session.new.engine session.new.outbox (H.outside host.old) (H.outside host.new) }
     ensures empty { OnOk result (session.new.round.outcomes ≡ []) }
     ensures answered { OnOk result (session.new.answered ≡ session.old.answered + length session.old.round.outcomes) }
     ensures most { session.new.round.most ≡ session.old.round.most }
@@ -183,9 +173,6 @@ fn answer_round<Rt: Threads + Sync, H: Host, G: Gate>(
     ensures causes { Causes result (H.outside host.old) (H.outside host.new) }
     ensures unread { result ≢ Err Fault.Read }
     ensures unkept { result ≢ Err Fault.Disk }
-    ensures starved { (start : Start) (all : List (List ℕ)) → acknowledges ≡ start.acknowledges
-        → Answers start all session.old.answered session.old.round.outcomes [] session.old.engine session.old.outbox (H.outside host.old).sent
-        → result ≡ Err Fault.Memory → Starved start all (H.outside host.new) }
 {
     prepare_round(rt, session, host, gate)?;
     answer_each(
@@ -242,23 +229,15 @@ fn settle<Rt: Threads + Sync, K: Keeper, H: Host, G: Gate>(
 ) -> Result<(), Fault>
     requires ready { IsReady (K.has_room keeper.old (H.outside host.old).disk) K.most session.old }
     requires few { session.old.answered < 2 ^ 42 }
-    ensures serves { (start : Start) (read : List ℕ) → start.acknowledges ≡ K.acknowledges → Serves (K.holds keeper.old) start read session.old (H.outside host.old)
-        → OnOk result (Serves (K.holds keeper.new) start read session.new (H.outside host.new)) }
+    ensures runs { (start : Start) (read : List ℕ) → start.acknowledges ≡ K.acknowledges → Serves (K.holds keeper.old) start read session.old (H.outside host.old)
+        → Runs (K.holds keeper.new) (K.recovers keeper.old (H.outside host.old)) (K.recovers keeper.new (H.outside host.new)) start read read result session.new (H.outside host.old) (H.outside host.new) }
     ensures empty { OnOk result (session.new.round.outcomes ≡ []) }
-    ensures moments { (start : Start) (read : List ℕ) → start.acknowledges ≡ K.acknowledges → Serves (K.holds keeper.old) start read session.old (H.outside host.old)
-        → Elapses (H.outside host.old) (H.outside host.new) (Leaves (K.recovers keeper.old (H.outside host.old)) start (bodies_of read)) }
-    ensures before { OnOk result ((records : List Record) (pending : List (List Record)) (image : List ℕ) → K.recovers keeper.new (H.outside host.new) records pending image
-        → K.recovers keeper.old (H.outside host.old) records pending image) }
-    ensures nothing { (start : Start) (read : List ℕ) → start.acknowledges ≡ K.acknowledges → Serves (K.holds keeper.old) start read session.old (H.outside host.old)
-        → records_in session.old.round.outcomes ≡ [] → WritesNothing (H.outside host.old) (H.outside host.new) }
     ensures ready { OnOk result (IsReady (K.has_room keeper.new (H.outside host.new).disk) K.most session.new) }
     ensures answered { OnOk result (session.new.answered ≡ session.old.answered + length session.old.round.outcomes) }
     ensures keeps { OnlyAnswers K.touches (H.outside host.old) (H.outside host.new) }
     ensures causes { Causes result (H.outside host.old) (H.outside host.new) }
     ensures unread { result ≢ Err Fault.Read }
     ensures unkept { result ≡ Err Fault.Disk → K.fails }
-    ensures starved { (start : Start) (read : List ℕ) → start.acknowledges ≡ K.acknowledges → Serves (K.holds keeper.old) start read session.old (H.outside host.old)
-        → result ≡ Err Fault.Memory → Starved start (bodies_of read) (H.outside host.new) }
 {
     keep_round(session, keeper, host)?;
     answer_round(rt, session, host, gate, keeper.acknowledges())
@@ -289,14 +268,13 @@ impl Session {
     fn advance(&mut self, piece: &[u8]) -> usize
         requires room { length self.old.round.outcomes < self.old.round.most }
         ensures used { (result ≤ length piece.now) × (0 < length piece.now → 0 < result) }
-        ensures judges { (start : Start) (answered : List (List ℕ)) (read : List ℕ) → Judges start answered read self.old
-            → Judges start answered (read ++ take result piece.now) self.new }
+        ensures judges { (start : Start) (answered : List (List ℕ)) (read : List ℕ) (sent : Option (List ℕ)) → Judges start answered read sent self.old
+            → Judges start answered (read ++ take result piece.now) sent self.new }
         ensures more { length self.new.round.outcomes ≤ length self.old.round.outcomes + 1 }
         ensures most { self.new.round.most ≡ self.old.round.most }
         ensures sound { IsSound self.old.engine self.old.round.outcomes self.old.answered → IsSound self.new.engine self.new.round.outcomes self.new.answered }
         ensures capacity { self.new.engine.admission.capacity ≡ self.old.engine.admission.capacity }
         ensures evaluated { self.new.engine.evaluated ≡ self.old.engine.evaluated }
-        ensures outbox { self.new.outbox ≡ self.old.outbox }
         ensures answered { self.new.answered ≡ self.old.answered }
     {
         if let Some(body) = whole_frame(&self.cutter, piece) {
@@ -311,20 +289,20 @@ impl Session {
         cut.used
     }
 
-    /// Takes bytes of a piece from a place on, up to its end or until as many frames wait as the round takes. Answers the place behind them.
+    /// Takes bytes of a piece from an offset on, up to its end or until as many frames wait as the round takes. Answers the
+    /// offset behind them.
     fn fill(&mut self, piece: &[u8], from: usize) -> usize
         requires some { 1 ≤ self.old.round.most }
         requires empty { self.old.round.outcomes ≡ [] }
         requires left { from < length piece.now }
         ensures place { (from < result) × (result ≤ length piece.now) }
-        ensures judges { (start : Start) (answered : List (List ℕ)) (read : List ℕ) → Judges start answered (read ++ take from piece.now) self.old
-            → Judges start answered (read ++ take result piece.now) self.new }
+        ensures judges { (start : Start) (answered : List (List ℕ)) (read : List ℕ) (sent : Option (List ℕ)) → Judges start answered (read ++ take from piece.now) sent self.old
+            → Judges start answered (read ++ take result piece.now) sent self.new }
         ensures few { from + length self.new.round.outcomes ≤ result }
         ensures most { self.new.round.most ≡ self.old.round.most }
         ensures sound { IsSound self.old.engine self.old.round.outcomes self.old.answered → IsSound self.new.engine self.new.round.outcomes self.new.answered }
         ensures capacity { self.new.engine.admission.capacity ≡ self.old.engine.admission.capacity }
         ensures evaluated { self.new.engine.evaluated ≡ self.old.engine.evaluated }
-        ensures outbox { self.new.outbox ≡ self.old.outbox }
         ensures answered { self.new.answered ≡ self.old.answered }
     {
         let mut at = from;
@@ -347,14 +325,8 @@ pub fn feed<Rt: Threads + Sync, K: Keeper, H: Host, G: Gate>(
     requires empty { session.old.round.outcomes ≡ [] }
     requires ready { IsReady (K.has_room keeper.old (H.outside host.old).disk) K.most session.old }
     requires few { session.old.answered + length piece.now < 2 ^ 42 }
-    ensures serves { (start : Start) (read : List ℕ) → start.acknowledges ≡ K.acknowledges → Serves (K.holds keeper.old) start read session.old (H.outside host.old)
-        → OnOk result (Serves (K.holds keeper.new) start (read ++ piece.now) session.new (H.outside host.new)) }
-    ensures moments { (start : Start) (read : List ℕ) → start.acknowledges ≡ K.acknowledges → Serves (K.holds keeper.old) start read session.old (H.outside host.old)
-        → Elapses (H.outside host.old) (H.outside host.new) (Leaves (K.recovers keeper.old (H.outside host.old)) start (bodies_of (read ++ piece.now))) }
-    ensures before { OnOk result ((records : List Record) (pending : List (List Record)) (image : List ℕ) → K.recovers keeper.new (H.outside host.new) records pending image
-        → K.recovers keeper.old (H.outside host.old) records pending image) }
-    ensures nothing { (start : Start) (read : List ℕ) → start.acknowledges ≡ K.acknowledges → Serves (K.holds keeper.old) start read session.old (H.outside host.old)
-        → AcceptsNone start (bodies_of (read ++ piece.now)) → WritesNothing (H.outside host.old) (H.outside host.new) }
+    ensures runs { (start : Start) (read : List ℕ) → start.acknowledges ≡ K.acknowledges → Serves (K.holds keeper.old) start read session.old (H.outside host.old)
+        → Runs (K.holds keeper.new) (K.recovers keeper.old (H.outside host.old)) (K.recovers keeper.new (H.outside host.new)) start (read ++ piece.now) (read ++ piece.now) result session.new (H.outside host.old) (H.outside host.new) }
     ensures still { length piece.now ≡ 0 → OnOk result ((H.outside host.new).sent ≡ (H.outside host.old).sent) }
     ensures empty { OnOk result (session.new.round.outcomes ≡ []) }
     ensures ready { OnOk result (IsReady (K.has_room keeper.new (H.outside host.new).disk) K.most session.new) }
@@ -363,8 +335,6 @@ pub fn feed<Rt: Threads + Sync, K: Keeper, H: Host, G: Gate>(
     ensures causes { Causes result (H.outside host.old) (H.outside host.new) }
     ensures unread { result ≢ Err Fault.Read }
     ensures unkept { result ≡ Err Fault.Disk → K.fails }
-    ensures starved { (start : Start) (read : List ℕ) → start.acknowledges ≡ K.acknowledges → Serves (K.holds keeper.old) start read session.old (H.outside host.old)
-        → result ≡ Err Fault.Memory → Starved start (bodies_of (read ++ piece.now)) (H.outside host.new) }
 {
     let mut at = 0;
     while at < piece.len() {

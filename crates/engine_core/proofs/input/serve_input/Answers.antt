@@ -1,21 +1,21 @@
-use Rattle.std.proofs.Common.{◌≡◌, inl, inr, ℕ, List, take, refl, ap, ◌∙◌, arith, rules, true≢false}
-use Rattle.std.specs.Prelude.{Err}
+use Rattle.std.proofs.Common.{◌≡◌, ◌+◌, inl, inr, ℕ, List, length, take, drop, refl, sym, ap, ◌∙◌, arith, rules, true≢false}
+use Rattle.std.specs.Prelude.{Ok, Err, Some, option_map}
 use Rattle.std.proofs.lemmas.Bool.Decides.{nat_tests}
-use Rattle.std.proofs.lemmas.List.{length-take}
+use Rattle.std.proofs.lemmas.List.{length-take, length-drop, drop-drop}
 use Rattle.std.specs.Io.KnownBytes.{append_known}
 use Rattle.host_core.specs.declared.fault.Fault.TheVariants.{Read}
 use Rattle.host_core.proofs.Moments.{unchanged, further}
 use Rattle.host_core.proofs.Causes.{no_fault, faultless}
 use Rattle.wire_in.specs.Cutting.{bodies_of}
-use Rattle.engine_core.specs.Sessions.{Start, expected}
-use Rattle.engine_core.specs.Serving.{Serves, Reads}
+use Rattle.engine_core.specs.Sessions.{Start, Prompt, answers_to, expected}
+use Rattle.engine_core.specs.Serving.{Reads, Runs}
+use Rattle.stream_core.proofs.Pending.{expects_nothing}
 use Rattle.stream_core.proofs.Taken.{takes_none, takes_on}
-use Rattle.engine_core.proofs.Keeping.{idles, runs_on}
-use Rattle.engine_core.proofs.Reading.{Runs, up_to, expects_all, serves_sent, safe_sent, answered_by, piece_begins, reads_more, none_left}
-use Rattle.engine_core.proofs.Asking.{no_ask, answers_to, prompt_of, more_asks}
+use Rattle.engine_core.proofs.Reading.{up_to, all_answered, expects_all, answered_by, piece_is, piece_begins}
+use Rattle.engine_core.proofs.Running.{idles, leaves_on, runs_on, leaves_sent}
+use Rattle.engine_core.proofs.Asking.{no_ask, more_asks}
 use Rattle.engine_core.proofs.Ending.{ends}
-use Rattle.engine_core.proofs.Expecting.{starved_further}
-use Rattle.engine_core.proofs.Unwritten.{idle, sending, still_nothing, none_before}
+use Rattle.engine_core.proofs.Unwritten.{sending, still_nothing}
 use Rattle.engine_core.proofs.input.serve_input.Given.{Over}
 use Rattle.engine_core.proofs.input.serve_input.Goals.{After-feed}
 use Rattle.engine_core.proofs.input.serve_input.Goals as goal
@@ -29,14 +29,10 @@ loop-open-init g c = record {
   ready = c.requires.ready;
   polls = λ start input same reads. record {
     reads = reads;
-    runs = record {
-      moments = idles reads.serves _ (up_to 0 c.args.most input (omega arith)) (g.met.H.Host.sent_now c.args.host.now) (λ image left. g.K.Keeper.recovers_now c.args.keeper.now _ _ image reads.serves.held left);
-      prompt = no_ask start input refl;
-      nothing = λ none. idle _ (g.met.H.Host.sent_now c.args.host.now);
-    };
+    runs = idles reads.serves _ (up_to 0 c.args.most input (omega arith)) (g.met.H.Host.sent_now c.args.host.now) (λ records image held left. g.K.Keeper.recovers_now c.args.keeper.now records _ image held left);
+    prompt = no_ask start input refl;
     end = λ closed. absurd (true≢false closed);
   };
-  before = λ records pending image recovered. recovered;
   taken = takes_none 0 _ _ refl;
   touches = g.K.Keeper.untouched _ _ refl refl;
   continues = unchanged _;
@@ -46,27 +42,38 @@ loop-open-init g c = record {
 -- what the run is once a piece was read, however its frames are answered
 fed : (g : Over) (c : After-feed g) (start : Start) (input : List ℕ) → start.acknowledges ≡ g.K.Keeper.acknowledges
     → Reads (g.K.Keeper.holds c.args.keeper.now) start input 0 c.args.session.now (g.H.Host.outside c.args.host.now)
-    → Runs (g.K.Keeper.recovers c.args.keeper.now (g.H.Host.outside c.args.host.now)) start input c.args.most (g.H.Host.outside c.args.host.now) (g.H.Host.outside c.feed.new.host)
-    × Serves (g.K.Keeper.holds c.loop-open.keeper) start (take c.loop-open.read input) (record c.loop-open.session { outbox = c.exchange.new.outbox }) (g.H.Host.outside c.exchange.new.host)
+    → Runs (g.K.Keeper.holds c.feed.new.keeper) (g.K.Keeper.recovers c.args.keeper.now (g.H.Host.outside c.args.host.now)) (g.K.Keeper.recovers c.feed.new.keeper (g.H.Host.outside c.feed.new.host)) start (take (c.loop-open.read + c.in_ok-count.count) input) (take c.args.most input) c.feed.result c.feed.new.session
+    (g.H.Host.outside c.args.host.now) (g.H.Host.outside c.feed.new.host)
+    × Prompt start input (g.H.Host.outside c.args.host.now).asks (g.H.Host.outside c.feed.new.host).asks
 fed g c start input same reads =
     let was = c.loop-open.invariant.polls start input same reads in
+    let took = c.in_ok-count.ensures.taken in
     let expects = expects_all was.reads c.loop-open.invariant.empty in
-    let held = g.K.Keeper.still_held c.loop-open.keeper _ _ _ was.reads.serves.held c.exchange.ensures.keeps.disk c.exchange.ensures.keeps.left in
-    let mid = serves_sent was.reads c.loop-open.invariant.empty c.exchange.new.outbox (g.H.Host.outside c.exchange.new.host) held c.in_ok-count.ensures.empty (c.in_ok-count.ensures.sent start.sent _ expects) in
-    let begins = piece_begins was.reads c.in_ok-count.ensures.taken c.args.most (omega (arith, c.loop-open.invariant.within, c.in_ok-count.ensures.taken.within, c.min-room.ensures)) in
-    let sent = c.exchange.ensures.moments start.sent _ expects in (
-      record {
-        moments = runs_on begins
-            (λ records pending image recovered. c.loop-open.invariant.before records pending image (g.K.Keeper.recovered_before c.loop-open.keeper records pending image _ _ c.exchange.ensures.keeps.left recovered))
-            (runs_on (up_to c.loop-open.read c.args.most input c.loop-open.invariant.within) c.loop-open.invariant.before was.runs.moments
-            (safe_sent was.reads c.loop-open.invariant.empty _ (λ records image held left. g.K.Keeper.recovers_now c.loop-open.keeper records _ image held left) sent))
-            (c.feed.ensures.moments start _ same mid);
-        prompt = more_asks start input (more_asks start input was.runs.prompt (prompt_of start input (c.exchange.ensures.prompt (answers_to start) start.sent input c.loop-open.read was.reads.input_left was.reads.there expects)))
-            (no_ask start input c.feed.ensures.keeps.asks);
-        nothing = λ none. still_nothing (still_nothing (was.runs.nothing none) (sending sent c.exchange.ensures.keeps.disk))
-            (c.feed.ensures.nothing start _ same mid (none_before start begins none));
-      },
-      mid,
+    let run = c.exchange.ensures.moments start.sent _ expects in
+    let swept : Runs {T = ℕ} (g.K.Keeper.holds c.loop-open.keeper) (g.K.Keeper.recovers c.loop-open.keeper (g.H.Host.outside c.loop-open.host)) (g.K.Keeper.recovers c.loop-open.keeper (g.H.Host.outside c.exchange.new.host)) start (take c.loop-open.read input) (take c.loop-open.read input)
+    (Ok c.in_ok-count.count) (record c.loop-open.session { outbox = c.exchange.new.outbox }) (g.H.Host.outside c.loop-open.host) (g.H.Host.outside c.exchange.new.host) = record {
+      serves = record {
+        answered = was.reads.serves.answered;
+        judges = record {
+          cutter = was.reads.serves.judges.cutter;
+          answers = record {
+            waits = was.reads.serves.judges.answers.waits;
+            evaluates = was.reads.serves.judges.answers.evaluates;
+            pending_is = expects_nothing _ _ _ _ c.in_ok-count.ensures.empty
+                (c.in_ok-count.ensures.sent start.sent _ expects ∙ ap (λ (b : List (List ℕ)). append_known start.sent (expected start b)) (sym (all_answered was.reads c.loop-open.invariant.empty)));
+          };
+        };
+        held = g.K.Keeper.still_held c.loop-open.keeper _ _ _ was.reads.serves.held c.exchange.ensures.keeps.disk c.exchange.ensures.keeps.left;
+      };
+      before = λ records pending image recovered. g.K.Keeper.recovered_before c.loop-open.keeper records pending image _ _ c.exchange.ensures.keeps.left recovered;
+      moments = leaves_sent was.reads c.loop-open.invariant.empty _ (λ records image held left. g.K.Keeper.recovers_now c.loop-open.keeper records _ image held left) run;
+      nothing = λ none. sending run c.exchange.ensures.keeps.disk;
+      starved = λ is. absurd cc;
+    } in
+    let begins = piece_begins was.reads took c.args.most (omega (arith, c.loop-open.invariant.within, took.within, c.min-room.ensures)) in (
+      rw (piece_is was.reads took) at (runs_on begins (runs_on (up_to c.loop-open.read c.args.most input c.loop-open.invariant.within) was.runs swept) (c.feed.ensures.runs start _ same swept.serves)),
+      more_asks start input (more_asks start input was.prompt (c.exchange.ensures.prompt (answers_to start) start.sent input c.loop-open.read was.reads.input_left was.reads.there expects))
+          (no_ask start input c.feed.ensures.keeps.asks),
     )
 
 pub loop-open-preserved : goal.loop-open-preserved
@@ -83,20 +90,27 @@ loop-open-preserved g c =
           let was = c.loop-open.invariant.polls start input same reads in
           let sent = c.in_ok-count.ensures.sent start.sent _ (expects_all was.reads c.loop-open.invariant.empty) in
           let after = fed g (goal.at.loop-open-preserved g c).After-feed start input same reads in
-          let next = reads_more was.reads took _ _ _ c.feed.ensures.keeps.input (c.in_ok-feed.ensures.serves start _ same after.1) in
+          let runs = rw c.in_ok-feed.was at after.0 in
+          let next : Reads _ start input (c.loop-open.read + n) c.feed.new.session (g.H.Host.outside c.feed.new.host) = record {
+            input_left = c.feed.ensures.keeps.input ∙ took.left ∙ ap (option_map (λ (bytes : List ℕ). drop n bytes)) was.reads.input_left ∙ ap (λ (bytes : List ℕ). Some bytes) (drop-drop n c.loop-open.read input);
+            there = omega (arith, took.there _ was.reads.input_left, was.reads.there, length-drop c.loop-open.read input);
+            serves = runs.serves;
+          } in
           record {
             reads = next;
-            runs = after.0;
+            runs = runs;
+            prompt = after.1;
             end = λ closed.
                 let none : n ≡ 0 = grind (arith, nat_tests) in (
-                  elim (none_left was.reads took none) [ inl all ↦ inl (omega (arith, all, none)) | inr full ↦ inr (omega (arith, full, none, c.min-room.ensures, c.loop-open.invariant.buffer, c.loop-open.invariant.within)) ],
+                  elim (took.end _ was.reads.input_left none) [
+                    | inl nothing ↦ inl (omega (arith, none, was.reads.there, simp length-drop at (ap length nothing)))
+                    | inr full ↦ inr (omega (arith, full, none, c.min-room.ensures, c.loop-open.invariant.buffer, c.loop-open.invariant.within))
+                  ],
                   answered_by next c.in_ok-feed.ensures.empty _ refl
                       (c.in_ok-feed.ensures.still (omega (arith, none, length-take n c.exchange.new.buffer)) ∙ sent ∙ ap (λ (k : ℕ). append_known start.sent (expected start (bodies_of (take k input)))) (omega (arith, none)))
                       (λ records held. held),
                 );
           };
-      before = λ records pending image recovered.
-          c.loop-open.invariant.before records pending image (g.K.Keeper.recovered_before c.loop-open.keeper records pending image _ _ c.exchange.ensures.keeps.left (c.in_ok-feed.ensures.before records pending image recovered));
       taken = takes_on c.loop-open.read n _ _ _ _ (omega arith) c.loop-open.invariant.taken (record { count = n; within = omega arith; left = c.feed.ensures.keeps.input ∙ took.left });
       touches = g.K.Keeper.touches_both _ _ _ c.loop-open.invariant.touches
           (g.K.Keeper.touches_both _ _ _ (g.K.Keeper.untouched _ _ c.exchange.ensures.keeps.disk c.exchange.ensures.keeps.disk_faults) c.feed.ensures.keeps.to_disk);
@@ -106,19 +120,19 @@ loop-open-preserved g c =
 
 -- what waits could not be sent, or no piece be read
 pub returns-in_err-count-clause-moments : goal.returns-in_err-count-clause-moments
-returns-in_err-count-clause-moments g c = λ start input same reads.
+returns-in_err-count-clause-moments g c start input same reads =
     let was = c.loop-open.invariant.polls start input same reads in
-    runs_on (up_to c.loop-open.read c.args.most input c.loop-open.invariant.within) c.loop-open.invariant.before was.runs.moments
-    (safe_sent was.reads c.loop-open.invariant.empty _ (λ records image held left. g.K.Keeper.recovers_now c.loop-open.keeper records _ image held left)
+    leaves_on (up_to c.loop-open.read c.args.most input c.loop-open.invariant.within) was.runs.before was.runs.moments
+    (leaves_sent was.reads c.loop-open.invariant.empty _ (λ records image held left. g.K.Keeper.recovers_now c.loop-open.keeper records _ image held left)
     (c.exchange.ensures.moments start.sent _ (expects_all was.reads c.loop-open.invariant.empty)))
 
 pub returns-in_err-count-clause-prompt : goal.returns-in_err-count-clause-prompt
-returns-in_err-count-clause-prompt g c = λ start input same reads.
+returns-in_err-count-clause-prompt g c start input same reads =
     let was = c.loop-open.invariant.polls start input same reads in
-    more_asks start input was.runs.prompt (prompt_of start input (c.exchange.ensures.prompt (answers_to start) start.sent input c.loop-open.read was.reads.input_left was.reads.there (expects_all was.reads c.loop-open.invariant.empty)))
+    more_asks start input was.prompt (c.exchange.ensures.prompt (answers_to start) start.sent input c.loop-open.read was.reads.input_left was.reads.there (expects_all was.reads c.loop-open.invariant.empty))
 
 pub returns-in_err-count-clause-unread : goal.returns-in_err-count-clause-unread
-returns-in_err-count-clause-unread g c = λ start input same reads failed.
+returns-in_err-count-clause-unread g c start input same reads failed =
     let now = (c.loop-open.invariant.polls start input same reads).reads in
     let fault : c.exchange.result ≡ Err Read = search rules in (
       c.loop-open.read,
@@ -131,12 +145,23 @@ pub returns-in_err-count-clause-touches : goal.returns-in_err-count-clause-touch
 returns-in_err-count-clause-touches g c =
     g.K.Keeper.touches_both _ _ _ c.loop-open.invariant.touches (g.K.Keeper.untouched _ _ c.exchange.ensures.keeps.disk c.exchange.ensures.keeps.disk_faults)
 
+pub returns-in_err-count-clause-nothing : goal.returns-in_err-count-clause-nothing
+returns-in_err-count-clause-nothing g c start input same reads none =
+    let was = c.loop-open.invariant.polls start input same reads in
+    still_nothing (was.runs.nothing none) (sending (c.exchange.ensures.moments start.sent _ (expects_all was.reads c.loop-open.invariant.empty)) c.exchange.ensures.keeps.disk)
+
 -- a round could not be kept or answered
 pub returns-in_err-feed-clause-moments : goal.returns-in_err-feed-clause-moments
-returns-in_err-feed-clause-moments g c = λ start input same reads. (fed g (goal.at.returns-in_err-feed-clause-moments g c).After-feed start input same reads).0.moments
+returns-in_err-feed-clause-moments g c start input same reads = (fed g (goal.at.returns-in_err-feed-clause-moments g c).After-feed start input same reads).0.moments
 
 pub returns-in_err-feed-clause-prompt : goal.returns-in_err-feed-clause-prompt
-returns-in_err-feed-clause-prompt g c = λ start input same reads. (fed g (goal.at.returns-in_err-feed-clause-prompt g c).After-feed start input same reads).0.prompt
+returns-in_err-feed-clause-prompt g c start input same reads = (fed g (goal.at.returns-in_err-feed-clause-prompt g c).After-feed start input same reads).1
+
+pub returns-in_err-feed-clause-nothing : goal.returns-in_err-feed-clause-nothing
+returns-in_err-feed-clause-nothing g c start input same reads = (fed g (goal.at.returns-in_err-feed-clause-nothing g c).After-feed start input same reads).0.nothing
+
+pub returns-in_err-feed-clause-starved : goal.returns-in_err-feed-clause-starved
+returns-in_err-feed-clause-starved g c start input same reads is = (fed g (goal.at.returns-in_err-feed-clause-starved g c).After-feed start input same reads).0.starved (search rules)
 
 pub returns-in_err-feed-clause-bytes : goal.returns-in_err-feed-clause-bytes
 returns-in_err-feed-clause-bytes g c =
@@ -151,29 +176,13 @@ returns-in_err-feed-clause-touches g c =
 
 -- the session was closed
 pub returns-clause-exact : goal.returns-clause-exact
-returns-clause-exact g c = λ start input same reads.
+returns-clause-exact g c start input same reads =
     let was = c.loop-open.invariant.polls start input same reads in
     let at_end = was.end c.loop-open-test.false in
     ends c.args.most _ c.loop-open.invariant.within at_end.1 at_end.0 (c.ending.ensures.status (take c.loop-open.read input) was.reads.serves.judges.cutter)
 
--- memory was short
-pub returns-in_err-feed-clause-starved : goal.returns-in_err-feed-clause-starved
-returns-in_err-feed-clause-starved g c = λ start input same reads is.
-    let was = (c.loop-open.invariant.polls start input same reads).reads in
-    starved_further (piece_begins was c.in_ok-count.ensures.taken c.args.most (omega (arith, c.loop-open.invariant.within, c.in_ok-count.ensures.taken.within, c.min-room.ensures)))
-    (c.feed.ensures.starved start _ same (fed g (goal.at.returns-in_err-feed-clause-starved g c).After-feed start input same reads).1 (search rules))
-
-pub returns-in_err-count-clause-nothing : goal.returns-in_err-count-clause-nothing
-returns-in_err-count-clause-nothing g c = λ start input same reads none.
-    let was = c.loop-open.invariant.polls start input same reads in
-    still_nothing (was.runs.nothing none)
-    (sending (c.exchange.ensures.moments start.sent _ (expects_all was.reads c.loop-open.invariant.empty)) c.exchange.ensures.keeps.disk)
-
-pub returns-in_err-feed-clause-nothing : goal.returns-in_err-feed-clause-nothing
-returns-in_err-feed-clause-nothing g c = λ start input same reads. (fed g (goal.at.returns-in_err-feed-clause-nothing g c).After-feed start input same reads).0.nothing
-
 pub returns-clause-moments : goal.returns-clause-moments
-returns-clause-moments g c = λ start input same reads. (c.loop-open.invariant.polls start input same reads).runs.moments
+returns-clause-moments g c start input same reads = (c.loop-open.invariant.polls start input same reads).runs.moments
 
 pub returns-clause-prompt : goal.returns-clause-prompt
-returns-clause-prompt g c = λ start input same reads. (c.loop-open.invariant.polls start input same reads).runs.prompt
+returns-clause-prompt g c start input same reads = (c.loop-open.invariant.polls start input same reads).prompt

@@ -1,6 +1,5 @@
 use Rattle.std.proofs.Common.{◌≡◌, ◌+◌, ◌-◌, ◌<◌, ◌≤◌, [], ℕ, List, cond, length}
 use Rattle.host_core.specs.Outside.{Continues, NoFault}
-use Rattle.wire_in.specs.declared.record.Record.{Record}
 use Rattle.stream_core.specs.Taking.{ReadsAtMost}
 use Rattle.engine_core.specs.Sessions.{Start}
 use Rattle.engine_core.specs.Serving.{Reads, IsReady}
@@ -15,10 +14,8 @@ invariant-loop-open g l = record {
   empty : l.session.round.outcomes ≡ [];
   ready : IsReady (g.K.Keeper.has_room l.keeper (g.H.Host.outside l.host).disk) g.K.Keeper.most l.session;
   polls : (start : Start) (input : List ℕ) → start.acknowledges ≡ g.K.Keeper.acknowledges → Reads (g.K.Keeper.holds l.initial.keeper) start input 0 l.initial.session (g.H.Host.outside l.initial.host)
-      → Polls (g.K.Keeper.holds l.keeper) (g.K.Keeper.recovers l.initial.keeper (g.H.Host.outside l.initial.host)) start input l.most l.read l.open l.session
+      → Polls (g.K.Keeper.holds l.keeper) (g.K.Keeper.recovers l.initial.keeper (g.H.Host.outside l.initial.host)) (g.K.Keeper.recovers l.keeper (g.H.Host.outside l.host)) start input l.most l.read l.open l.session
       (g.H.Host.outside l.initial.host) (g.H.Host.outside l.host);
-  before : (records : List Record) (pending : List (List Record)) (image : List ℕ) → g.K.Keeper.recovers l.keeper (g.H.Host.outside l.host) records pending image
-      → g.K.Keeper.recovers l.initial.keeper (g.H.Host.outside l.initial.host) records pending image;
   taken : ReadsAtMost l.read (g.H.Host.outside l.initial.host).input (g.H.Host.outside l.host).input;
   touches : g.K.Keeper.touches (g.H.Host.outside l.initial.host) (g.H.Host.outside l.host);
   continues : Continues (g.H.Host.outside l.initial.host) (g.H.Host.outside l.host);

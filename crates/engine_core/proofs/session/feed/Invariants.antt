@@ -1,10 +1,8 @@
 use Rattle.std.proofs.Common.{◌≡◌, ◌+◌, ◌-◌, ◌≤◌, ◌++◌, [], ℕ, List, length, take}
-use Rattle.host_core.specs.Outside.{Elapses, NoFault}
-use Rattle.wire_in.specs.declared.record.Record.{Record}
-use Rattle.wire_in.specs.Cutting.{bodies_of}
+use Rattle.std.specs.Prelude.{Ok}
+use Rattle.host_core.specs.Outside.{NoFault}
 use Rattle.engine_core.specs.Sessions.{Start}
-use Rattle.engine_core.specs.Serving.{Serves, Leaves, IsReady, OnlyAnswers}
-use Rattle.engine_core.specs.Unwritten.{WritesNothing, AcceptsNone}
+use Rattle.engine_core.specs.Serving.{Serves, Runs, IsReady, OnlyAnswers}
 use Rattle.engine_core.proofs.session.feed.Given as goal
 
 abbrev pub invariant-loop-at : goal.invariant-loop-at
@@ -14,14 +12,9 @@ invariant-loop-at g l = record {
   few : l.session.answered ≤ l.initial.session.answered + l.at;
   still : l.at ≡ 0 → (g.H.Host.outside l.host).sent ≡ (g.H.Host.outside l.initial.host).sent;
   ready : IsReady (g.K.Keeper.has_room l.keeper (g.H.Host.outside l.host).disk) g.K.Keeper.most l.session;
-  serves : (start : Start) (read : List ℕ) → start.acknowledges ≡ g.K.Keeper.acknowledges → Serves (g.K.Keeper.holds l.initial.keeper) start read l.initial.session (g.H.Host.outside l.initial.host)
-      → Serves (g.K.Keeper.holds l.keeper) start (read ++ take l.at l.piece) l.session (g.H.Host.outside l.host);
-  moments : (start : Start) (read : List ℕ) → start.acknowledges ≡ g.K.Keeper.acknowledges → Serves (g.K.Keeper.holds l.initial.keeper) start read l.initial.session (g.H.Host.outside l.initial.host)
-      → Elapses (g.H.Host.outside l.initial.host) (g.H.Host.outside l.host) (Leaves (g.K.Keeper.recovers l.initial.keeper (g.H.Host.outside l.initial.host)) start (bodies_of (read ++ l.piece)));
-  nothing : (start : Start) (read : List ℕ) → start.acknowledges ≡ g.K.Keeper.acknowledges → Serves (g.K.Keeper.holds l.initial.keeper) start read l.initial.session (g.H.Host.outside l.initial.host)
-      → AcceptsNone start (bodies_of (read ++ l.piece)) → WritesNothing (g.H.Host.outside l.initial.host) (g.H.Host.outside l.host);
-  before : (records : List Record) (pending : List (List Record)) (image : List ℕ) → g.K.Keeper.recovers l.keeper (g.H.Host.outside l.host) records pending image
-      → g.K.Keeper.recovers l.initial.keeper (g.H.Host.outside l.initial.host) records pending image;
+  runs : (start : Start) (read : List ℕ) → start.acknowledges ≡ g.K.Keeper.acknowledges → Serves (g.K.Keeper.holds l.initial.keeper) start read l.initial.session (g.H.Host.outside l.initial.host)
+      → Runs {T = Unit {0}} (g.K.Keeper.holds l.keeper) (g.K.Keeper.recovers l.initial.keeper (g.H.Host.outside l.initial.host)) (g.K.Keeper.recovers l.keeper (g.H.Host.outside l.host)) start (read ++ take l.at l.piece) (read ++ l.piece) (Ok tt) l.session
+      (g.H.Host.outside l.initial.host) (g.H.Host.outside l.host);
   keeps : OnlyAnswers g.K.Keeper.touches (g.H.Host.outside l.initial.host) (g.H.Host.outside l.host);
   none : NoFault (g.H.Host.outside l.initial.host) (g.H.Host.outside l.host);
 }

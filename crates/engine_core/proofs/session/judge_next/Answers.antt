@@ -1,22 +1,38 @@
-use Rattle.std.proofs.Common.{◌≡◌, length, sym, subst, ap, ◌∙◌, length-append, arith}
-use Rattle.rulebook.specs.Sent.{admitted, judged}
+use Rattle.std.proofs.Common.{◌≡◌, ℕ, List, [], ◌∷◌, ◌++◌, length, sym, subst, ap, ◌∙◌, append_assoc, length-append, arith}
+use Rattle.wire_in.specs.declared.record.Record.{Record}
+use Rattle.rulebook.specs.Sent.{admitted, judged, with_record}
+use Rattle.evaluator_core.specs.Evaluating.{workers_of}
 use Rattle.engine_core.specs.declared.engine.Engine.{Engine}
 use Rattle.engine_core.specs.Rounds.{RoundState, records_in}
-use Rattle.engine_core.specs.EngineState.{IsRoomy}
+use Rattle.engine_core.specs.EngineState.{Represents, IsRoomy}
 use Rattle.engine_core.specs.Sessions.{held_after}
-use Rattle.engine_core.proofs.Rounds.{records-append}
-use Rattle.engine_core.proofs.Answering.{waits_more}
+use Rattle.engine_core.proofs.Rounds.{outcomes-append, records-append}
+use Rattle.engine_core.proofs.Expecting.{held-more, held-one}
 use Rattle.engine_core.proofs.session.judge_next.Goals as goal
 
-pub returns-clause-waits : goal.returns-clause-waits
-returns-clause-waits c = λ start answered all number waits.
+pub returns-clause-answers : goal.returns-clause-answers
+returns-clause-answers c start answered all after number outbox sent whole answers =
     let held = held_after start all in
     let body = c.args.body.now in
     let is : c.judge.new.outcome ≡ judged start.capacity held body =
-    c.judge.ensures.exact held waits.engine_is.admission
-    ∙ (λ i. admitted (waits.engine_is.within i) held (c.decode-outcome.ensures.exact i)) in
-    waits_more waits body _ _ _ is (ap (λ (r : RoundState). r.outcomes) c.push.ensures) (c.admit.ensures.represents start.capacity held _ waits.engine_is)
-    (ap (λ (e : Engine). e.evaluator) c.admit.ensures.rest)
+    c.judge.ensures.exact held answers.evaluates.engine_is.admission
+    ∙ (λ i. admitted (answers.evaluates.engine_is.within i) held (c.decode-outcome.ensures.exact i)) in
+    let waits = answers.waits in
+    record {
+      waits = record {
+        waiting = waits.waiting ++ body ∷ [];
+        whole = sym (append_assoc answered waits.waiting (body ∷ [])) ∙ ap (λ (b : List (List ℕ)). b ++ body ∷ []) waits.whole ∙ sym whole;
+        number_is = waits.number_is;
+        outcomes_are = ap (λ (r : RoundState). r.outcomes) c.push.ensures ∙ (λ i. waits.outcomes_are i ++ (is ∙ ap (λ (b : List (List ℕ)). judged start.capacity (held_after start b) body) (sym waits.whole)) i ∷ []) ∙ simp (outcomes-append, held-more);
+      };
+      evaluates = record {
+        engine_is = subst (λ (h : List Record). Represents c.admit.new.engine start.capacity h (held_after start answered)) (ap (with_record held) is ∙ sym (held-one start all body) ∙ ap (held_after start) (sym whole))
+            (c.admit.ensures.represents start.capacity held _ answers.evaluates.engine_is);
+        workers = ap (λ (e : Engine). workers_of e.evaluator) c.admit.ensures.rest ∙ answers.evaluates.workers;
+        ahead = rw (ap (λ (e : Engine). e.evaluator) c.admit.ensures.rest) answers.evaluates.ahead;
+      };
+      pending_is = answers.pending_is;
+    }
 
 pub returns-clause-sound : goal.returns-clause-sound
 returns-clause-sound c = λ answered sound.

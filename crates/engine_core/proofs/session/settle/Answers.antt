@@ -1,35 +1,48 @@
-use Rattle.std.proofs.Common.{◌-◌, [], length, refl, sym, ap, subst, ◌∙◌, arith}
+use Rattle.std.proofs.Common.{◌-◌, [], length, refl, sym, ap, subst, ◌∙◌, arith, rules}
 use Rattle.host_core.proofs.Moments.{widened, goes_on}
-use Rattle.wire_in.specs.Cutting.{bodies_of}
+use Rattle.wire_in.specs.Cutting.{pending, bodies_of}
 use Rattle.market_core.specs.AdmissionState.{AdmissionState}
 use Rattle.engine_core.specs.Rounds.{records_in}
-use Rattle.stream_core.proofs.Pending.{on_ok2}
+use Rattle.stream_core.proofs.Pending.{on_ok2, whenever_ok}
+use Rattle.engine_core.proofs.Answering.{none_waits}
 use Rattle.engine_core.proofs.Expecting.{at_rest, safe_sends}
-use Rattle.engine_core.proofs.Keeping.{kept_is, answers_of, settled, leaves_keeps, answers_writes, answers_sends, answers_on}
-use Rattle.engine_core.proofs.Unwritten.{still_nothing, sending}
+use Rattle.engine_core.proofs.Keeping.{kept_is, leaves_keeps, answers_writes, answers_sends, answers_on}
+use Rattle.engine_core.proofs.Unwritten.{no_records, still_nothing, sending}
 use Rattle.engine_core.proofs.session.settle.Goals as goal
 
 pub keep_round-requires : goal.keep_round-requires
 keep_round-requires g c = record { room = g.K.Keeper.room_for_fewer _ _ _ _ (omega (arith, c.requires.ready.sound.count)) c.requires.ready.room; most = c.requires.ready.most }
 
-pub returns-in_err-keep_round-clause-moments : goal.returns-in_err-keep_round-clause-moments
-returns-in_err-keep_round-clause-moments g c = λ start read same serves. widened (c.keep_round.ensures.moments _ serves.held) _ (leaves_keeps serves _)
+pub returns-in_err-keep_round-clause-runs : goal.returns-in_err-keep_round-clause-runs
+returns-in_err-keep_round-clause-runs g c start read same serves = record {
+  serves = search rules;
+  before = search rules;
+  moments = widened (c.keep_round.ensures.moments _ serves.held) _ (leaves_keeps serves _);
+  nothing = λ none. c.keep_round.ensures.nothing (no_records serves none);
+  starved = λ is. absurd (c.keep_round.ensures.unstarved (search rules));
+}
 
-pub returns-clause-moments : goal.returns-clause-moments
-returns-clause-moments g c = λ start read same serves.
+pub returns-clause-runs : goal.returns-clause-runs
+returns-clause-runs g c start read same serves =
     let held = rw (kept_is serves) at (c.in_ok-keep_round.ensures.held _ serves.held) in
-    goes_on (widened (c.keep_round.ensures.moments _ serves.held) _ (leaves_keeps serves _))
-    (c.answer_round.ensures.moments start _ (c.acknowledges.ensures ∙ sym same) (answers_of serves _ c.keep_round.ensures.keeps.sent))
-    (λ image bytes stop. safe_sends _ start (bodies_of read) _ image bytes
-    (at_rest [] refl (c.in_ok-keep_round.ensures.before _ [] image (g.K.Keeper.recovers_now c.keep_round.new.keeper _ _ image held stop.was))) stop)
-
-pub returns-clause-serves : goal.returns-clause-serves
-returns-clause-serves g c = λ start read same serves.
-    let held = rw (kept_is serves) at (c.in_ok-keep_round.ensures.held _ serves.held) in
-    on_ok2 c.answer_round.result c.answer_round.ensures.empty
-    (c.answer_round.ensures.answers start _ (c.acknowledges.ensures ∙ sym same) (answers_of serves _ c.keep_round.ensures.keeps.sent))
-    (λ empty done. settled serves _ c.answer_round.new.session (g.H.Host.outside c.answer_round.new.host) empty c.answer_round.ensures.cutter
-    (g.K.Keeper.still_held c.keep_round.new.keeper _ _ _ held c.answer_round.ensures.keeps.disk c.answer_round.ensures.keeps.left) done)
+    let answers = rw (sym c.keep_round.ensures.keeps.sent) at serves.judges.answers in
+    let acknowledges = c.acknowledges.ensures ∙ sym same in
+    let replies = c.answer_round.ensures.replies start _ _ acknowledges answers in
+    record {
+      serves = on_ok2 c.answer_round.result c.answer_round.ensures.empty replies.answers
+          (λ empty done. record {
+            answered = done.0;
+            judges = record { cutter = ap pending c.answer_round.ensures.cutter ∙ serves.judges.cutter; answers = done.1 };
+            held = rw (none_waits done.1.waits empty) (g.K.Keeper.still_held c.keep_round.new.keeper _ _ _ held c.answer_round.ensures.keeps.disk c.answer_round.ensures.keeps.left);
+          });
+      before = whenever_ok c.answer_round.result (λ records pending image recovered.
+          c.in_ok-keep_round.ensures.before records pending image (g.K.Keeper.recovered_before c.keep_round.new.keeper records pending image _ _ c.answer_round.ensures.keeps.left recovered));
+      moments = goes_on (widened (c.keep_round.ensures.moments _ serves.held) _ (leaves_keeps serves _)) replies.moments
+          (λ image bytes stop. safe_sends _ start (bodies_of read) _ image bytes
+          (at_rest [] refl (c.in_ok-keep_round.ensures.before _ [] image (g.K.Keeper.recovers_now c.keep_round.new.keeper _ _ image held stop.was))) stop);
+      nothing = λ none. still_nothing (c.keep_round.ensures.nothing (no_records serves none)) (sending replies.moments c.answer_round.ensures.keeps.disk);
+      starved = replies.starved;
+    }
 
 pub returns-clause-ready : goal.returns-clause-ready
 returns-clause-ready g c =
@@ -52,8 +65,3 @@ pub returns-clause-keeps : goal.returns-clause-keeps
 returns-clause-keeps g c =
     answers_on _ g.K.Keeper.touches_both (answers_writes _ c.keep_round.ensures.keeps c.keep_round.ensures.touches)
     (answers_sends _ c.answer_round.ensures.keeps (g.K.Keeper.untouched _ _ c.answer_round.ensures.keeps.disk c.answer_round.ensures.keeps.disk_faults))
-
-pub returns-clause-nothing : goal.returns-clause-nothing
-returns-clause-nothing g c = λ start read same serves none.
-    still_nothing (c.keep_round.ensures.nothing none)
-    (sending (c.answer_round.ensures.moments start _ (c.acknowledges.ensures ∙ sym same) (answers_of serves _ c.keep_round.ensures.keeps.sent)) c.answer_round.ensures.keeps.disk)

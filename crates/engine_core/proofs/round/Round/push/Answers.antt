@@ -1,8 +1,9 @@
 use Rattle.std.proofs.Common.{rules, ◌≡◌, ◌++◌, length, [], ◌∷◌, ap, arith, length-append}
-use Rattle.std.proofs.lemmas.List.Elements.{All-append}
+use Rattle.std.specs.Prelude.{Ok, Err, IfOk, All}
+use Rattle.std.proofs.lemmas.List.Elements.{All-nil, All-cons, All-append}
 use Rattle.wire_in.specs.Spelling.{InRange}
-use Rattle.engine_core.proofs.Rounds.{few_records, ranges_one, records-append}
-use Rattle.engine_core.specs.Rounds.{RoundState}
+use Rattle.engine_core.proofs.Rounds.{few_records, records-append}
+use Rattle.engine_core.specs.Rounds.{Outcome, RoundState, records_in}
 use Rattle.engine_core.proofs.round.Round.push.Goals as goal
 
 pub accept-requires : goal.accept-requires
@@ -21,5 +22,5 @@ invariant_of-self c =
       reserve = search rules;
       reserve_records = omega (arith, c.self.invariant.reserve_records, c.accept.ensures.capacity);
       accepted_are = rw (all, records-append, ← c.self.invariant.accepted_are) c.accept.ensures.items;
-      ranges = rw c.accept.ensures.items (All-append InRange _ _ c.self.invariant.ranges (ranges_one c.args.outcome.now c.requires.range));
+      ranges = rw c.accept.ensures.items (All-append InRange _ _ c.self.invariant.ranges (elim c.args.outcome.now as (λ (o : Outcome). IfOk o InRange → All InRange (records_in (o ∷ []))) [ Ok x ↦ λ range. All-cons InRange x [] range (All-nil InRange) | Err refusal ↦ λ range. All-nil InRange ] c.requires.range));
     }

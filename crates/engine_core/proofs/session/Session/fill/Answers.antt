@@ -13,12 +13,11 @@ loop-at-preserved c =
       within = omega (arith, c.advance-at.ensures.used.0, left, c.loop-at.invariant.within);
       few = omega (arith, c.loop-at.invariant.few, c.advance-at.ensures.more, c.advance-at.ensures.used.1, left, c.loop-at-test.true);
       most = c.advance-at.ensures.most ∙ c.loop-at.invariant.most;
-      judges = λ start answered read judges.
+      judges = λ start answered read sent judges.
           rw (take_rest piece at, append_assoc, ← take-add at n piece) at
-          (c.advance-at.ensures.judges start answered (read ++ take at piece) (c.loop-at.invariant.judges start answered read judges));
+          (c.advance-at.ensures.judges start answered (read ++ take at piece) sent (c.loop-at.invariant.judges start answered read sent judges));
       sound = λ sound. c.advance-at.ensures.sound (c.loop-at.invariant.sound sound);
       capacity = c.advance-at.ensures.capacity ∙ c.loop-at.invariant.capacity;
       evaluated = c.advance-at.ensures.evaluated ∙ c.loop-at.invariant.evaluated;
-      outbox = c.advance-at.ensures.outbox ∙ c.loop-at.invariant.outbox;
       answered = c.advance-at.ensures.answered ∙ c.loop-at.invariant.answered;
     }

@@ -1,4 +1,5 @@
 use Rattle.std.proofs.Common.{◌≡◌, ◌+◌, ◌-◌, ◌≤◌, ◌++◌, ℕ, List, length, take}
+use Rattle.std.specs.Prelude.{Option}
 use Rattle.engine_core.specs.Sessions.{Start}
 use Rattle.engine_core.specs.Serving.{Judges, IsSound}
 use Rattle.engine_core.proofs.session.Session.fill.Given as goal
@@ -8,11 +9,11 @@ invariant-loop-at l = record {
   within : l.at ≤ length l.piece;
   few : l.from + length l.self.round.outcomes ≤ l.at;
   most : l.self.round.most ≡ l.initial.self.round.most;
-  judges : (start : Start) (answered : List (List ℕ)) (read : List ℕ) → Judges start answered (read ++ take l.from l.piece) l.initial.self → Judges start answered (read ++ take l.at l.piece) l.self;
+  judges : (start : Start) (answered : List (List ℕ)) (read : List ℕ) (sent : Option (List ℕ)) → Judges start answered (read ++ take l.from l.piece) sent l.initial.self
+      → Judges start answered (read ++ take l.at l.piece) sent l.self;
   sound : IsSound l.initial.self.engine l.initial.self.round.outcomes l.initial.self.answered → IsSound l.self.engine l.self.round.outcomes l.self.answered;
   capacity : l.self.engine.admission.capacity ≡ l.initial.self.engine.admission.capacity;
   evaluated : l.self.engine.evaluated ≡ l.initial.self.engine.evaluated;
-  outbox : l.self.outbox ≡ l.initial.self.outbox;
   answered : l.self.answered ≡ l.initial.self.answered;
 }
 
