@@ -19,7 +19,7 @@ pub enum Status {
     DiskFault,
     /// The bytes that a session may read are used up.
     SessionFull,
-    /// The journal is damaged in the batch whose gate stands at that place of the file, in bytes.
+    /// The journal is damaged in the batch whose gate stands at that offset of the file, in bytes.
     Damaged { at: u64 },
     /// There is no journal.
     NoJournal,

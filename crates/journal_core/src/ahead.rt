@@ -51,7 +51,7 @@ impl Ahead {
         &self.buffer[self.start..self.end]
     }
 
-    /// Lets go of the first bytes.
+    /// Removes the first bytes.
     pub fn skip(&mut self, count: usize)
         requires { count ≤ length self.old }
         ensures { self.new ≡ drop count self.old }
@@ -59,7 +59,7 @@ impl Ahead {
         self.start += count;
     }
 
-    /// Lets go of what it holds, and reads from a place of the disk on: as many bytes as are left there, or as the buffer
+    /// Removes what it holds, and reads from an offset of the disk on: as many bytes as are left there, or as the buffer
     /// takes. After a fault it holds nothing.
     pub fn read<H: Host>(&mut self, host: &mut H, at: u64, left: u64) -> Result<(), Failed>
         requires within { (disk : List ℕ) → (H.outside host.old).disk ≡ Some disk → at + left ≤ length disk }

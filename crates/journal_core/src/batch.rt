@@ -79,7 +79,7 @@ impl Batch {
         self.records.len() == BATCH_MAX
     }
 
-    /// Takes all records away. The room stays.
+    /// Removes all records. The room stays.
     pub fn clear(&mut self)
         ensures { self.new ≡ [] }
     {

@@ -45,7 +45,7 @@ pub enum ScanError {
     #[error("there is no journal")]
     NoJournal,
 
-    /// No batch and no closed gate stands at that place.
+    /// No batch and no closed gate stands at that offset.
     #[error("the journal is damaged at {at}")]
     Damaged { at: u64 },
 }

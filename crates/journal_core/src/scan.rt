@@ -98,7 +98,7 @@ impl Scan {
     }
 
     /// Reads the next batch. True: the batch holds it. False: the next gate is closed. `Damaged` comes exactly where the
-    /// gate at that place stands before no batch, or none stands there. After any answer but true the batch is empty.
+    /// gate at that offset stands before no batch, or none stands there. After any answer but true the batch is empty.
     pub fn next<H: Host>(&mut self, host: &mut H, into: &mut Batch) -> Result<bool, ScanError>
         requires { HasBytes self.old.size (H.outside host.old).disk }
 
@@ -135,7 +135,7 @@ impl Scan {
         self.take_at_gate(into)
     }
 
-    /// The place of the gate of the batch that was read last, or of the first gate, in bytes of the disk.
+    /// The offset of the gate of the batch that was read last, or of the first gate, in bytes of the disk.
     pub fn at(&self) -> u64
         ensures { result ≡ self.now.at }
     {

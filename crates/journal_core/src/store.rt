@@ -5,7 +5,7 @@ ghost use Rattle.host_core.specs.Frames.{OnlyWrites};
 
 use host_core::{Failed, Host};
 
-/// Writes the piece at a place of the disk and syncs.
+/// Writes the piece at an offset of the disk and syncs.
 pub fn store<H: Host>(host: &mut H, at: u64, piece: &[u8]) -> Result<(), Failed>
     requires within { (disk : List ℕ) → (H.outside host.old).disk ≡ Some disk → at ≤ length disk }
     requires fits { at + length piece.now < 2 ^ 64 }

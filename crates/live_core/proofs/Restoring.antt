@@ -141,7 +141,7 @@ module _ (workers : ℕ) (from : Option ℕ) {old mid new : Outside} {recovery :
           subst (λ b. Reads (IsAtRest serving.keeper.journal) (start_of workers b) input 0 serving.session new) read_is
           (subst (λ s. Reads (IsAtRest serving.keeper.journal) (start_of workers read) input 0 s new) (sym finished.session)
           (engine.begins (IsAtRest serving.keeper.journal) (start_of workers read) input _ new refl unfilled refl
-          done.resumes.engine_is workers_are done.resumes.ahead at_rest done.resumes.pending_is (keeps.input ∙ reads.input ∙ begins.input_known)))
+          done.admits.engine_is workers_are done.idle at_rest done.pending_is (keeps.input ∙ reads.input ∙ begins.input_known)))
 
       capacity_is : serving.keeper.journal.capacity ≡ begin.capacity
       capacity_is = finished.capacity ∙ ap (λ b. b.capacity) read_is
@@ -149,7 +149,7 @@ module _ (workers : ℕ) (from : Option ℕ) {old mid new : Outside} {recovery :
     sound : (disk : List ℕ) → old.disk ≡ Some disk → IsSound disk
     sound disk known =
         let done = all_read old.sent disk (begun_at old.sent disk refl known) in
-        record { capacity = after.scan.capacity; held = records_of done.batches; holds = read_holds disk after.scan done.batches done.read is_closed; lawful = done.resumes.lawful }
+        record { capacity = after.scan.capacity; held = records_of done.batches; holds = read_holds disk after.scan done.batches done.read is_closed; lawful = done.admits.lawful }
 
     pub restored : IsReading after.scan after.engine 0 new.disk → NoFault mid new → IsRestored workers from serving old new
     restored reading more = record {

@@ -1,5 +1,5 @@
 -- A session whose journal was read to its end, and one whose journal was not.
-use Rattle.std.specs.Prelude.{◌≡◌, ◌⊎◌, ℕ, ◌<◌, List, [], length, min, take, true, Option, Some}
+use Rattle.std.specs.Prelude.{◌≡◌, ◌⊎◌, ℕ, ◌<◌, ◌≤◌, List, [], length, min, take, true, Option, Some}
 use Rattle.host_core.specs.declared.status.Status.{Status}
 use Rattle.host_core.specs.declared.status.Status.TheVariants.{ReadFault, NoJournal, NoMemory}
 use Rattle.host_core.specs.Outside.{Outside, MayLeave, Elapses, NoFault, Continues}
@@ -21,6 +21,7 @@ use Rattle.engine_core.specs.Sessions.{Start, Answered, Prompt, Starved}
 use Rattle.engine_core.specs.Unwritten.{WritesNothing, AcceptsNone}
 use Rattle.journal_core.specs.Extended.{Extends}
 use Rattle.recovery_core.specs.declared.recovery.Recovery.{Recovery}
+use Rattle.live_core.specs.declared.start.Restoring.{Restoring}
 use Rattle.live_core.specs.declared.start.Serving.{Serving}
 use Rattle.live_core.specs.Safe.{Begin, Begins, start_of, IsSafeOrPending}
 use Rattle.recovery_core.specs.Damage.{IsDamagedAt}
@@ -31,6 +32,13 @@ use Rattle.recovery_core.specs.Starved.{StarvedAtRecord}
 use Rattle.live_core.specs.Written.{HasGrown}
 use Rattle.live_core.specs.InternalKeeping.{HasRoom, Regains}
 use Rattle.recovery_core.specs.Recoveries.{again, HasDamage, StarvesAgain, IsReading, OnlyRecovers, Hinders}
+
+-- room for a start: nothing is in it, what is read of a journal can wait there, and a round has at most as many frames as a batch
+pub record IsRoom (room : Restoring) : Type 0 where
+  pub outbox : room.outbox ≡ []
+  pub waiting : 64 ≤ room.waiting.most
+  pub round : room.round.outcomes ≡ []
+  pub most : (1 ≤ room.round.most) × (room.round.most ≤ 64)
 
 -- a session over what a journal was read into, with this round
 pub record IsFinished (recovery : Recovery) (round : RoundState) (serving : Serving) : Type 0 where

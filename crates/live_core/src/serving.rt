@@ -4,13 +4,14 @@ ghost use Rattle.std.specs.Prelude.{◌≡◌, ◌<◌, ◌≤◌, [], IfOk, len
 ghost use Rattle.engine_core.specs.Serving.{IsReady};
 ghost use Rattle.live_core.specs.Served.{Served};
 ghost use Rattle.live_core.specs.InternalKeeping.{HasRoom};
-ghost use Rattle.live_core.specs.InternalServing.{IsAnswered};
+ghost use Rattle.live_core.specs.InternalServing.{IsRoom, IsAnswered};
 
 use crate::start::{Restoring, Serving, restore};
 use engine_core::{Round, serve_input};
 use host_core::{Host, Status};
 use journal_core::{BATCH_MAX, Batch};
 use price_core::NoMemory;
+use recovery_core::Recovery;
 use std::alloc::Global;
 use std::thread::Threads;
 use stream_core::{Outbox, PIECE, answer_of};
@@ -33,20 +34,17 @@ pub struct ServeOptions {
     pub bytes: u64,
 }
 
-/// Room for what a session sends, keeps and reads, in rounds of so many frames.
-fn room(alloc: Global, frames: usize) -> Result<(Restoring, Vec<u8>), NoMemory>
-    requires frames { frames ≤ BATCH_MAX }
-    ensures outbox { IfOk result (λ room. room.0.outbox ≡ []) }
-    ensures waiting { IfOk result (λ room. room.0.waiting.most ≡ BATCH_MAX) }
-    ensures round { IfOk result (λ room. room.0.round.outcomes ≡ []) }
-    ensures most { IfOk result (λ room. room.0.round.most ≡ frames) }
+/// Room for what a session sends, keeps and reads.
+fn room(alloc: Global, options: &ServeOptions) -> Result<(Restoring, Vec<u8>), NoMemory>
+    requires batch { (1 ≤ options.now.batch) × (options.now.batch ≤ BATCH_MAX) }
+    ensures room { IfOk result (λ room. IsRoom room.0) }
     ensures buffer { IfOk result (λ room. vec_len room.1 ≡ PIECE) }
 {
     let restoring = Restoring {
         outbox: Outbox::new(alloc)?,
         batch: Batch::new(alloc)?,
-        waiting: Round::new(alloc, BATCH_MAX)?,
-        round: Round::new(alloc, frames)?,
+        waiting: Round::new(alloc, Recovery::most_waiting(options.workers))?,
+        round: Round::new(alloc, options.batch as usize)?,
     };
     Ok((restoring, vec![in alloc; 0; PIECE]?))
 }
@@ -90,10 +88,7 @@ fn serve_in<Rt: Threads + Sync, H: Host, G: Gate>(
 ) -> Status
     requires workers { (1 ≤ options.now.workers) × (options.now.workers ≤ 64) }
     requires bytes { options.now.bytes ≤ BYTES_MAX }
-    requires outbox { room.outbox ≡ [] }
-    requires waiting { BATCH_MAX ≤ room.waiting.most }
-    requires round { room.round.outcomes ≡ [] }
-    requires most { (1 ≤ room.round.most) × (room.round.most ≤ BATCH_MAX) }
+    requires room { IsRoom room }
     requires buffer { 0 < length buffer.old }
     ensures served { Served (host.new ≡ host.old) options.now.workers options.now.from options.now.bytes result (H.outside host.old) (H.outside host.new) }
 {
@@ -120,7 +115,7 @@ pub fn serve<Rt: Threads + Sync, H: Host, G: Gate>(
     requires batch { (1 ≤ options.now.batch) × (options.now.batch ≤ BATCH_MAX) }
     ensures served { Served (host.new ≡ host.old) options.now.workers options.now.from options.now.bytes result (H.outside host.old) (H.outside host.new) }
 {
-    match room(alloc, options.batch as usize) {
+    match room(alloc, options) {
         Ok((room, mut buffer)) => serve_in(rt, alloc, host, gate, options, room, &mut buffer),
         Err(_) => Status::NoMemory,
     }

@@ -1,7 +1,7 @@
 //! The start of a session over a journal: its records are evaluated again, and then the journal keeps what is accepted.
 
 ghost use Rattle.std.specs.Prelude.{◌≡◌, ◌≤◌, [], IfOk, IfErr, IsTrue};
-ghost use Rattle.live_core.specs.InternalServing.{IsFinished, IsRestored, IsUnread};
+ghost use Rattle.live_core.specs.InternalServing.{IsRoom, IsFinished, IsRestored, IsUnread};
 
 use crate::keeper::JournalKeeper;
 use engine_core::{Round, Session};
@@ -36,8 +36,8 @@ fn finish(recovery: Recovery, round: Round, batch: Batch) -> Serving
     }
 }
 
-/// Room for what is sent again, and for the records of a batch: as they are read, as they wait to be evaluated, and as they
-/// wait to be answered.
+/// Room for what is sent again, for a batch of the journal, for its records that wait to be evaluated, and for the frames of
+/// the session that wait to be answered.
 #[derive(Drop)]
 pub struct Restoring {
     pub outbox: Outbox,
@@ -58,10 +58,7 @@ pub fn restore<Rt: Threads + Sync, H: Host, G: Gate>(
     room: Restoring,
 ) -> Result<Serving, Status>
     requires workers { (1 ≤ workers) × (workers ≤ 64) }
-    requires outbox { room.outbox ≡ [] }
-    requires waiting { BATCH_MAX ≤ room.waiting.most }
-    requires round { room.round.outcomes ≡ [] }
-    requires most { (1 ≤ room.round.most) × (room.round.most ≤ BATCH_MAX) }
+    requires room { IsRoom room }
     ensures restored { IfOk result (λ serving. IsRestored workers from serving (H.outside host.old) (H.outside host.new)) }
     ensures unread { IfErr result (λ status. IsUnread (host.new ≡ host.old) workers from status (H.outside host.old) (H.outside host.new)) }
 {

@@ -1,9 +1,9 @@
 -- A journal that is read batch by batch.
-use Rattle.std.proofs.Common.{◌≡◌, ◌≢◌, Bool, true, false, inl, inr, ℕ, ◌+◌, ◌-◌, ◌<◌, ◌≤◌, List, [], ◌∷◌, ◌++◌, length, get_or, take, drop, None, refl, sym, ap, subst, ◌∙◌, append_assoc, arith, rules}
+use Rattle.std.proofs.Common.{◌≡◌, ◌≢◌, inl, inr, ℕ, ◌+◌, ◌-◌, ◌<◌, List, [], ◌∷◌, ◌++◌, length, get_or, take, drop, None, refl, sym, ap, subst, ◌∙◌, append_assoc, arith, rules}
 use Rattle.std.specs.Prelude.{Option, Some, Result, Ok, Err, IfErr, reverse}
 use Rattle.std.specs.Result.{IsErrAnd}
 use Rattle.std.specs.Io.KnownBytes.{append_known}
-use Rattle.std.proofs.lemmas.List.{append-nil, length-append, reverse-append, drop_all, take_more, take-append-drop}
+use Rattle.std.proofs.lemmas.List.{append-nil, reverse-append, drop_all, take_more}
 use Rattle.host_core.specs.declared.status.Status.{Status}
 use Rattle.host_core.specs.declared.fault.Fault.{Fault}
 use Rattle.host_core.specs.declared.fault.Fault.TheVariants as fault
@@ -23,10 +23,9 @@ use Rattle.journal_core.specs.AtGate.{IsDamaged}
 use Rattle.journal_core.specs.Scan.{ScanState, HasRead}
 use Rattle.journal_core.proofs.Images.{from_gate}
 use Rattle.journal_core.proofs.Readable.{records_more}
-use Rattle.rulebook.specs.Admission.{verdict, IsLawful}
+use Rattle.rulebook.specs.Admission.{IsLawful}
 use Rattle.wire_out.specs.Spelling.{spelling}
 use Rattle.rulebook.specs.Sent.{hello, spelled}
-use Rattle.market_core.specs.Kinds.{TakesMemory}
 use Rattle.shard_core.specs.Block.{AreAdmissible}
 use Rattle.evaluator_core.specs.Evaluating.{IsAhead, IsIdle}
 use Rattle.stream_core.specs.Pending.{Expects, SendsPrefix}
@@ -34,13 +33,12 @@ use Rattle.stream_core.proofs.Pending.{expects_still}
 use Rattle.stream_core.proofs.Sending.{waits, sends_on, sends_longer}
 use Rattle.engine_core.specs.declared.engine.Engine.{Engine}
 use Rattle.engine_core.specs.EngineState.{Represents}
-use Rattle.engine_core.specs.Rounds.{RoundState}
-use Rattle.engine_core.proofs.Answering.{drop_one}
+use Rattle.engine_core.specs.Rounds.{Outcome, RoundState, records_in}
 use Rattle.recovery_core.specs.declared.recovery.Recovery.{Recovery}
-use Rattle.recovery_core.specs.Recoveries.{again, opening, Admits, Resumes, IsPart, Covers, SendsAgain, StarvesAgain, Rests, Recovers, Resuming, OnlyRecovers, Hinders}
+use Rattle.recovery_core.specs.Recoveries.{again, opening, Admits, Refuses, Resumes, IsPart, Covers, SendsAgain, StarvesAgain, Rests, Recovers, Gathers, OnlyRecovers, Hinders}
 use Rattle.recovery_core.specs.Damage.{IsDamagedAt}
 use Rattle.recovery_core.specs.Ends.{TellsNoJournal}
-use Rattle.recovery_core.specs.Starved.{StarvedAtRecord}
+use Rattle.recovery_core.specs.Starved.{TakesFirst, StarvedAtRecord}
 use Rattle.rulebook.proofs.Sending.{again_first}
 
 -- a run that sends what is asked for again of some records, and so far none of more
@@ -68,14 +66,6 @@ limited {accepted = accepted} {evaluated = evaluated} limit next is r =
 pub in_parts : (records first second : List Record) → with_batch records (first ++ second) ≡ reverse second ++ with_batch records first
 in_parts records first second = ap (λ r. r ++ records) (reverse-append first second) ∙ append_assoc (reverse second) (reverse first) records
 
-no_more : (records : List Record) → length records ≤ 0 → records ≡ []
-no_more [] none = refl
-no_more (x ∷ records) none = absurd (omega arith)
-
-a_first : (records : List Record) → 0 < length records → (x : Record) × (later : List Record) × (records ≡ x ∷ later)
-a_first [] some = absurd (omega arith)
-a_first (x ∷ later) some = (x, later, refl)
-
 -- want of memory among some records is want of memory among more
 pub starved_further : {workers : ℕ} {from : Option ℕ} {records all : List Record} {begin now : Option (List ℕ)} → IsPart records all → StarvedAtRecord workers from records begin now
     → StarvedAtRecord workers from all begin now
@@ -93,161 +83,51 @@ starved_further part hungry = record {
 pub with_more : (held : List Record) (x : Record) (later : List Record) → with_batch held (x ∷ later) ≡ with_batch (x ∷ held) later
 with_more held x later = in_parts held (x ∷ []) later
 
-pub lawful_with : (capacity : ℕ) (held records : List Record) → IsLawful capacity held → AreAdmissible capacity held records → IsLawful capacity (with_batch held records)
-lawful_with capacity held [] lawful admissible = lawful
-lawful_with capacity held (x ∷ records) lawful admissible =
-    subst (IsLawful capacity) (sym (with_more held x records)) (lawful_with capacity (x ∷ held) records (admissible.0, lawful) admissible.1)
+-- what is lawful behind others was lawful without it
+admissible_in : (capacity : ℕ) (held records : List Record) → IsLawful capacity (with_batch held records) → AreAdmissible capacity held records × IsLawful capacity held
+admissible_in capacity held [] lawful = (tt, lawful)
+admissible_in capacity held (x ∷ records) lawful =
+    let first = admissible_in capacity (x ∷ held) records (subst (IsLawful capacity) (with_more held x records) lawful) in
+    ((first.1.0, first.0), first.1.1)
 
-pub admissible_more : (capacity : ℕ) (held records : List Record) (x : Record) → AreAdmissible capacity held records → verdict capacity (with_batch held records) x ≡ None
-    → AreAdmissible capacity held (records ++ x ∷ [])
-admissible_more capacity held [] x admissible passed = (passed, tt)
-admissible_more capacity held (y ∷ records) x admissible passed =
-    (admissible.0, admissible_more capacity (y ∷ held) records x admissible.1 (ap (λ (r : List Record). verdict capacity r x) (sym (with_more held y records)) ∙ passed))
+pub with_next : (held records : List Record) (count : ℕ) (x : Record) → count < length records → x ≡ get_or records count x → with_batch held (take (count + 1) records) ≡ x ∷ with_batch held (take count records)
+with_next held records count x lt is =
+    ap (λ (b : List Record). with_batch held b) (take_more records count x lt ∙ ap (λ (y : Record). take count records ++ y ∷ []) (sym is)) ∙ in_parts held (take count records) (x ∷ [])
 
--- the first of a batch that may not follow those before it
-pub refused_next : (capacity : ℕ) (held records : List Record) (count : ℕ) (x : Record) → count < length records → x ≡ get_or records count x → verdict capacity (with_batch held (take count records)) x ≢ None
-    → (y : Record) (later : List Record) → drop count records ≡ y ∷ later → verdict capacity (with_batch held (take count records)) y ≢ None
-refused_next capacity held records count x lt at refused y later is =
-    let same : y ≡ x = cc (drop_one records count x lt at, is) in
-    subst (λ (z : Record). verdict capacity (with_batch held (take count records)) z ≢ None) (sym same) refused
+-- Some of the records that were accepted wait.
+module _ {from : Option ℕ} {capacity : ℕ} {accepted waiting prepared : List Record} {begin : Option (List ℕ)} {engine : Engine} {outbox : List ℕ} {now : Outside}
+    (r : Resumes from capacity accepted waiting prepared begin engine outbox now) where
+  pub passes : AreAdmissible capacity r.held waiting
+  passes = (admissible_in capacity r.held waiting (subst (IsLawful capacity) (sym r.whole) r.admits.lawful)).0
 
--- the records that are held stand behind those of a batch
-pub part_with : (held records : List Record) → IsPart held (with_batch held records)
-part_with held records = record { more = reverse records; whole = refl }
+  -- while nothing is sent but what was pending
+  pub sends_pending : {new : Outside} → ((begin : Option (List ℕ)) (text : List ℕ) → Expects begin now.sent outbox text → Elapses now new (SendsPrefix begin text now))
+      → Elapses now new (SendsPrefix begin (again from accepted) now)
+  sends_pending run = sends_part from (record { more = reverse waiting; whole = r.whole }) (run begin (again from r.held) r.pending_is)
 
--- A record in a batch.
-module _ (held records : List Record) (count : ℕ) (x : Record) (lt : count < length records) (is : x ≡ get_or records count x) where
-  pub with_next : with_batch held (take (count + 1) records) ≡ x ∷ with_batch held (take count records)
-  with_next = ap (λ (b : List Record). with_batch held b) (take_more records count x lt ∙ ap (λ (y : Record). take count records ++ y ∷ []) (sym is)) ∙ in_parts held (take count records) (x ∷ [])
+  -- memory is short before the first of them, or for it
+  pub starved_now : {workers : ℕ} {sent : Option (List ℕ)} → (workers ≡ 1 → TakesFirst (reverse waiting)) → sent ≡ append_known begin (again from r.held) → StarvedAtRecord workers from accepted begin sent
+  starved_now short sent = record { before = r.held; behind = reverse waiting; parts = sym r.whole; short = short; sent = sent }
 
-  pub part_there : IsPart (x ∷ with_batch held (take count records)) (with_batch held records)
-  part_there = record {
-    more = reverse (drop (count + 1) records);
-    whole = ap (λ (r : List Record). reverse (drop (count + 1) records) ++ r) (sym with_next)
-        ∙ sym (in_parts held (take (count + 1) records) (drop (count + 1) records)) ∙ ap (λ (b : List Record). with_batch held b) (take-append-drop (count + 1) records);
-  }
-
-  -- memory was short for it
-  pub starved_there : {workers : ℕ} {from : Option ℕ} {begin now : Option (List ℕ)} → (workers ≡ 1 → TakesMemory x) → now ≡ append_known begin (again from (with_batch held (take count records)))
-      → StarvedAtRecord workers from (with_batch held records) begin now
-  starved_there takes sent = record {
-    before = with_batch held (take count records);
-    behind = part_there.more ++ x ∷ [];
-    parts = sym part_there.whole ∙ sym (append_assoc part_there.more (x ∷ []) (with_batch held (take count records)));
-    short = λ one. record { x = x; later = part_there.more; parts = refl; takes = takes one };
-    sent = sent;
-  }
-
--- what was admitted of the batch that was read
-pub admitted_of : {from : Option ℕ} {begin : Option (List ℕ)} {disk : List ℕ} {batch : List Record} {recovery : Recovery} {now : Outside} (s : Resuming from begin disk batch recovery now)
-    → {taken admitted : List Record} {engine : Engine} → admitted ≡ taken → ((capacity : ℕ) (held : List Record) → Represents recovery.engine capacity held held → Admits capacity held batch taken engine)
-    → Admits recovery.scan.capacity (records_of s.batches) batch admitted engine
-admitted_of {batch = batch} {recovery = recovery} s {engine = engine} same admits =
-    subst (λ (xs : List Record). Admits recovery.scan.capacity (records_of s.batches) batch xs engine) (sym same)
-    (admits recovery.scan.capacity (records_of s.batches) s.resumes.engine_is)
-
--- A batch of which records are admitted.
-module _ {from : Option ℕ} {begin : Option (List ℕ)} {disk : List ℕ} {batch : List Record} {recovery : Recovery} {now : Outside} (s : Resuming from begin disk batch recovery now)
-    {admitted : List Record} {engine : Engine} (a : Admits recovery.scan.capacity (records_of s.batches) batch admitted engine) where
-  abbrev after : List Record
-  after = with_batch (records_of s.batches) admitted
-
-  lawful_after : IsLawful recovery.scan.capacity after
-  lawful_after = lawful_with recovery.scan.capacity (records_of s.batches) admitted s.resumes.lawful a.admissible
-
-  -- they stand in each list that covers the disk
-  covered : (all : List Record) → Covers disk all → IsPart after all
-  covered all covers = covers _ _ _ _ _ s.read.leads (record {
-    more = reverse a.left;
-    whole = sym (in_parts (records_of s.batches) admitted a.left) ∙ ap (λ b. with_batch (records_of s.batches) b) a.parts ∙ sym (records_more s.batches batch);
-  }) lawful_after
-
-  -- they wait, evaluated ahead
-  pub waits_ahead : {list : List Record} (prepared : Engine) (outbox : List ℕ) (new : Outside) → list ≡ admitted → engine ≡ record recovery.engine { admission = engine.admission }
-      → ((capacity : ℕ) (accepted evaluated : List Record) → Represents engine capacity accepted evaluated → IsIdle engine.evaluator → AreAdmissible capacity evaluated admitted → Represents prepared capacity accepted evaluated)
-      → (IsIdle engine.evaluator → IsAhead prepared.evaluator admitted)
-      → ((begin : Option (List ℕ)) (text : List ℕ) → Expects begin now.sent recovery.outbox text → Expects begin new.sent outbox text)
-      → Resumes (again from) recovery.scan.capacity (records_of s.batches) list begin prepared outbox new
-  waits_ahead prepared outbox new same rest represents ahead pending =
-      let idle : IsIdle engine.evaluator = subst (λ (e : Engine). IsIdle e.evaluator) (sym rest) s.resumes.ahead in
-      subst (λ (xs : List Record). Resumes (again from) recovery.scan.capacity (records_of s.batches) xs begin prepared outbox new) (sym same) (record {
-        engine_is = represents recovery.scan.capacity after (records_of s.batches) a.engine_is idle a.admissible;
-        ahead = ahead idle;
-        lawful = s.resumes.lawful;
-        admissible = a.admissible;
-        pending_is = pending begin (again from (records_of s.batches)) s.resumes.pending_is;
+  -- they are evaluated ahead, and what is pending stays so
+  pub resumes_ahead : {items list : List Record} → items ≡ waiting → list ≡ items → (next : Engine) (unsent : List ℕ) (new : Outside)
+      → (Represents engine capacity accepted r.held → IsAhead engine.evaluator prepared → AreAdmissible capacity r.held items → Represents next capacity accepted r.held)
+      → (IsAhead engine.evaluator prepared → IsAhead next.evaluator items) → (Expects begin now.sent outbox (again from r.held) → Expects begin new.sent unsent (again from r.held))
+      → Resumes from capacity accepted list list begin next unsent new
+  resumes_ahead {items} {list} same is next unsent new represents ahead pending =
+      subst (λ (xs : List Record). Resumes from capacity accepted xs xs begin next unsent new) (sym (is ∙ same)) (record {
+        held = r.held;
+        whole = r.whole;
+        admits = record { engine_is = represents r.admits.engine_is r.ahead (subst (AreAdmissible capacity r.held) (sym same) passes); lawful = r.admits.lawful };
+        ahead = subst (IsAhead next.evaluator) same (ahead r.ahead);
+        pending_is = pending r.pending_is;
       })
 
-  -- while they are evaluated, nothing is sent but what waited and their messages
-  pub sends_ahead : {new : Outside} → ((begin : Option (List ℕ)) (text : List ℕ) → Expects begin now.sent recovery.outbox text → Elapses now new (SendsPrefix begin text now)) → SendsAgain from begin disk now new
-  sends_ahead run all covers =
-      sends_part from (covered all covers) (sends_part from (part_with (records_of s.batches) admitted) (run begin (again from (records_of s.batches)) s.resumes.pending_is))
-
-  pub sends_them : {list : List Record} {mid new : Outside} → list ≡ admitted → SendsAgain from begin disk now mid
-      → Elapses mid new (SendsPrefix begin (again from (with_batch (records_of s.batches) list)) mid) → SendsAgain from begin disk now new
-  sends_them {mid = mid} {new = new} same first run all covers =
-      sends_then (first all covers) (sends_part from (covered all covers)
-      (subst (λ (xs : List Record). Elapses mid new (SendsPrefix begin (again from (with_batch (records_of s.batches) xs)) mid)) same run))
-
-  -- memory is short before the first of them, or at one
-  pub starves_ahead : {workers : ℕ} (new : Outside) → (workers ≡ 1 → ⊥) → new.sent ≡ append_known begin (again from (records_of s.batches)) → StarvesAgain workers from begin disk new
-  starves_ahead new several sent all covers =
-      let part = covered all covers in
-      record {
-        before = records_of s.batches;
-        behind = part.more ++ reverse admitted;
-        parts = sym part.whole ∙ sym (append_assoc part.more (reverse admitted) (records_of s.batches));
-        short = λ one. absurd (several one);
-        sent = sent;
-      }
-
-  pub starves_among : {list : List Record} {given workers : ℕ} (new : Outside) → list ≡ admitted → given ≡ workers → StarvedAtRecord given from (with_batch (records_of s.batches) list) begin new.sent
-      → StarvesAgain workers from begin disk new
-  starves_among {list} {workers = workers} new same is hungry all covers =
-      let hungry_too : StarvedAtRecord workers from (with_batch (records_of s.batches) list) begin new.sent = subst (λ (n : ℕ). StarvedAtRecord n from (with_batch (records_of s.batches) list) begin new.sent) is hungry in
-      starved_further (covered all covers) (subst (λ (xs : List Record). StarvedAtRecord workers from (with_batch (records_of s.batches) xs) begin new.sent) same hungry_too)
-
-  -- all of them were admitted
-  pub all_resumed : {list : List Record} (resumed : Engine) (outbox : List ℕ) (waiting : RoundState) {new : Outside} → list ≡ admitted → length batch ≤ length admitted → Rests disk new
-      → Resumes (again from) recovery.scan.capacity (with_batch (records_of s.batches) list) [] begin resumed outbox new → Recovers (again from) begin disk (record { scan = recovery.scan; engine = resumed; outbox = outbox; waiting = waiting }) new
-  all_resumed resumed outbox waiting {new} same le rests resumes =
-      let none : a.left ≡ [] = no_more a.left (omega (arith, le, ap length a.parts, length-append admitted a.left)) in
-      let all : admitted ≡ batch = sym (append-nil admitted) ∙ ap (λ (l : List Record). admitted ++ l) (sym none) ∙ a.parts in
-      record {
-        rests = rests;
-        batches = s.batches ++ batch ∷ [];
-        read = s.read;
-        resumes = subst (λ (r : List Record). Resumes (again from) recovery.scan.capacity r [] begin resumed outbox new)
-            (ap (λ (b : List Record). with_batch (records_of s.batches) b) (same ∙ all) ∙ sym (records_more s.batches batch)) resumes;
-      }
-
-  -- the first that was not may not follow
-  pub bad_behind : length admitted < length batch → IsDamagedAt recovery.scan.capacity recovery.scan.at after disk
-  bad_behind lt =
-      let some = a_first a.left (omega (arith, lt, ap length a.parts, length-append admitted a.left)) in
-      record {
-        batches = s.batches;
-        rest = s.rest;
-        leads = s.leads;
-        lawful = lawful_after;
-        why = inr (record {
-          good = admitted;
-          bad = some.0;
-          later = some.1;
-          next = recovery.scan.gate;
-          rest = recovery.scan.ahead ++ s.read.rest;
-          leads = subst (λ b. LeadsTo recovery.scan.capacity recovery.scan.gate (s.batches ++ b ∷ []) disk (recovery.scan.ahead ++ s.read.rest))
-              (sym a.parts ∙ ap (λ (l : List Record). admitted ++ l) some.2) s.read.leads;
-          same = refl;
-          refused = a.refused some.0 some.1 some.2;
-        });
-      }
-
--- What was read so far, and what is read or sent then.
+-- The journal was read to its end, and is greeted for.
 module _ (from : Option ℕ) {begin : Option (List ℕ)} {disk : List ℕ} {recovery : Recovery} {old : Outside} (r : Recovers (again from) begin disk recovery old) {new : Outside} where
-  pub sends_read : ((begin : Option (List ℕ)) (text : List ℕ) → Expects begin old.sent recovery.outbox text → Elapses old new (SendsPrefix begin text old)) → SendsAgain from begin disk old new
-  sends_read run all covers =
-      sends_part from (covers _ _ _ _ _ r.read.leads (record { more = []; whole = refl }) r.resumes.lawful) (run begin (again from (records_of r.batches)) r.resumes.pending_is)
+  pub sends_greeting : ((begin : Option (List ℕ)) (text : List ℕ) → Expects begin old.sent recovery.outbox text → Elapses old new (SendsPrefix begin text old)) → SendsAgain from begin disk old new
+  sends_greeting run all covers =
+      sends_part from (covers _ _ _ _ _ r.read.leads (record { more = []; whole = refl }) r.admits.lawful) (run begin (again from (records_of r.batches)) r.pending_is)
 
   pub greeted : OnlySends old new → (outbox : List ℕ)
       → ((capacity : ℕ) (held : List Record) (begin : Option (List ℕ)) (text : List ℕ) → Represents recovery.engine capacity held held → Expects begin old.sent recovery.outbox text
@@ -256,68 +136,128 @@ module _ (from : Option ℕ) {begin : Option (List ℕ)} {disk : List ℕ} {reco
     rests = sends_rests sends r.rests;
     batches = r.batches;
     read = r.read;
-    resumes = record { engine_is = r.resumes.engine_is; ahead = r.resumes.ahead; lawful = r.resumes.lawful; admissible = tt; pending_is = expects recovery.scan.capacity _ begin _ r.resumes.engine_is r.resumes.pending_is };
+    admits = r.admits;
+    idle = r.idle;
+    pending_is = expects recovery.scan.capacity _ begin _ r.admits.engine_is r.pending_is;
   }
 
-  module _ (reads : OnlyReadsDisk old new) where
-    pub reads_again : SendsAgain from begin disk old new
-    reads_again = sends_read (λ begin text expects. widened reads.moments _ (waits begin old recovery.outbox text expects))
+-- nothing waits yet
+pub gathers_first : {from : Option ℕ} {begin : Option (List ℕ)} {disk : List ℕ} {recovery : Recovery} {now : Outside} {waiting : RoundState} → Recovers (again from) begin disk recovery now
+    → waiting ≡ record recovery.waiting { outcomes = [] } → Gathers from begin disk (record recovery { waiting = waiting }) now
+gathers_first {from} {begin} {disk} {recovery} {now} r none =
+    subst (λ (w : RoundState). Gathers from begin disk (record recovery { waiting = w }) now) (sym none)
+    (record { rests = r.rests; batches = r.batches; read = r.read; resumes = record { held = records_of r.batches; whole = refl; admits = r.admits; ahead = r.idle; pending_is = r.pending_is } })
 
-    rests_read : Rests disk new
-    rests_read = record { known = reads.disk ∙ r.rests.known; settled = still_settled reads.moments reads.disk r.rests.settled }
-
-    resumes_read : (capacity : ℕ) → capacity ≡ recovery.scan.capacity → Resumes (again from) capacity (records_of r.batches) [] begin recovery.engine recovery.outbox new
-    resumes_read capacity same = rw same (record { engine_is = r.resumes.engine_is; ahead = r.resumes.ahead; lawful = r.resumes.lawful; admissible = tt; pending_is = expects_still new.sent reads.sent r.resumes.pending_is })
-
-    -- neither a closed gate nor a batch
-    pub bad_form_there : (at : ℕ) → at ≡ recovery.scan.gate
-        → ((batches : _) (disk : _) → old.disk ≡ Some disk → HasRead recovery.scan batches disk → IsDamaged (drop at disk)) → IsDamagedAt recovery.scan.capacity at (records_of r.batches) disk
-    bad_form_there at there damaged = record {
-      batches = r.batches;
-      rest = recovery.scan.ahead ++ r.read.rest;
-      leads = rw there r.read.leads;
-      lawful = r.resumes.lawful;
-      why = inl (record { same = refl; damaged = subst IsDamaged (ap (λ g. drop g disk) there ∙ from_gate r.read.leads) (damaged r.batches disk r.rests.known r.read) });
+-- nothing waits any more
+pub gathered : {from : Option ℕ} {begin : Option (List ℕ)} {disk : List ℕ} {recovery : Recovery} {now : Outside} → Gathers from begin disk recovery now
+    → recovery.waiting.outcomes ≡ [] → Recovers (again from) begin disk recovery now
+gathered {from} {begin} {recovery = recovery} {now = now} g none =
+    let last : Resumes from recovery.scan.capacity (records_of g.batches) [] [] begin recovery.engine recovery.outbox now =
+    subst (λ (outcomes : List Outcome). Resumes from recovery.scan.capacity (records_of g.batches) (records_in outcomes) [] begin recovery.engine recovery.outbox now) none g.resumes in
+    record {
+      rests = g.rests;
+      batches = g.batches;
+      read = g.read;
+      admits = subst (λ (held : List Record). Admits recovery.scan.capacity (records_of g.batches) held recovery.engine) last.whole last.admits;
+      idle = last.ahead;
+      pending_is = subst (λ (held : List Record). Expects begin now.sent recovery.outbox (again from held)) last.whole last.pending_is;
     }
 
--- The same for whatever there was to read first, with all that was sent since.
-module _ (from : Option ℕ) {first recovery : Recovery} {start old : Outside} (so_far : (begin : Option (List ℕ)) (disk : List ℕ) → Recovers (again from) begin disk first start
-    → Recovers (again from) begin disk recovery old × SendsAgain from begin disk start old) {new : Outside} (reads : OnlyReadsDisk old new) where
-  pub read_on : (begin : Option (List ℕ)) (disk : List ℕ) → Recovers (again from) begin disk first start → SendsAgain from begin disk start new
-  read_on begin disk given all covers =
-      let r = so_far begin disk given in
-      sends_then (r.1 all covers) (reads_again from r.0 reads all covers)
+-- Some of the records that were read wait.
+module _ {from : Option ℕ} {begin : Option (List ℕ)} {disk : List ℕ} {recovery : Recovery} {now : Outside} (g : Gathers from begin disk recovery now) where
+  -- all that were read stand in each list that covers the disk
+  covered : (all : List Record) → Covers disk all → IsPart (records_of g.batches) all
+  covered all covers = covers _ _ _ _ _ g.read.leads (record { more = []; whole = refl }) g.resumes.admits.lawful
 
-  -- a batch
-  pub has_next : (scan : ScanState) → scan.capacity ≡ recovery.scan.capacity → {batch records : List Record} → records ≡ batch → {answer : Result Bool ScanError} {more : Bool} → answer ≡ Ok more → more ≡ true
-      → (answer ≡ Ok true → scan.at ≡ recovery.scan.gate)
-      → (answer ≡ Ok true → (batches : _) (disk : _) → old.disk ≡ Some disk → HasRead recovery.scan batches disk → HasRead scan (batches ++ batch ∷ []) disk)
-      → (begin : Option (List ℕ)) (disk : List ℕ) → Recovers (again from) begin disk first start
-      → Resuming from begin disk records (record recovery { scan = scan }) new × SendsAgain from begin disk start new
-  has_next scan same is was found at read begin disk given =
-      let r = (so_far begin disk given).0 in (
-        record {
-          rests = rests_read from r reads;
-          batches = r.batches;
-          rest = recovery.scan.ahead ++ r.read.rest;
-          leads = rw (same, at (was ∙ ap Ok found)) r.read.leads;
-          read = subst (λ b. HasRead scan (r.batches ++ b ∷ []) disk) (sym is) (read (was ∙ ap Ok found) r.batches disk r.rests.known r.read);
-          resumes = resumes_read from r reads scan.capacity same;
-        },
-        read_on begin disk given,
-      )
+  pub sends_all : {old new : Outside} → Elapses old new (SendsPrefix begin (again from (records_of g.batches)) old) → SendsAgain from begin disk old new
+  sends_all run all covers = sends_part from (covered all covers) run
 
-  -- the end
-  pub has_end : (scan : ScanState) → scan.capacity ≡ recovery.scan.capacity
-      → {answer : Result Bool ScanError} → (answer ≢ Ok true → (batches : _) (disk : _) → old.disk ≡ Some disk → HasRead recovery.scan batches disk → HasRead scan batches disk)
-      → {more : Bool} → answer ≡ Ok more → more ≡ false
-      → (begin : Option (List ℕ)) (disk : List ℕ) → Recovers (again from) begin disk first start
-      → Recovers (again from) begin disk (record recovery { scan = scan }) new × SendsAgain from begin disk start new
-  has_end scan same read was none begin disk given =
-      let r = (so_far begin disk given).0 in (
-        record { rests = rests_read from r reads; batches = r.batches; read = read (λ is. cc) r.batches disk r.rests.known r.read; resumes = resumes_read from r reads scan.capacity same },
-        read_on begin disk given,
-      )
+  pub sends_nothing_read : {new : Outside} → OnlyReadsDisk now new → SendsAgain from begin disk now new
+  sends_nothing_read reads = sends_all (sends_pending g.resumes (λ begin text expects. widened reads.moments _ (waits begin now recovery.outbox text expects)))
+
+  pub starves : {given workers : ℕ} (new : Outside) → given ≡ workers → StarvedAtRecord given from (records_of g.batches) begin new.sent → StarvesAgain workers from begin disk new
+  starves new same hungry all covers =
+      starved_further (covered all covers) (subst (λ (n : ℕ). StarvedAtRecord n from (records_of g.batches) begin new.sent) same hungry)
+
+  -- all of them are evaluated
+  pub resumed : (engine : Engine) (outbox : List ℕ) {after : RoundState} {new : Outside} → after ≡ record recovery.waiting { outcomes = [] } → Rests disk new
+      → Resumes from recovery.scan.capacity (records_of g.batches) [] [] begin engine outbox new
+      → Gathers from begin disk (record { scan = recovery.scan; engine = engine; outbox = outbox; waiting = after }) new
+  resumed engine outbox {new = new} none rests resumes =
+      subst (λ (w : RoundState). Gathers from begin disk (record { scan = recovery.scan; engine = engine; outbox = outbox; waiting = w }) new) (sym none)
+      (record { rests = rests; batches = g.batches; read = g.read; resumes = resumes })
+
+  -- It is read on.
+  module _ {new : Outside} (reads : OnlyReadsDisk now new) (scan : ScanState) (same : scan.capacity ≡ recovery.scan.capacity) where
+    gathers_on : {batches : List (List Record)} → HasRead scan batches disk → (engine : Engine) (waiting : RoundState) → engine ≡ record recovery.engine { admission = engine.admission }
+        → with_batch g.resumes.held (records_in waiting.outcomes) ≡ records_of batches → Admits recovery.scan.capacity (records_of batches) g.resumes.held engine
+        → Gathers from begin disk (record { scan = scan; engine = engine; outbox = recovery.outbox; waiting = waiting }) new
+    gathers_on {batches} read engine waiting rest whole admits = record {
+      rests = record { known = reads.disk ∙ g.rests.known; settled = still_settled reads.moments reads.disk g.rests.settled };
+      batches = batches;
+      read = read;
+      resumes = rw same (record {
+        held = g.resumes.held;
+        whole = whole;
+        admits = admits;
+        ahead = subst (λ (e : Engine). IsIdle e.evaluator) (sym rest) g.resumes.ahead;
+        pending_is = expects_still new.sent reads.sent g.resumes.pending_is;
+      });
+    }
+
+    -- to the end
+    pub gathers_end : HasRead scan g.batches disk → Gathers from begin disk (record recovery { scan = scan }) new
+    gathers_end read = gathers_on read recovery.engine recovery.waiting refl g.resumes.whole g.resumes.admits
+
+    -- a batch
+    module _ {list batch : List Record} (is : list ≡ batch) (read : HasRead scan (g.batches ++ batch ∷ []) disk) where
+      -- all of it was admitted
+      pub gathers_batch : (engine : Engine) (after : RoundState) → engine ≡ record recovery.engine { admission = engine.admission } → records_in after.outcomes ≡ records_in recovery.waiting.outcomes ++ list
+          → Admits recovery.scan.capacity (with_batch (records_of g.batches) list) g.resumes.held engine
+          → Gathers from begin disk (record { scan = scan; engine = engine; outbox = recovery.outbox; waiting = after }) new
+      gathers_batch engine after rest waits admits =
+          let more : with_batch (records_of g.batches) list ≡ records_of (g.batches ++ batch ∷ []) = ap (λ (b : List Record). with_batch (records_of g.batches) b) is ∙ sym (records_more g.batches batch) in
+          gathers_on read engine after rest
+          (ap (λ (b : List Record). with_batch g.resumes.held b) waits ∙ in_parts g.resumes.held (records_in recovery.waiting.outcomes) list ∙ ap (λ (r : List Record). with_batch r list) g.resumes.whole ∙ more)
+          (subst (λ (r : List Record). Admits recovery.scan.capacity r g.resumes.held engine) more admits)
+
+      -- a record of it may not follow
+      pub bad_record_there : scan.at ≡ recovery.scan.gate → (r : Refuses recovery.scan.capacity (records_of g.batches) list) → IsDamagedAt recovery.scan.capacity scan.at (with_batch (records_of g.batches) r.good) disk
+      bad_record_there at r = record {
+        batches = g.batches;
+        rest = recovery.scan.ahead ++ g.read.rest;
+        leads = rw at g.read.leads;
+        lawful = r.lawful;
+        why = inr (record {
+          good = r.good;
+          bad = r.bad;
+          later = r.later;
+          next = scan.gate;
+          rest = scan.ahead ++ read.rest;
+          leads = subst (λ (b : List Record). LeadsTo recovery.scan.capacity scan.gate (g.batches ++ b ∷ []) disk (scan.ahead ++ read.rest)) (sym (r.parts ∙ is))
+              (subst (λ (capacity : ℕ). LeadsTo capacity scan.gate (g.batches ++ batch ∷ []) disk (scan.ahead ++ read.rest)) same read.leads);
+          same = refl;
+          refused = r.refused;
+        });
+      }
+
+  -- neither a closed gate nor a batch stands there
+  pub bad_form_there : (at : ℕ) → at ≡ recovery.scan.gate → IsDamaged (drop at disk) → IsDamagedAt recovery.scan.capacity at (records_of g.batches) disk
+  bad_form_there at there damaged = record {
+    batches = g.batches;
+    rest = recovery.scan.ahead ++ g.read.rest;
+    leads = rw there g.read.leads;
+    lawful = g.resumes.admits.lawful;
+    why = inl (record { same = refl; damaged = subst IsDamaged (ap (λ (gate : ℕ). drop gate disk) there ∙ from_gate g.read.leads) damaged });
+  }
+
+-- one run after another, and one in which only the disk is read
+pub again_then : (from : Option ℕ) {begin : Option (List ℕ)} {disk : List ℕ} {old mid new : Outside} → SendsAgain from begin disk old mid → SendsAgain from begin disk mid new → SendsAgain from begin disk old new
+again_then from first second all covers = sends_then (first all covers) (second all covers)
+
+pub read_on : {from : Option ℕ} {begin : Option (List ℕ)} {disk : List ℕ} {recovery : Recovery} {start old new : Outside} → Gathers from begin disk recovery old × SendsAgain from begin disk start old
+    → OnlyReadsDisk old new → SendsAgain from begin disk start new
+read_on {from} so_far reads = again_then from so_far.1 (sends_nothing_read so_far.0 reads)
 
 -- What is left alone.
 

@@ -9,10 +9,10 @@ use Rattle.journal_core.specs.Scan.{ScanState, HasRead, IsScanOf}
 use Rattle.rulebook.specs.Admission.{verdict, IsLawful}
 use Rattle.wire_out.specs.Spelling.{spelling}
 use Rattle.rulebook.specs.Sent.{hello, sent_again, spelled}
-use Rattle.shard_core.specs.Block.{AreAdmissible}
-use Rattle.evaluator_core.specs.Evaluating.{IsAhead}
+use Rattle.evaluator_core.specs.Evaluating.{IsAhead, IsIdle}
 use Rattle.engine_core.specs.declared.engine.Engine.{Engine}
 use Rattle.engine_core.specs.EngineState.{Represents, IsRoomy}
+use Rattle.engine_core.specs.Rounds.{records_in}
 use Rattle.stream_core.specs.Pending.{Expects, SendsPrefix}
 use Rattle.recovery_core.specs.Damage.{IsDamagedAt}
 use Rattle.recovery_core.specs.Starved.{StarvedAtRecord}
@@ -33,14 +33,19 @@ pub record IsSmall (engine : Engine) : Type 0 where
   pub evaluated : engine.evaluated ≤ engine.admission.count
   pub few : engine.published ≤ 262146 * engine.evaluated
 
--- An engine has evaluated these lawful records, for which this text is expected. Behind them it has accepted those that wait,
--- the oldest first, and where there are several workers has evaluated them ahead.
-pub record Resumes (text : List Record → List ℕ) (capacity : ℕ) (held waiting : List Record) (begin : Option (List ℕ)) (engine : Engine) (outbox : List ℕ) (now : Outside) : Type 0 where
-  pub engine_is : Represents engine capacity (with_batch held waiting) held
-  pub ahead : IsAhead engine.evaluator waiting
-  pub lawful : IsLawful capacity held
-  pub admissible : AreAdmissible capacity held waiting
-  pub pending_is : Expects begin now.sent outbox (text held)
+-- an engine has accepted these records, which are lawful, and has evaluated those
+pub record Admits (capacity : ℕ) (accepted evaluated : List Record) (engine : Engine) : Type 0 where
+  pub engine_is : Represents engine capacity accepted evaluated
+  pub lawful : IsLawful capacity accepted
+
+-- An engine has accepted these records, and has evaluated all but those that wait, the oldest first. The messages are expected that
+-- are asked for again of what it has evaluated. Where there are several workers, these are evaluated ahead.
+pub record Resumes (from : Option ℕ) (capacity : ℕ) (accepted waiting prepared : List Record) (begin : Option (List ℕ)) (engine : Engine) (outbox : List ℕ) (now : Outside) : Type 0 where
+  pub held : List Record
+  pub whole : with_batch held waiting ≡ accepted
+  pub admits : Admits capacity accepted held engine
+  pub ahead : IsAhead engine.evaluator prepared
+  pub pending_is : Expects begin now.sent outbox (again from held)
 
 -- these records stand behind others in a list
 pub record IsPart (records all : List Record) : Type 0 where
@@ -60,14 +65,14 @@ SendsAgain from begin disk old new = (all : List Record) → Covers disk all →
 abbrev pub StarvesAgain : ℕ → Option ℕ → Option (List ℕ) → List ℕ → Outside → Type 0
 StarvesAgain workers from begin disk new = (all : List Record) → Covers disk all → StarvedAtRecord workers from all begin new.sent
 
--- the scan is of this disk, where it is known, and has counted so many records more than the engine has, which has room and has
--- evaluated all of its own
+-- The scan is of this disk, where it is known, and has counted the records that the engine has accepted. It has room, and has
+-- evaluated all but so many of them.
 pub record IsReading (scan : ScanState) (engine : Engine) (waiting : ℕ) (known : Option (List ℕ)) : Type 0 where
   pub of_disk : IsScanOf scan known
   pub capacity : scan.capacity ≡ engine.admission.capacity
-  pub count : scan.count ≡ engine.admission.count + waiting
+  pub count : scan.count ≡ engine.admission.count
   pub small : IsSmall engine
-  pub all : engine.admission.count ≡ engine.evaluated
+  pub all : engine.admission.count ≡ engine.evaluated + waiting
   pub roomy : IsRoomy engine
 
 -- nothing is pending on this disk
@@ -75,30 +80,30 @@ pub record Rests (disk : List ℕ) (now : Outside) : Type 0 where
   pub known : now.disk ≡ Some disk
   pub settled : IsSettled now
 
--- some batches of a disk that rests were read, their records resumed, and this text is expected for them
+-- some batches of a disk that rests were read, their records evaluated, and this text is expected for them
 pub record Recovers (text : List Record → List ℕ) (begin : Option (List ℕ)) (disk : List ℕ) (recovery : Recovery) (now : Outside) : Type 0 where
   pub rests : Rests disk now
   pub batches : List (List Record)
   pub read : HasRead recovery.scan batches disk
-  pub resumes : Resumes text recovery.scan.capacity (records_of batches) [] begin recovery.engine recovery.outbox now
+  pub admits : Admits recovery.scan.capacity (records_of batches) (records_of batches) recovery.engine
+  pub idle : IsIdle recovery.engine.evaluator
+  pub pending_is : Expects begin now.sent recovery.outbox (text (records_of batches))
 
--- and one batch more was read, none of whose records was accepted
-pub record Resuming (from : Option ℕ) (begin : Option (List ℕ)) (disk : List ℕ) (batch : List Record) (recovery : Recovery) (now : Outside) : Type 0 where
+-- some batches of a disk that rests were read, and of their records some wait
+pub record Gathers (from : Option ℕ) (begin : Option (List ℕ)) (disk : List ℕ) (recovery : Recovery) (now : Outside) : Type 0 where
   pub rests : Rests disk now
   pub batches : List (List Record)
-  pub rest : List ℕ
-  pub leads : LeadsTo recovery.scan.capacity recovery.scan.at batches disk rest
-  pub read : HasRead recovery.scan (batches ++ batch ∷ []) disk
-  pub resumes : Resumes (again from) recovery.scan.capacity (records_of batches) [] begin recovery.engine recovery.outbox now
+  pub read : HasRead recovery.scan batches disk
+  pub resumes : Resumes from recovery.scan.capacity (records_of batches) (records_in recovery.waiting.outcomes) [] begin recovery.engine recovery.outbox now
 
--- An engine that had evaluated these records and no others has accepted those that were admitted of some more, the oldest
--- first: all of them, or those before the first that may not follow.
-pub record Admits (capacity : ℕ) (held records admitted : List Record) (engine : Engine) : Type 0 where
-  pub engine_is : Represents engine capacity (with_batch held admitted) held
-  pub admissible : AreAdmissible capacity held admitted
-  pub left : List Record
-  pub parts : admitted ++ left ≡ records
-  pub refused : (x : Record) (later : List Record) → left ≡ x ∷ later → verdict capacity (with_batch held admitted) x ≢ None
+-- behind these records, the first of some more are lawful, up to one that may not follow
+pub record Refuses (capacity : ℕ) (accepted records : List Record) : Type 0 where
+  pub good : List Record
+  pub bad : Record
+  pub later : List Record
+  pub parts : good ++ bad ∷ later ≡ records
+  pub lawful : IsLawful capacity (with_batch accepted good)
+  pub refused : verdict capacity (with_batch accepted good) bad ≢ None
 
 -- the journal is read, and messages are sent
 pub record OnlyRecovers (old new : Outside) : Type 0 where

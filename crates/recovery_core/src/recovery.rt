@@ -1,7 +1,6 @@
 //! The records of a journal, evaluated again from the first to the last.
 
-ghost use Rattle.std.specs.Prelude.{◌≡◌, ◌≢◌, ◌+◌, ◌<◌, ◌≤◌, ◌^◌, ◌++◌, ◌∷◌, [], ℕ, List, Option, Some, None, Err, OnOk, IfOk, IfErr, IsTrue, All, length, drop};
-ghost use Rattle.std.specs.Io.KnownBytes.{append_known};
+ghost use Rattle.std.specs.Prelude.{if◌then◌else◌, ◌==◌, ◌≡◌, ◌≢◌, ◌+◌, ◌<◌, ◌≤◌, ◌^◌, ◌++◌, ◌∷◌, [], ℕ, List, Option, Some, None, Ok, Err, OnOk, IfOk, IfErr, IsTrue, All, length, true, false, drop};
 ghost use Rattle.host_core.specs.Outside.{Outside, NoFault, Elapses};
 ghost use Rattle.host_core.specs.Frames.{OnlySends};
 ghost use Rattle.host_core.specs.Faults.{Causes};
@@ -10,15 +9,14 @@ ghost use Rattle.wire_in.specs.Spelling.{InRange};
 ghost use Rattle.journal_core.specs.Layout.{with_batch};
 ghost use Rattle.rulebook.specs.Sent.{spelled, numbered, hello, passed_over};
 ghost use Rattle.wire_out.specs.Spelling.{spelling};
-ghost use Rattle.market_core.specs.Kinds.{TakesMemory};
 ghost use Rattle.evaluator_core.specs.Evaluating.{workers_of};
 ghost use Rattle.engine_core.specs.EngineState as engines;
 ghost use Rattle.engine_core.specs.Rounds.{records_in};
 ghost use Rattle.stream_core.specs.Pending.{Expects, SendsPrefix};
 ghost use Rattle.recovery_core.specs.Starved.{StarvedAtRecord};
-ghost use Rattle.recovery_core.specs.Recoveries.{again, IsSmall, Admits, Resumes};
+ghost use Rattle.recovery_core.specs.Recoveries.{again, IsSmall, Admits, Refuses, Resumes};
 
-use engine_core::{Engine, Round, append_messages, evaluate, prepare};
+use engine_core::{Engine, ROUND_MAX, Round, append_messages, evaluate, prepare};
 use host_core::{Fault, Host, Status};
 use journal_core::{BATCH_MAX, Batch, Scan};
 use std::alloc::Global;
@@ -27,6 +25,9 @@ use stream_core::Outbox;
 use wire_in::Record;
 use wire_out::{Frame, Stamped};
 use yard_core::Gate;
+
+/// How many records of a journal several workers evaluate together at most: what is kept of them stays in the cache.
+const MANY_WAITING: usize = 16_384;
 
 /// How many of a record's messages are not asked for again, where so many messages came before them.
 fn passed_over(from: Option<u64>, before: u64, count: usize) -> usize
@@ -65,28 +66,31 @@ fn append_again<H: Host>(
     append_messages(outbox, host, before + skipped as u64, &messages[skipped..])
 }
 
-/// Admits records of the journal, one after the other, up to the first that may not follow. They wait in a round.
-fn admit_all(engine: &mut Engine, waiting: &mut Round, records: &[Record])
-    requires empty { waiting.old.outcomes ≡ [] }
-    requires room { length records.now ≤ waiting.old.most }
+/// Admits records of the journal, one after the other, behind those that wait in a round. False: one may not follow those
+/// before it, and those from it on are left out.
+fn admit_all(engine: &mut Engine, waiting: &mut Round, records: &[Record]) -> bool
+    requires room { length waiting.old.outcomes + length records.now ≤ waiting.old.most }
     requires ranges { All InRange records.now }
     requires small { IsSmall engine.old }
-    ensures admits { (capacity : ℕ) (held : List Record) → engines.Represents engine.old capacity held held
-        → Admits capacity held records.now (records_in waiting.new.outcomes) engine.new }
+    ensures admits { (capacity : ℕ) (accepted evaluated : List Record) → Admits capacity accepted evaluated engine.old
+        → IsTrue result → Admits capacity (with_batch accepted records.now) evaluated engine.new }
+    ensures refuses { (capacity : ℕ) (accepted evaluated : List Record) → Admits capacity accepted evaluated engine.old
+        → ¬ IsTrue result → Refuses capacity accepted records.now }
+    ensures waits { IsTrue result → records_in waiting.new.outcomes ≡ records_in waiting.old.outcomes ++ records.now }
     ensures rest { engine.new ≡ record engine.old { admission = engine.new.admission } }
     ensures small { IsSmall engine.new }
-    ensures count { engine.new.admission.count ≡ engine.old.admission.count + length (records_in waiting.new.outcomes) }
+    ensures count { IsTrue result → engine.new.admission.count ≡ engine.old.admission.count + length records.now }
     ensures capacity { engine.new.admission.capacity ≡ engine.old.admission.capacity }
-    ensures few { length (records_in waiting.new.outcomes) ≤ length records.now }
     ensures most { waiting.new.most ≡ waiting.old.most }
 {
     for x in records {
         if engine.admission.verdict(x).is_some() {
-            return;
+            return false;
         }
         engine.admit(x);
         waiting.push(&Ok(*x));
     }
+    true
 }
 
 /// Evaluates the oldest record of the journal that was admitted and waits, and appends its messages that are asked for again.
@@ -100,10 +104,10 @@ fn resume_record<H: Host>(
     requires small { IsSmall engine.old }
     requires some { engine.old.evaluated < engine.old.admission.count }
     requires roomy { engines.IsRoomy engine.old }
-    ensures resumes { (capacity : ℕ) (held later : List Record) (begin : Option (List ℕ)) → Resumes (again from) capacity held (x.now ∷ later) begin engine.old outbox.old (H.outside host.old)
-        → OnOk result (Resumes (again from) capacity (x.now ∷ held) later begin engine.new outbox.new (H.outside host.new)) }
-    ensures moments { (capacity : ℕ) (held later : List Record) (begin : Option (List ℕ)) → Resumes (again from) capacity held (x.now ∷ later) begin engine.old outbox.old (H.outside host.old)
-        → Elapses (H.outside host.old) (H.outside host.new) (SendsPrefix begin (again from (x.now ∷ held)) (H.outside host.old)) }
+    ensures resumes { (capacity : ℕ) (accepted later : List Record) (begin : Option (List ℕ)) → Resumes from capacity accepted (x.now ∷ later) (x.now ∷ later) begin engine.old outbox.old (H.outside host.old)
+        → OnOk result (Resumes from capacity accepted later later begin engine.new outbox.new (H.outside host.new)) }
+    ensures moments { (capacity : ℕ) (accepted later : List Record) (begin : Option (List ℕ)) → Resumes from capacity accepted (x.now ∷ later) (x.now ∷ later) begin engine.old outbox.old (H.outside host.old)
+        → Elapses (H.outside host.old) (H.outside host.new) (SendsPrefix begin (again from accepted) (H.outside host.old)) }
     ensures small { OnOk result (IsSmall engine.new) }
     ensures evaluated { OnOk result (engine.new.evaluated ≡ engine.old.evaluated + 1) }
     ensures roomy { OnOk result (engines.IsRoomy engine.new) }
@@ -112,8 +116,8 @@ fn resume_record<H: Host>(
     ensures keeps { OnlySends (H.outside host.old) (H.outside host.new) }
     ensures causes { Causes result (H.outside host.old) (H.outside host.new) }
     ensures unread { result ≢ Err Fault.Read }
-    ensures starved { (capacity : ℕ) (held later : List Record) (begin : Option (List ℕ)) → Resumes (again from) capacity held (x.now ∷ later) begin engine.old outbox.old (H.outside host.old)
-        → result ≡ Err Fault.Memory → (workers_of engine.old.evaluator ≡ 1 → TakesMemory x.now) × ((H.outside host.new).sent ≡ append_known begin (again from held)) }
+    ensures starved { (capacity : ℕ) (accepted later : List Record) (begin : Option (List ℕ)) → Resumes from capacity accepted (x.now ∷ later) (x.now ∷ later) begin engine.old outbox.old (H.outside host.old)
+        → result ≡ Err Fault.Memory → StarvedAtRecord (workers_of engine.old.evaluator) from accepted begin (H.outside host.new).sent }
 {
     let before = engine.published;
     evaluate(engine, outbox, host, x)?;
@@ -132,10 +136,10 @@ fn resume_all<H: Host>(
     requires small { IsSmall engine.old }
     requires count { engine.old.admission.count ≡ engine.old.evaluated + length records.now }
     requires roomy { engines.IsRoomy engine.old }
-    ensures resumes { (capacity : ℕ) (held : List Record) (begin : Option (List ℕ)) → Resumes (again from) capacity held records.now begin engine.old outbox.old (H.outside host.old)
-        → OnOk result (Resumes (again from) capacity (with_batch held records.now) [] begin engine.new outbox.new (H.outside host.new)) }
-    ensures moments { (capacity : ℕ) (held : List Record) (begin : Option (List ℕ)) → Resumes (again from) capacity held records.now begin engine.old outbox.old (H.outside host.old)
-        → Elapses (H.outside host.old) (H.outside host.new) (SendsPrefix begin (again from (with_batch held records.now)) (H.outside host.old)) }
+    ensures resumes { (capacity : ℕ) (accepted : List Record) (begin : Option (List ℕ)) → Resumes from capacity accepted records.now records.now begin engine.old outbox.old (H.outside host.old)
+        → OnOk result (Resumes from capacity accepted [] [] begin engine.new outbox.new (H.outside host.new)) }
+    ensures moments { (capacity : ℕ) (accepted : List Record) (begin : Option (List ℕ)) → Resumes from capacity accepted records.now records.now begin engine.old outbox.old (H.outside host.old)
+        → Elapses (H.outside host.old) (H.outside host.new) (SendsPrefix begin (again from accepted) (H.outside host.old)) }
     ensures small { OnOk result (IsSmall engine.new) }
     ensures all { OnOk result (engine.new.admission.count ≡ engine.new.evaluated) }
     ensures roomy { OnOk result (engines.IsRoomy engine.new) }
@@ -144,8 +148,8 @@ fn resume_all<H: Host>(
     ensures keeps { OnlySends (H.outside host.old) (H.outside host.new) }
     ensures causes { Causes result (H.outside host.old) (H.outside host.new) }
     ensures unread { result ≢ Err Fault.Read }
-    ensures starved { (capacity : ℕ) (held : List Record) (begin : Option (List ℕ)) → Resumes (again from) capacity held records.now begin engine.old outbox.old (H.outside host.old)
-        → result ≡ Err Fault.Memory → StarvedAtRecord (workers_of engine.old.evaluator) from (with_batch held records.now) begin (H.outside host.new).sent }
+    ensures starved { (capacity : ℕ) (accepted : List Record) (begin : Option (List ℕ)) → Resumes from capacity accepted records.now records.now begin engine.old outbox.old (H.outside host.old)
+        → result ≡ Err Fault.Memory → StarvedAtRecord (workers_of engine.old.evaluator) from accepted begin (H.outside host.new).sent }
 {
     for x in records {
         resume_record(engine, outbox, host, from, x)?;
@@ -154,7 +158,7 @@ fn resume_all<H: Host>(
 }
 
 /// What is kept while a journal is read: how far it was read, the engine of the records so far, what waits to be sent, and
-/// room for the records of a batch that wait to be evaluated.
+/// the records that wait to be evaluated.
 #[derive(Drop)]
 pub struct Recovery {
     pub scan: Scan,
@@ -167,48 +171,111 @@ impl Recovery {
     ghost use Rattle.host_core.specs.Frames.{OnlyReadsDisk};
     ghost use Rattle.journal_core.specs.Scan.{HasNoHeader};
     ghost use Rattle.recovery_core.specs.Ends.{TellsNoJournal};
-    ghost use Rattle.recovery_core.specs.Recoveries.{opening, SendsAgain, HasDamage, StarvesAgain, IsReading, Recovers, Resuming, OnlyRecovers, Hinders};
+    ghost use Rattle.recovery_core.specs.Recoveries.{opening, SendsAgain, HasDamage, StarvesAgain, IsReading, Recovers, Gathers, OnlyRecovers, Hinders};
 
-    /// Evaluates the records of the batch that was read last, up to the first that may not follow: they are admitted, then
-    /// evaluated ahead where there are several workers, and then answered one after the other.
-    pub fn resume<Rt: Threads + Sync, H: Host, G: Gate>(
+    /// Reads the next batch, and admits its records behind those that wait. False: the journal is at its end.
+    fn gather<H: Host>(&mut self, host: &mut H, batch: &mut Batch) -> Result<bool, Status>
+        requires reading { IsReading self.old.scan self.old.engine (length (records_in self.old.waiting.outcomes)) (H.outside host.old).disk }
+        requires room { length self.old.waiting.outcomes + BATCH_MAX ≤ self.old.waiting.most }
+        ensures gathers { (from : Option ℕ) (begin : Option (List ℕ)) (disk : List ℕ) → Gathers from begin disk self.old (H.outside host.old)
+            → OnOk result (Gathers from begin disk self.new (H.outside host.new)) }
+        ensures reading { OnOk result (IsReading self.new.scan self.new.engine (length (records_in self.new.waiting.outcomes)) (H.outside host.new).disk) }
+        ensures goes_on { result ≡ Ok true → self.old.scan.gate < self.new.scan.gate }
+        ensures within { self.new.scan.gate ≤ self.new.scan.size }
+        ensures size { self.new.scan.size ≡ self.old.scan.size }
+        ensures closed { result ≡ Ok false → IsTrue self.new.scan.is_closed }
+        ensures workers { workers_of self.new.engine.evaluator ≡ workers_of self.old.engine.evaluator }
+        ensures most { self.new.waiting.most ≡ self.old.waiting.most }
+        ensures keeps { OnlyReadsDisk (H.outside host.old) (H.outside host.new) }
+        ensures none { OnOk result (NoFault (H.outside host.old) (H.outside host.new)) }
+        ensures hindered { IfErr result (λ status. Hinders (λ at. (from : Option ℕ) (begin : Option (List ℕ)) (disk : List ℕ) → Gathers from begin disk self.old (H.outside host.old) → HasDamage at disk)
+            ⊥ ⊥ status (H.outside host.old) (H.outside host.new)) }
+    {
+        let more = self.scan.next(host, batch)?;
+        if !more {
+            return Ok(false);
+        }
+        let all = admit_all(&mut self.engine, &mut self.waiting, batch.list());
+        if !all {
+            return Err(Status::Damaged { at: self.scan.at() });
+        }
+        Ok(true)
+    }
+
+    /// Evaluates the records that wait: first ahead, where there are several workers, and then one after the other. Where
+    /// there is more to read, they wait on while a further batch has room behind them.
+    fn settle<Rt: Threads + Sync, H: Host, G: Gate>(
         &mut self,
         rt: &Rt,
         host: &mut H,
         gate: &G,
         from: Option<u64>,
-        records: &[Record],
-    ) -> Result<(), Status>
-        requires reading { IsReading self.old.scan self.old.engine (length records.now) (H.outside host.old).disk }
-        requires most { length records.now ≤ self.old.waiting.most }
-        requires ranges { All InRange records.now }
-        ensures recovers { (begin : Option (List ℕ)) (disk : List ℕ) → Resuming from begin disk records.now self.old (H.outside host.old)
-            → OnOk result (Recovers (again from) begin disk self.new (H.outside host.new)) }
-        ensures moments { (begin : Option (List ℕ)) (disk : List ℕ) → Resuming from begin disk records.now self.old (H.outside host.old)
+        more: bool,
+    ) -> Result<(), Fault>
+        requires reading { IsReading self.old.scan self.old.engine (length (records_in self.old.waiting.outcomes)) (H.outside host.old).disk }
+        requires most { BATCH_MAX ≤ self.old.waiting.most }
+        ensures settles { (begin : Option (List ℕ)) (disk : List ℕ) → Gathers from begin disk self.old (H.outside host.old)
+            → OnOk result (Gathers from begin disk self.new (H.outside host.new)) }
+        ensures moments { (begin : Option (List ℕ)) (disk : List ℕ) → Gathers from begin disk self.old (H.outside host.old)
             → SendsAgain from begin disk (H.outside host.old) (H.outside host.new) }
-        ensures reading { OnOk result (IsReading self.new.scan self.new.engine 0 (H.outside host.new).disk) }
+        ensures reading { OnOk result (IsReading self.new.scan self.new.engine (length (records_in self.new.waiting.outcomes)) (H.outside host.new).disk) }
+        ensures all { ¬ IsTrue more → OnOk result (self.new.waiting.outcomes ≡ []) }
+        ensures room { OnOk result (length self.new.waiting.outcomes + BATCH_MAX ≤ self.new.waiting.most) }
         ensures scan { self.new.scan ≡ self.old.scan }
         ensures workers { workers_of self.new.engine.evaluator ≡ workers_of self.old.engine.evaluator }
-        ensures most { self.new.waiting.most ≡ self.old.waiting.most }
         ensures keeps { OnlySends (H.outside host.old) (H.outside host.new) }
+        ensures causes { Causes result (H.outside host.old) (H.outside host.new) }
+        ensures unread { result ≢ Err Fault.Read }
+        ensures starved { (begin : Option (List ℕ)) (disk : List ℕ) → Gathers from begin disk self.old (H.outside host.old)
+            → result ≡ Err Fault.Memory → StarvesAgain (workers_of self.old.engine.evaluator) from begin disk (H.outside host.new) }
+    {
+        if more && self.waiting.len() + BATCH_MAX <= self.waiting.most() {
+            return Ok(());
+        }
+        let waiting = self.waiting.accepted();
+        prepare(rt, &mut self.engine, &mut self.outbox, host, gate, waiting)?;
+        resume_all(&mut self.engine, &mut self.outbox, host, from, waiting)?;
+        self.waiting.clear();
+        Ok(())
+    }
+
+    /// Reads a journal to its end, and evaluates its records. Batches are gathered until a further one may have no room
+    /// behind the records that wait, and then are evaluated together.
+    pub fn read<Rt: Threads + Sync, H: Host, G: Gate>(
+        &mut self,
+        rt: &Rt,
+        host: &mut H,
+        gate: &G,
+        from: Option<u64>,
+        batch: &mut Batch,
+    ) -> Result<(), Status>
+        requires reading { IsReading self.old.scan self.old.engine 0 (H.outside host.old).disk }
+        requires most { BATCH_MAX ≤ self.old.waiting.most }
+        ensures recovers { (begin : Option (List ℕ)) (disk : List ℕ) → Recovers (again from) begin disk self.old (H.outside host.old)
+            → OnOk result (Recovers (again from) begin disk self.new (H.outside host.new)) }
+        ensures moments { (begin : Option (List ℕ)) (disk : List ℕ) → Recovers (again from) begin disk self.old (H.outside host.old)
+            → SendsAgain from begin disk (H.outside host.old) (H.outside host.new) }
+        ensures reading { OnOk result (IsReading self.new.scan self.new.engine 0 (H.outside host.new).disk) }
+        ensures workers { workers_of self.new.engine.evaluator ≡ workers_of self.old.engine.evaluator }
+        ensures closed { OnOk result (IsTrue self.new.scan.is_closed) }
+        ensures keeps { OnlyRecovers (H.outside host.old) (H.outside host.new) }
         ensures none { OnOk result (NoFault (H.outside host.old) (H.outside host.new)) }
-        ensures hindered { IfErr result (λ status. Hinders (λ at. (begin : Option (List ℕ)) (disk : List ℕ) → Resuming from begin disk records.now self.old (H.outside host.old) → HasDamage at disk)
-            ⊥ ((begin : Option (List ℕ)) (disk : List ℕ) → Resuming from begin disk records.now self.old (H.outside host.old)
+        ensures hindered { IfErr result (λ status. Hinders (λ at. (begin : Option (List ℕ)) (disk : List ℕ) → Recovers (again from) begin disk self.old (H.outside host.old) → HasDamage at disk)
+            ⊥ ((begin : Option (List ℕ)) (disk : List ℕ) → Recovers (again from) begin disk self.old (H.outside host.old)
             → StarvesAgain (workers_of self.old.engine.evaluator) from begin disk (H.outside host.new))
             status (H.outside host.old) (H.outside host.new)) }
     {
         self.waiting.clear();
-        admit_all(&mut self.engine, &mut self.waiting, records);
-        let admitted = self.waiting.accepted();
-        prepare(rt, &mut self.engine, &mut self.outbox, host, gate, admitted)?;
-        resume_all(&mut self.engine, &mut self.outbox, host, from, admitted)?;
-        if admitted.len() < records.len() {
-            return Err(Status::Damaged { at: self.scan.at() });
+        'batches: loop {
+            let more = self.gather(host, batch)?;
+            self.settle(rt, host, gate, from, more)?;
+            if !more {
+                return Ok(());
+            }
         }
-        Ok(())
     }
 
-    /// Reads a journal to its end, evaluates its batches, and appends what a session sends before its first frame is answered.
+    /// Reads a journal to its end, evaluates its records, and appends what a session sends before its first frame is answered.
     pub fn recover<Rt: Threads + Sync, H: Host, G: Gate>(
         &mut self,
         rt: &Rt,
@@ -233,13 +300,22 @@ impl Recovery {
             → StarvesAgain (workers_of self.old.engine.evaluator) from begin disk (H.outside host.new))
             status (H.outside host.old) (H.outside host.new)) }
     {
-        'batches: loop {
-            let more = self.scan.next(host, batch)?;
-            if !more {
-                greet(&self.engine, &mut self.outbox, host)?;
-                return Ok(());
-            }
-            self.resume(rt, host, gate, from, batch.list())?;
+        self.read(rt, host, gate, from, batch)?;
+        greet(&self.engine, &mut self.outbox, host)?;
+        Ok(())
+    }
+
+    /// How many records of a journal wait at most for so many workers. Those of a batch stay in the cache of one worker, and
+    /// several do best with many.
+    pub fn most_waiting(workers: u32) -> usize
+        ensures exact { result ≡ (if workers == 1 then 64 else 16384) }
+        ensures room { BATCH_MAX ≤ result }
+        ensures few { result ≤ ROUND_MAX }
+    {
+        if workers == 1 {
+            BATCH_MAX
+        } else {
+            MANY_WAITING
         }
     }
 

@@ -77,19 +77,19 @@ module _ {old mid new : Outside} {recovery : Recovery} (reads : OnlyReadsDisk ol
 
     unsent : (disk : List ℕ) → old.disk ≡ Some disk → new.sent ≡ old.sent
     unsent disk known =
-        let waits = (done disk known).resumes.pending_is in
+        let waits = (done disk known).pending_is in
         waits.known ∙ ap (append_known old.sent) (nothing_left waits.sent after.outbox waits.whole) ∙ append_known-nil old.sent
 
     represents : (capacity : ℕ) (held : List Record) → IsHeld capacity held old → (after.scan.capacity ≡ capacity) × Represents after.engine after.scan.capacity held held
     represents capacity held h =
         let d = done h.disk h.known in
         let all = readable.all h.disk capacity held after.scan d.batches h.holds d.read is_closed in
-        (all.0, subst (λ r. Represents after.engine after.scan.capacity r r) all.1 d.resumes.engine_is)
+        (all.0, subst (λ r. Represents after.engine after.scan.capacity r r) all.1 d.admits.engine_is)
 
     sound : (disk : List ℕ) → old.disk ≡ Some disk → (capacity : ℕ) × (held : List Record) × IsHeld capacity held old
     sound disk known =
         let d = done disk known in
-        (after.scan.capacity, records_of d.batches, record { disk = disk; known = known; holds = read_holds disk after.scan d.batches d.read is_closed; lawful = d.resumes.lawful })
+        (after.scan.capacity, records_of d.batches, record { disk = disk; known = known; holds = read_holds disk after.scan d.batches d.read is_closed; lawful = d.admits.lawful })
 
     pub gathered : IsGathered after old new
     gathered = record {

@@ -1,12 +1,9 @@
 //! What a journal holds, told in five lines.
 
-ghost use Rattle.std.specs.Prelude.{◌≡◌, ◌≤◌, ◌++◌, ℕ, List, Option, None, OnOk, IfOk, IfErr, IsTrue, [], decimal, codes};
+ghost use Rattle.std.specs.Prelude.{◌≡◌, ◌≤◌, ◌++◌, List, OnOk, IfOk, IfErr, [], decimal, codes};
 ghost use Rattle.wire_in.specs.declared.record.Record.{Record};
-ghost use Rattle.host_core.specs.Outside.{NoFault};
 ghost use Rattle.host_core.specs.Frames.{OnlySends};
-ghost use Rattle.evaluator_core.specs.Evaluating.{workers_of};
 ghost use Rattle.engine_core.specs.EngineState.{Represents};
-ghost use Rattle.recovery_core.specs.Recoveries.{again, SendsAgain, HasDamage, StarvesAgain, IsReading, Recovers, OnlyRecovers, Hinders};
 ghost use Rattle.report_core.specs.InternalReport.{Tells, IsTold, IsGathered, IsUngathered};
 ghost use Rattle.report_core.specs.Reported.{Reported, line, day_word, report_of};
 
@@ -21,35 +18,6 @@ use std::alloc::Global;
 use std::thread::Threads;
 use stream_core::Outbox;
 use yard_core::OpenGate;
-
-/// Reads a journal to its end and evaluates its records. Nothing is sent.
-fn read_all<Rt: Threads + Sync, H: Host>(
-    rt: &Rt,
-    recovery: &mut Recovery,
-    host: &mut H,
-    batch: &mut Batch,
-) -> Result<(), Status>
-    requires reading { IsReading recovery.old.scan recovery.old.engine 0 (H.outside host.old).disk }
-    requires most { BATCH_MAX ≤ recovery.old.waiting.most }
-    ensures recovers { (begin : Option (List ℕ)) (disk : List ℕ) → Recovers (again None) begin disk recovery.old (H.outside host.old)
-        → OnOk result (Recovers (again None) begin disk recovery.new (H.outside host.new)) }
-    ensures moments { (begin : Option (List ℕ)) (disk : List ℕ) → Recovers (again None) begin disk recovery.old (H.outside host.old)
-        → SendsAgain None begin disk (H.outside host.old) (H.outside host.new) }
-    ensures closed { OnOk result (IsTrue recovery.new.scan.is_closed) }
-    ensures keeps { OnlyRecovers (H.outside host.old) (H.outside host.new) }
-    ensures none { OnOk result (NoFault (H.outside host.old) (H.outside host.new)) }
-    ensures hindered { IfErr result (λ status. Hinders (λ at. (begin : Option (List ℕ)) (disk : List ℕ) → Recovers (again None) begin disk recovery.old (H.outside host.old) → HasDamage at disk)
-        ⊥ ((begin : Option (List ℕ)) (disk : List ℕ) → Recovers (again None) begin disk recovery.old (H.outside host.old) → StarvesAgain (workers_of recovery.old.engine.evaluator) None begin disk (H.outside host.new))
-        status (H.outside host.old) (H.outside host.new)) }
-{
-    'batches: loop {
-        let more = recovery.scan.next(host, batch)?;
-        if !more {
-            return Ok(());
-        }
-        recovery.resume(rt, host, &OpenGate, None, batch.list())?;
-    }
-}
 
 /// Appends a word and a value as a line.
 fn append_line(text: &mut Vec<u8>, word: &str, value: &[u8]) -> Result<(), NoMemory>
@@ -122,12 +90,12 @@ struct Room {
 impl Room {
     fn new(alloc: Global) -> Result<Room, NoMemory>
         ensures outbox { IfOk result (λ room. room.outbox ≡ []) }
-        ensures waiting { IfOk result (λ room. room.waiting.most ≡ BATCH_MAX) }
+        ensures waiting { IfOk result (λ room. BATCH_MAX ≤ room.waiting.most) }
     {
         Ok(Room {
             outbox: Outbox::new(alloc)?,
             batch: Batch::new(alloc)?,
-            waiting: Round::new(alloc, BATCH_MAX)?,
+            waiting: Round::new(alloc, Recovery::most_waiting(1))?,
         })
     }
 }
@@ -150,7 +118,7 @@ fn gather<Rt: Threads + Sync, H: Host>(
         waiting,
     } = room;
     let mut recovery = Recovery::begin(alloc, host, 1, outbox, waiting)?;
-    read_all(rt, &mut recovery, host, &mut batch)?;
+    recovery.read(rt, host, &OpenGate, None, &mut batch)?;
     Ok(recovery)
 }
 

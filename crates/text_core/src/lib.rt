@@ -1,4 +1,4 @@
-//! One line of text for each input record and each published frame, printed and read.
+//! One line of text for each input record and each published frame, printed and read; and streams of them.
 #![tactic(auto)]
 
 mod error;

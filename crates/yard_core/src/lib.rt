@@ -1,4 +1,4 @@
-//! A table of claimed work: each job is claimed by one seat, worked and given back, in as many threads as there are seats.
+//! A table of claimed work: each job is claimed by one seat, worked and given back, by as many workers as there are seats.
 #![tactic(auto)]
 
 mod close;

@@ -1,12 +1,14 @@
 // Two workers are at work at once.
-use super::fall;
 use crate::run::run;
 use host_core::Status;
 use memory_host::MemoryHost;
+use session_core::Level;
+use std::alloc::Global;
 use std::sync::atomic::AtomicBool;
 use std::sync::atomic::Ordering::SeqCst;
 use std::test::Fail;
 use test_days::Session;
+use test_days::lines::{Line, at, breaker, clock, day, tick};
 use yard_core::Gate;
 
 /// Two pieces, each of which raises its own flag at the gate and looks for the other's.
@@ -29,13 +31,29 @@ impl Gate for Meeting {
     }
 }
 
+/// The day of the fall with 1,100 clocks before it: so many records are worked by threads.
+fn long_fall(alloc: Global) -> Result<Vec<Line>, Fail> {
+    let t = at(10, 0, 0);
+    let mut lines = Vec::new(alloc);
+    lines.extend_from_slice(&[day(3)])?;
+    for _clock in 0..1_100u32 {
+        lines.extend_from_slice(&[clock(at(9, 30, 0))])?;
+    }
+    lines.extend_from_slice(&[
+        tick(t, 465_001),
+        tick(t, 465_000),
+        breaker(Level::One, 465_000),
+    ])?;
+    Ok(lines)
+}
+
 #[test]
 fn two_pieces_of_a_replay_meet(rt: HostRuntime) -> Result<(), Fail> {
     let gate = Meeting {
         here: [AtomicBool::new(false), AtomicBool::new(false)],
         met: [AtomicBool::new(false), AtomicBool::new(false)],
     };
-    let session = Session::of(rt.alloc(), &fall())?;
+    let session = Session::of(rt.alloc(), &long_fall(rt.alloc())?)?;
     let mut host = MemoryHost::new(rt.alloc(), &session.input, b"")?;
     let words = ["replay", "--workers", "2"];
     let status = run(&rt, rt.alloc(), &words, &mut host, &gate);

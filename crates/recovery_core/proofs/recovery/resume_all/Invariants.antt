@@ -1,10 +1,9 @@
-use Rattle.std.proofs.Common.{◌≡◌, ◌+◌, ◌-◌, ℕ, List, length, take, drop}
+use Rattle.std.proofs.Common.{◌≡◌, ◌+◌, ◌-◌, ℕ, List, length, drop}
 use Rattle.std.specs.Prelude.{Option}
 use Rattle.host_core.specs.Outside.{Elapses}
 use Rattle.host_core.specs.Frames.{OnlySends}
 use Rattle.host_core.specs.Outside.{NoFault}
 use Rattle.wire_in.specs.declared.record.Record.{Record}
-use Rattle.journal_core.specs.Layout.{with_batch}
 use Rattle.evaluator_core.specs.Evaluating.{workers_of}
 use Rattle.engine_core.specs.EngineState.{IsRoomy}
 use Rattle.stream_core.specs.Pending.{SendsPrefix}
@@ -13,10 +12,9 @@ use Rattle.recovery_core.proofs.recovery.resume_all.Given as goal
 
 abbrev pub invariant-loop-x : goal.invariant-loop-x
 invariant-loop-x g l = record {
-  resumes : (capacity : ℕ) (held : List Record) (begin : Option (List ℕ)) → Resumes (again l.from) capacity held l.records begin l.initial.engine l.initial.outbox (g.H.Host.outside l.initial.host)
-      → Resumes (again l.from) capacity (with_batch held (take l.x-index l.records)) (drop l.x-index l.records) begin l.engine l.outbox (g.H.Host.outside l.host);
-  moments : (capacity : ℕ) (held : List Record) (begin : Option (List ℕ)) → Resumes (again l.from) capacity held l.records begin l.initial.engine l.initial.outbox (g.H.Host.outside l.initial.host)
-      → Elapses (g.H.Host.outside l.initial.host) (g.H.Host.outside l.host) (SendsPrefix begin (again l.from (with_batch held l.records)) (g.H.Host.outside l.initial.host));
+  advances : (capacity : ℕ) (accepted : List Record) (begin : Option (List ℕ)) → Resumes l.from capacity accepted l.records l.records begin l.initial.engine l.initial.outbox (g.H.Host.outside l.initial.host)
+      → Resumes l.from capacity accepted (drop l.x-index l.records) (drop l.x-index l.records) begin l.engine l.outbox (g.H.Host.outside l.host)
+      × Elapses (g.H.Host.outside l.initial.host) (g.H.Host.outside l.host) (SendsPrefix begin (again l.from accepted) (g.H.Host.outside l.initial.host));
   small : IsSmall l.engine;
   count : l.engine.admission.count ≡ l.engine.evaluated + (length l.records - l.x-index);
   roomy : IsRoomy l.engine;

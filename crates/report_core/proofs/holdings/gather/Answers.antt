@@ -7,13 +7,13 @@ returns-in_err-recovery-clause-ungathered g c =
     answered_on _ c.from_residual.result c.from_residual.ensures.1
     (ungathered_at_once _ _ c.begin.ensures.keeps c.in_err-recovery.ensures.kind c.in_err-recovery.ensures.hindered)
 
-pub returns-in_err-read_all-clause-ungathered : goal.returns-in_err-read_all-clause-ungathered
-returns-in_err-read_all-clause-ungathered g c =
-    answered_on _ c.from_residual-in_err-read_all.result c.from_residual-in_err-read_all.ensures.1
-    (ungathered c.begin.ensures.keeps c.in_ok-recovery.ensures.none c.in_ok-recovery.ensures.recovers c.read_all.ensures.keeps c.read_all.ensures.moments
-    _ c.in_ok-recovery.ensures.header c.in_err-read_all.ensures.hindered)
+pub returns-in_err-read-clause-ungathered : goal.returns-in_err-read-clause-ungathered
+returns-in_err-read-clause-ungathered g c =
+    answered_on _ c.from_residual-in_err-read.result c.from_residual-in_err-read.ensures.1
+    (ungathered c.begin.ensures.keeps c.in_ok-recovery.ensures.none c.in_ok-recovery.ensures.recovers c.read.ensures.keeps c.read.ensures.moments
+    _ c.in_ok-recovery.ensures.header c.in_err-read.ensures.hindered)
 
 pub returns-clause-gathered : goal.returns-clause-gathered
 returns-clause-gathered g c =
-    gathered c.begin.ensures.keeps c.in_ok-recovery.ensures.none c.in_ok-recovery.ensures.recovers c.read_all.ensures.keeps c.read_all.ensures.moments
-    _ c.in_ok-read_all.ensures.recovers c.in_ok-read_all.ensures.closed c.in_ok-read_all.ensures.none
+    gathered c.begin.ensures.keeps c.in_ok-recovery.ensures.none c.in_ok-recovery.ensures.recovers c.read.ensures.keeps c.read.ensures.moments
+    _ c.in_ok-read.ensures.recovers c.in_ok-read.ensures.closed c.in_ok-read.ensures.none

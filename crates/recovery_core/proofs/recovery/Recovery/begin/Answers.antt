@@ -25,13 +25,12 @@ returns-clause-recovers g c = λ from disk known. record {
   rests = record { known = known; settled = c.in_ok-scan.ensures.settled };
   batches = [];
   read = c.in_ok-scan.ensures.read disk known;
-  resumes = record {
-    ahead = subst (λ (e : Engine). IsIdle e.evaluator) (sym c.limit-2.ensures) (c.in-Ok.ensures).idle;
+  admits = record {
     engine_is = subst (λ l. Represents c.limit-2.new.self l [] []) c.limit.ensures.capacity (limited c.limit.result c.limit-2.new.self c.limit-2.ensures (c.in-Ok.ensures).represents);
     lawful = tt;
-    admissible = tt;
-    pending_is = nothing_again from (g.H.Host.outside c.begin.new.host).sent c.args.outbox c.requires.outbox;
   };
+  idle = subst (λ (e : Engine). IsIdle e.evaluator) (sym c.limit-2.ensures) (c.in-Ok.ensures).idle;
+  pending_is = nothing_again from (g.H.Host.outside c.begin.new.host).sent c.args.outbox c.requires.outbox;
 }
 
 pub returns-clause-reading : goal.returns-clause-reading

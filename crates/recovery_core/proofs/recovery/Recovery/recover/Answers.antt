@@ -1,107 +1,31 @@
-use Rattle.std.proofs.Common.{◌≡◌, List, ℕ, length, refl, sym, ap, subst, ◌∙◌, arith, rules}
-use Rattle.std.specs.Prelude.{All, Option}
-use Rattle.wire_in.specs.Spelling.{InRange}
-use Rattle.host_core.proofs.Causes.{no_fault, faultless}
-use Rattle.host_core.proofs.Chains.{reads_nothing, reads_faultless}
+use Rattle.std.proofs.Common.{List, ℕ, sym, subst}
+use Rattle.std.specs.Prelude.{Option}
 use Rattle.engine_core.proofs.Starving.{not_read, not_short}
-use Rattle.recovery_core.proofs.Recovering.{sends_then, sends_read, greeted, reads_again, read_on, has_next, has_end, bad_form_there, only_read, only_sent, recovers_on, answered_on, fault_hinders, hinders_on, scan_hinders}
-use Rattle.journal_core.specs.Scan.{IsScanOf}
-use Rattle.recovery_core.specs.Recoveries.{StarvesAgain}
-use Rattle.journal_core.proofs.Places.{scan_reaches}
+use Rattle.recovery_core.specs.Recoveries.{IsReading}
+use Rattle.recovery_core.proofs.Recovering.{again_then, sends_greeting, greeted, answered_on, fault_hinders}
 use Rattle.recovery_core.proofs.recovery.Recovery.recover.Goals as goal
 
-pub batches-init : goal.batches-init
-batches-init g c = record {
-  reading = c.requires.reading;
-  workers = refl;
-  most = refl;
-  advances = λ begin disk first. (first, reads_again c.args.from first (reads_nothing _ (g.met.H.Host.sent_now c.args.host.now)));
-  keeps = only_read (reads_nothing _ (g.met.H.Host.sent_now c.args.host.now));
-  none = no_fault _;
-}
+pub returns-in_err-read-clause-hindered : goal.returns-in_err-read-clause-hindered
+returns-in_err-read-clause-hindered g c = answered_on _ c.from_residual.result c.from_residual.ensures.1 c.in_err-read.ensures.hindered
 
-pub returns-in_err-more-clause-moments : goal.returns-in_err-more-clause-moments
-returns-in_err-more-clause-moments g c = read_on c.args.from c.batches.invariant.advances c.next.ensures.keeps
-
-pub returns-in_err-more-clause-hindered : goal.returns-in_err-more-clause-hindered
-returns-in_err-more-clause-hindered g c =
-    answered_on _ c.from_residual.result c.from_residual.ensures.1
-    (hinders_on _ _ c.batches.invariant.none (λ at there. there) (λ missing. missing) (λ hungry. hungry)
-    (scan_hinders _ _ _ c.next.result _ c.in_err-more.was c.next.ensures.keeps c.next.ensures.faultless c.next.ensures.cause c.next.ensures.no_journal (λ short. absurd (c.next.ensures.no_memory short))
-    (λ at is begin disk first.
-    (_, _, bad_form_there c.args.from (c.batches.invariant.advances begin disk first).0 c.next.ensures.keeps at (c.next.ensures.at_damage at is) (c.next.ensures.damaged at is)))))
-
--- the gate is closed
 pub returns-in_err-greet-clause-moments : goal.returns-in_err-greet-clause-moments
-returns-in_err-greet-clause-moments g c = λ begin disk first all covers.
-    let end = has_end c.args.from c.batches.invariant.advances c.next.ensures.keeps c.next.new.self c.next.ensures.capacity c.next.ensures.same c.in_ok-more.was c.if-not-more.true begin disk first in
-    sends_then (end.1 all covers) (sends_read c.args.from end.0 c.greet.ensures.moments all covers)
+returns-in_err-greet-clause-moments g c = λ begin disk first.
+    again_then c.args.from (c.read.ensures.moments begin disk first) (sends_greeting c.args.from (c.in_ok-read.ensures.recovers begin disk first) c.greet.ensures.moments)
 
 pub returns-in_err-greet-clause-hindered : goal.returns-in_err-greet-clause-hindered
 returns-in_err-greet-clause-hindered g c =
     answered_on _ c.from_residual-in_err-greet.result c.from_residual-in_err-greet.ensures.1
     (fault_hinders _ _ _ _ c.in_err-greet.was (not_read c.greet.result c.greet.ensures.fault) (λ short. absurd (not_short c.greet.result c.greet.ensures.fault short))
-    (faultless c.batches.invariant.none (reads_faultless c.next.ensures.keeps (c.next.ensures.faultless (λ is. cc c.in_ok-more.was)))) c.in_err-greet.ensures.causes)
+    c.in_ok-read.ensures.none c.in_err-greet.ensures.causes)
 
-pub returns-then-not-more-clause-moments : goal.returns-then-not-more-clause-moments
-returns-then-not-more-clause-moments g c = λ begin disk first all covers.
-    let end = has_end c.args.from c.batches.invariant.advances c.next.ensures.keeps c.next.new.self c.next.ensures.capacity c.next.ensures.same c.in_ok-more.was c.if-not-more.true begin disk first in
-    sends_then (end.1 all covers) (sends_read c.args.from end.0 c.greet.ensures.moments all covers)
+pub returns-clause-recovers : goal.returns-clause-recovers
+returns-clause-recovers g c = λ begin disk first.
+    greeted c.args.from (c.in_ok-read.ensures.recovers begin disk first) c.greet.ensures.keeps c.greet.new.outbox c.in_ok-greet.ensures.pending
 
-pub returns-then-not-more-clause-recovers : goal.returns-then-not-more-clause-recovers
-returns-then-not-more-clause-recovers g c = λ begin disk first.
-    let end = has_end c.args.from c.batches.invariant.advances c.next.ensures.keeps c.next.new.self c.next.ensures.capacity c.next.ensures.same c.in_ok-more.was c.if-not-more.true begin disk first in
-    greeted c.args.from end.0 c.greet.ensures.keeps c.greet.new.outbox c.in_ok-greet.ensures.pending
+pub returns-clause-moments : goal.returns-clause-moments
+returns-clause-moments g c = λ begin disk first.
+    again_then c.args.from (c.read.ensures.moments begin disk first) (sends_greeting c.args.from (c.in_ok-read.ensures.recovers begin disk first) c.greet.ensures.moments)
 
--- there is a batch
-pub returns-in_err-resume-clause-moments : goal.returns-in_err-resume-clause-moments
-returns-in_err-resume-clause-moments g c = λ begin disk first all covers.
-    let next = has_next c.args.from c.batches.invariant.advances c.next.ensures.keeps c.next.new.self c.next.ensures.capacity c.list.ensures.records c.in_ok-more.was c.if-not-more.false
-    c.next.ensures.at_batch c.next.ensures.batch begin disk first in
-    sends_then (next.1 all covers) (c.resume.ensures.moments begin disk next.0 all covers)
-
-pub returns-in_err-resume-clause-hindered : goal.returns-in_err-resume-clause-hindered
-returns-in_err-resume-clause-hindered g c =
-    let next = has_next c.args.from c.batches.invariant.advances c.next.ensures.keeps c.next.new.self c.next.ensures.capacity c.list.ensures.records c.in_ok-more.was c.if-not-more.false
-    c.next.ensures.at_batch c.next.ensures.batch in
-    answered_on _ c.from_residual-in_err-resume.result c.from_residual-in_err-resume.ensures.1
-    (hinders_on _ _ (faultless c.batches.invariant.none (reads_faultless c.next.ensures.keeps (c.next.ensures.faultless (λ is. cc c.in_ok-more.was))))
-    (λ at there begin disk first. there begin disk (next begin disk first).0) (λ missing. missing) (λ hungry begin disk first. subst (λ (n : ℕ). StarvesAgain n c.args.from begin disk (g.H.Host.outside c.resume.new.host)) c.batches.invariant.workers (hungry begin disk (next begin disk first).0)) c.in_err-resume.ensures.hindered)
-
-pub batches-preserved : goal.batches-preserved
-batches-preserved g c =
-    let next = has_next c.args.from c.batches.invariant.advances c.next.ensures.keeps c.next.new.self c.next.ensures.capacity c.list.ensures.records c.in_ok-more.was c.if-not-more.false
-    c.next.ensures.at_batch c.next.ensures.batch in
-    record {
-      reading = c.in_ok-resume.ensures.reading;
-      workers = c.resume.ensures.workers ∙ c.batches.invariant.workers;
-      most = c.resume.ensures.most ∙ c.batches.invariant.most;
-      advances = λ begin disk first.
-          let at = next begin disk first in
-          (c.in_ok-resume.ensures.recovers begin disk at.0, λ all covers. sends_then (at.1 all covers) (c.resume.ensures.moments begin disk at.0 all covers));
-      keeps = recovers_on (recovers_on c.batches.invariant.keeps (only_read c.next.ensures.keeps)) (only_sent c.resume.ensures.keeps);
-      none = faultless (faultless c.batches.invariant.none (reads_faultless c.next.ensures.keeps (c.next.ensures.faultless (λ is. cc c.in_ok-more.was)))) c.in_ok-resume.ensures.none;
-    }
-
-pub next-requires : goal.next-requires
-next-requires g c = scan_reaches c.batches.invariant.reading.of_disk
-
-pub returns-then-not-more-clause-reading : goal.returns-then-not-more-clause-reading
-returns-then-not-more-clause-reading g c =
-    let of_disk : IsScanOf c.next.new.self (g.H.Host.outside c.greet.new.host).disk = subst (λ (known : Option (List ℕ)). IsScanOf c.next.new.self known) (sym c.greet.ensures.keeps.disk)
-    (c.next.ensures.of_disk c.batches.invariant.reading.of_disk) in
-    let none : length c.next.new.into ≡ 0 = ap length (c.next.ensures.empty (λ is. cc (c.in_ok-more.was, c.if-not-more.true))) in
-    search rules
-
-pub resume-requires-clause-ranges : goal.resume-requires-clause-ranges
-resume-requires-clause-ranges g c κs within = subst (All InRange) (sym c.list.ensures.records) c.list.ensures.ranges
-
-pub resume-requires-clause-reading : goal.resume-requires-clause-reading
-resume-requires-clause-reading g c κs within = record {
-  of_disk = c.next.ensures.of_disk c.batches.invariant.reading.of_disk;
-  capacity = c.next.ensures.capacity ∙ c.batches.invariant.reading.capacity;
-  count = omega (arith, c.next.ensures.count, c.batches.invariant.reading.count, ap length c.list.ensures.records);
-  small = c.batches.invariant.reading.small;
-  all = c.batches.invariant.reading.all;
-  roomy = c.batches.invariant.reading.roomy;
-}
+pub returns-clause-reading : goal.returns-clause-reading
+returns-clause-reading g c =
+    subst (λ (known : Option (List ℕ)). IsReading c.read.new.self.scan c.read.new.self.engine 0 known) (sym c.greet.ensures.keeps.disk) c.in_ok-read.ensures.reading

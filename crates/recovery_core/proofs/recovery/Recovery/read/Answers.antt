@@ -1,0 +1,76 @@
+use Rattle.std.proofs.Common.{ℕ, List, Ok, length, refl, sym, ap, subst, ◌∙◌, arith}
+use Rattle.std.specs.Prelude.{IsTrue}
+use Rattle.host_core.proofs.Causes.{no_fault, faultless}
+use Rattle.host_core.proofs.Chains.{reads_nothing}
+use Rattle.engine_core.specs.Rounds.{Outcome, RoundState, records_in}
+use Rattle.recovery_core.specs.Recoveries.{StarvesAgain, IsReading}
+use Rattle.recovery_core.proofs.Recovering.{gathers_first, gathered, sends_nothing_read, read_on, again_then, only_read, only_sent, recovers_on, answered_on, fault_hinders, hinders_on}
+use Rattle.recovery_core.proofs.recovery.Recovery.read.Goals as goal
+
+pub batches-init : goal.batches-init
+batches-init g c = record {
+  reading = subst (λ (w : RoundState). IsReading c.args.self.now.scan c.args.self.now.engine (length (records_in w.outcomes)) (g.H.Host.outside c.args.host.now).disk) (sym c.clear.ensures) c.requires.reading;
+  room = omega (arith, c.requires.most, ap (λ (w : RoundState). length w.outcomes) c.clear.ensures, ap (λ (w : RoundState). w.most) c.clear.ensures);
+  advances = λ begin disk first. (first, sends_nothing_read first (reads_nothing _ (g.met.H.Host.sent_now c.args.host.now)));
+  workers = refl;
+  keeps = only_read (reads_nothing _ (g.met.H.Host.sent_now c.args.host.now));
+  none = no_fault _;
+}
+
+pub returns-in_err-more-clause-moments : goal.returns-in_err-more-clause-moments
+returns-in_err-more-clause-moments g c = λ begin disk first. read_on (c.batches.invariant.advances begin disk (gathers_first first c.clear.ensures)) c.gather.ensures.keeps
+
+pub returns-in_err-more-clause-hindered : goal.returns-in_err-more-clause-hindered
+returns-in_err-more-clause-hindered g c =
+    answered_on _ c.from_residual.result c.from_residual.ensures.1
+    (hinders_on _ _ c.batches.invariant.none (λ at there begin disk first. there c.args.from begin disk (c.batches.invariant.advances begin disk (gathers_first first c.clear.ensures)).0)
+    (λ missing. missing) (λ short. absurd short) c.in_err-more.ensures.hindered)
+
+pub returns-in_err-settle-clause-moments : goal.returns-in_err-settle-clause-moments
+returns-in_err-settle-clause-moments g c = λ begin disk first.
+    let so_far = c.batches.invariant.advances begin disk (gathers_first first c.clear.ensures) in
+    again_then c.args.from (read_on so_far c.gather.ensures.keeps) (c.settle.ensures.moments begin disk (c.in_ok-more.ensures.gathers c.args.from begin disk so_far.0))
+
+pub returns-in_err-settle-clause-hindered : goal.returns-in_err-settle-clause-hindered
+returns-in_err-settle-clause-hindered g c =
+    answered_on _ c.from_residual-in_err-settle.result c.from_residual-in_err-settle.ensures.1
+    (fault_hinders _ _ _ _ c.in_err-settle.was c.settle.ensures.unread
+    (λ short begin disk first.
+    subst (λ (n : ℕ). StarvesAgain n c.args.from begin disk (g.H.Host.outside c.settle.new.host)) (c.gather.ensures.workers ∙ c.batches.invariant.workers)
+    (c.settle.ensures.starved begin disk (c.in_ok-more.ensures.gathers c.args.from begin disk (c.batches.invariant.advances begin disk (gathers_first first c.clear.ensures)).0) short))
+    (faultless c.batches.invariant.none c.in_ok-more.ensures.none) c.in_err-settle.ensures.causes)
+
+pub settle-requires-clause-most : goal.settle-requires-clause-most
+settle-requires-clause-most g c κs within = omega (arith, c.batches.invariant.room, c.gather.ensures.most)
+
+pub batches-preserved : goal.batches-preserved
+batches-preserved g c = record {
+  reading = c.in_ok-settle.ensures.reading;
+  room = c.in_ok-settle.ensures.room;
+  advances = λ begin disk first.
+      let so_far = c.batches.invariant.advances begin disk first in
+      let next = c.in_ok-more.ensures.gathers c.args.from begin disk so_far.0 in
+      (c.in_ok-settle.ensures.settles begin disk next, again_then c.args.from (read_on so_far c.gather.ensures.keeps) (c.settle.ensures.moments begin disk next));
+  workers = c.settle.ensures.workers ∙ c.gather.ensures.workers ∙ c.batches.invariant.workers;
+  keeps = recovers_on (recovers_on c.batches.invariant.keeps (only_read c.gather.ensures.keeps)) (only_sent c.settle.ensures.keeps);
+  none = faultless (faultless c.batches.invariant.none c.in_ok-more.ensures.none) c.in_ok-settle.ensures.causes;
+}
+
+-- the end was read, and nothing waits
+pub returns-then-not-more-clause-recovers : goal.returns-then-not-more-clause-recovers
+returns-then-not-more-clause-recovers g c = λ begin disk first.
+    let so_far = c.batches.invariant.advances begin disk (gathers_first first c.clear.ensures) in
+    gathered (c.in_ok-settle.ensures.settles begin disk (c.in_ok-more.ensures.gathers c.args.from begin disk so_far.0)) (c.in_ok-settle.ensures.all (λ yes. cc (c.if-not-more.true, yes)))
+
+pub returns-then-not-more-clause-moments : goal.returns-then-not-more-clause-moments
+returns-then-not-more-clause-moments g c = λ begin disk first.
+    let so_far = c.batches.invariant.advances begin disk (gathers_first first c.clear.ensures) in
+    again_then c.args.from (read_on so_far c.gather.ensures.keeps) (c.settle.ensures.moments begin disk (c.in_ok-more.ensures.gathers c.args.from begin disk so_far.0))
+
+pub returns-then-not-more-clause-reading : goal.returns-then-not-more-clause-reading
+returns-then-not-more-clause-reading g c =
+    subst (λ (outcomes : List Outcome). IsReading c.settle.new.self.scan c.settle.new.self.engine (length (records_in outcomes)) (g.H.Host.outside c.settle.new.host).disk)
+    (c.in_ok-settle.ensures.all (λ yes. cc (c.if-not-more.true, yes))) c.in_ok-settle.ensures.reading
+
+pub returns-then-not-more-clause-closed : goal.returns-then-not-more-clause-closed
+returns-then-not-more-clause-closed g c = subst (λ (scan : _). IsTrue scan.is_closed) (sym c.settle.ensures.scan) (c.gather.ensures.closed (c.in_ok-more.was ∙ ap Ok c.if-not-more.true))
