@@ -21,12 +21,13 @@ use Rattle.symbol_core.specs.declared.kept.Step.{Step}
 use Rattle.symbol_core.specs.declared.symbol.MarketView.{MarketView}
 use Rattle.symbol_core.specs.Evaluates.{Evaluates}
 use Rattle.symbol_core.specs.Idle.{IsDue, IsIdle, IsSettled, IsAwaited, IsStill, Waits, WaitsAt, brings_deal_or_time, comes_often, is_out, keeps_price}
+use Rattle.symbol_core.specs.InStep.{InStep, in_step, just_opened}
 use Rattle.symbol_core.specs.Kept.{heard, quoted_by, requoted}
 use Rattle.symbol_core.specs.Pricing.{later_price, offered, priced_by, reference}
 use Rattle.symbol_core.specs.Runs.{run_reference}
 use Rattle.symbol_core.specs.Stands.{ObeysAll}
 use Rattle.symbol_core.specs.Steps.{Steps}
-use Rattle.symbol_core.specs.Taken.{cancelled_by, deal_of, finished, halted_by, leaves, listed_by, prior_close_by, taken, triggers_by}
+use Rattle.symbol_core.specs.Taken.{cancelled_by, deal_of, halted_by, leaves, listed_by, prior_close_by, taken, triggers_by}
 use Rattle.symbol_core.specs.Window.{SameLive, window}
 use Rattle.symbol_core.proofs.Cancels.{leaves-all}
 use Rattle.symbol_core.proofs.Evaluated.{away, step-evaluated, step_for}
@@ -55,12 +56,12 @@ keeps-tested a t (Some m) = by (has_stood a t) (moved_one_percent m a.price) whe
   by false false = refl
 
 -- and then there is none
-pub kept-none : (k : Kept) (step : Step) (mean : Option ℕ) → k.left_limit ≡ false → keeps_price k step.moment mean ≡ true → reference k step mean ≡ None
+pub kept-none : (k : InStep) (step : Step) (mean : Option ℕ) → k.opened.left_limit ≡ false → keeps_price k.kept step.moment mean ≡ true → reference k step mean ≡ None
 kept-none k step mean left keeps =
-    (λ i. if not (is_trading k.phase) then None else if left i then forced mean else later_price k step mean) ∙ by (is_trading k.phase) (run_reference k).last keeps
+    (λ i. if not (is_trading k.kept.phase) then None else if left i then forced mean else later_price k step mean) ∙ by (is_trading k.kept.phase) (run_reference k.kept).last keeps
   where
     by : (trading : Bool) (o : Option Adoption) → (not trading || option_map_or (λ last. not (is_some (moved_price last step.moment mean))) o false) ≡ true
-        → (if not trading then None else priced_by k.released (record { begun = (run_reference k).begun; last = o }) step.moment (offered k step) mean) ≡ None
+        → (if not trading then None else priced_by k.opened.released (record { begun = (run_reference k.kept).begun; last = o }) step.moment (offered k.kept step) mean) ≡ None
     by false o e = refl
     by true None e = absurd cc
     by true (Some last) e = ap (because Moved) (not_some (moved_price last step.moment mean) e)
@@ -114,7 +115,6 @@ awaited market x k deals due t deal at is kind from until same own inside counts
       record {
         kind = kind;
         inside = inside;
-        rested = idle.rested;
         settled = idle.settled;
         waits = record { closes = w.closes; starts = w.starts; pauses = w.pauses; reopens = w.reopens; bands = λ u day le lt. w.bands u day (omega arith) lt };
         from = at;
@@ -132,39 +132,24 @@ module _ (market : MarketView) (x : Record) (k : Kept) (due : Due) (deal : Optio
   of_plain : IsPlain k x
   of_plain = plain k x w.kind
 
-  -- the kept state once the record is taken in
-  abbrev with_it : Kept
-  with_it = record k { left_limit = false; released = None; deal = deal; is_fresh = false; restricts = false }
-
-  took : taken k stepped ≡ with_it
+  -- all that the record leaves for the rules is its deal
+  took : taken k stepped ≡ in_step k (just_opened deal false)
   took =
-      (λ j. record k {
+      (λ j. in_step
+      (record k {
         terms = of_plain.listed j;
         run = option_map (requoted (of_plain.quoted j)) k.run;
         halted = of_plain.halted j;
         auction = heard (of_plain.indicated j) k.auction;
-        left_limit = false;
-        released = None;
-        deal = sym w.own j;
-        is_fresh = false;
         short = record k.short { prior_close = of_plain.prior_close j; triggered = triggers_by (of_plain.prior_close j) (sym w.own j) || k.short.triggered };
-        restricts = triggers_by (of_plain.prior_close j) (sym w.own j) && not k.short.triggered;
       })
-      ∙ (λ j. record k {
+      (just_opened (sym w.own j) (triggers_by (of_plain.prior_close j) (sym w.own j) && not k.short.triggered)))
+      ∙ (λ j. in_step
+      (record k {
         run = same_run k.run j;
-        left_limit = false;
-        released = None;
-        deal = deal;
-        is_fresh = false;
         short = record k.short { triggered = stays_triggered (triggers_by k.short.prior_close deal) k.short.triggered w.restricts j };
-        restricts = w.restricts j;
       })
-
-  -- the same where nothing was left of the step before
-  holds-deal : record k { deal = deal } ≡ taken k stepped
-  holds-deal =
-      (λ j. record k { deal = deal; left_limit = w.rested.left_limit j; released = w.rested.released j; is_fresh = w.rested.is_fresh j; restricts = w.rested.restricts j })
-      ∙ sym took
+      (just_opened deal (w.restricts j)))
 
 module _ (market : MarketView) (x : Record) (k : Kept) (deals : List Deal) (due : Due) (deal : Option Deal)
     (w : IsAwaited k market x deal due) (keeps : keeps_price k (moment_of x) (mean_of (live (moment_of x) (live (moment_of x) deals ++ option_to_list deal))) ≡ true) where
@@ -177,8 +162,8 @@ module _ (market : MarketView) (x : Record) (k : Kept) (deals : List Deal) (due 
   abbrev left : List Deal
   left = live t deals ++ option_to_list deal
 
-  abbrev with_deal : Kept
-  with_deal = record k { left_limit = false; released = None; deal = deal; is_fresh = false; restricts = false }
+  abbrev with_deal : InStep
+  with_deal = in_step k (just_opened deal false)
 
   taken_in : taken k step ≡ with_deal
   taken_in = took market x k due deal w
@@ -187,10 +172,8 @@ module _ (market : MarketView) (x : Record) (k : Kept) (deals : List Deal) (due 
   plainly = of_plain market x k due deal w
 
   -- and once its step is over
-  over : k ≡ finished (taken k step)
-  over =
-      (λ j. record k { left_limit = w.rested.left_limit j; released = w.rested.released j; deal = w.rested.deal j; is_fresh = w.rested.is_fresh j; restricts = w.rested.restricts j })
-      ∙ ap finished (sym taken_in)
+  over : k ≡ (taken k step).kept
+  over = ap (λ (l : InStep). l.kept) (sym taken_in)
 
   abbrev stayed : List Deal
   stayed = live t (filter (leaves k.id x) deals)
@@ -205,12 +188,8 @@ module _ (market : MarketView) (x : Record) (k : Kept) (deals : List Deal) (due 
     waits = subst (λ (u : ℕ). Waits k market.day market.stopped u due.waits) w.from (subst (λ (m : MarketView). Waits k m.day m.stopped due.from due.waits) w.same w.waits);
   }
 
-  settled : IsSettled (taken k step) market.stopped
-  settled =
-      subst (λ (kept : Kept). IsSettled kept market.stopped) (sym taken_in) (subst (λ (m : MarketView). IsSettled with_deal m.stopped) w.same (by w.settled))
-    where
-      by : IsSettled k due.market.stopped → IsSettled with_deal due.market.stopped
-      by s = record { runs = s.runs; halted = s.halted; stays = s.stays; low = s.low; high = s.high; straddles = s.straddles }
+  settled : IsSettled (taken k step).kept market.stopped
+  settled = subst (λ (kept : Kept). IsSettled kept market.stopped) over (subst (λ (m : MarketView). IsSettled k m.stopped) w.same w.settled)
 
   -- the window with the deal
   dealt_in : (stayed ++ (if is_some k.run then option_to_list deal else [])) ≡ left
@@ -218,17 +197,17 @@ module _ (market : MarketView) (x : Record) (k : Kept) (deals : List Deal) (due 
 
   no_price : reference (taken k step) step (mean_of (live t (window (taken k step) stayed))) ≡ None
   no_price =
-      subst (λ (kept : Kept). reference kept step (mean_of (live t (window kept stayed))) ≡ None) (sym taken_in)
+      subst (λ (l : InStep). reference l step (mean_of (live t (window l stayed))) ≡ None) (sym taken_in)
       (ap (λ (ds : List Deal). reference with_deal step (mean_of (live t ds))) dealt_in ∙ kept-none with_deal step (mean_of (live t left)) refl keeps)
 
   keeps_deals : SameLive t left (window (taken k step) stayed)
   keeps_deals =
-      subst (λ (kept : Kept). SameLive t left (window kept stayed)) (sym taken_in)
+      subst (λ (l : InStep). SameLive t left (window l stayed)) (sym taken_in)
       (subst (λ (ds : List Deal). SameLive t left ds) (sym dealt_in) (record { at = λ u le. refl }))
 
   deal-steps : (before : List Message) → Steps step k k deals left before before
   deal-steps before =
-      let spoken = speaks-quiet (taken k step) stayed step before (Some due.waits) refl (waits-taken k step (Some due.waits) waits) settled no_price (ap (λ (kept : Kept). kept.restricts) taken_in) in
+      let spoken = speaks-quiet (taken k step) stayed step before (Some due.waits) refl (waits-taken k step (Some due.waits) waits) settled no_price (ap (λ (l : InStep). l.opened.restricts) taken_in) in
       step-evaluates step k spoken.said (taken k step) (taken k step) k deals (filter (leaves k.id x) deals) stayed stayed left before spoken.between before
       refl refl refl refl spoken.announces spoken.obeys keeps_deals over
 
@@ -242,7 +221,6 @@ module _ (market : MarketView) (x : Record) (k : Kept) (deals : List Deal) (due 
 
   pub dealt-still : IsStill k left due
   dealt-still = record {
-    rested = w.rested;
     settled = w.settled;
     waits = w.waits;
   }
@@ -260,15 +238,16 @@ pub keeps-at : (k : Kept) (gone deals : List Deal) (deal : Option Deal) (t u : �
 keeps-at k gone deals deal t u answer at same is passes = (λ i. keeps_price k (sym at i) (mean_of (live (sym at i) (sym same i ++ option_to_list deal)))) ∙ sym is ∙ passes
 
 -- a record that brings a new reference price, whose deal is all that it leaves for the rules
-pub moved-steps : (k mid new : Kept) (step : Step) (deal : Option Deal) (due : Due) (kept lent left : List Deal) (before after : List Message) → IsAwaited k (record { day = step.day; stopped = step.stopped }) step.input deal due → live step.moment kept ≡ lent
-    → ObeysAll lent symbol_rules step (record k { deal = deal }) mid before after
-    → SameLive step.moment left ((if mid.is_fresh then [] else lent) ++ (if is_some mid.run then option_to_list deal else []))
-    → new ≡ finished mid → Steps step k new kept left before after
-moved-steps k mid new step deal due kept lent left before after w gone obeys keeps over =
+pub moved-steps : (k : Kept) (mid : InStep) (step : Step) (deal : Option Deal) (due : Due) (kept lent left : List Deal) (before after : List Message) → IsAwaited k (record { day = step.day; stopped = step.stopped }) step.input deal due → live step.moment kept ≡ lent
+    → ObeysAll lent symbol_rules step (in_step k (just_opened deal false)) mid before after
+    → SameLive step.moment left ((if mid.opened.is_fresh then [] else lent) ++ (if is_some mid.kept.run then option_to_list deal else []))
+    → Steps step k mid.kept kept left before after
+moved-steps k mid step deal due kept lent left before after w gone obeys keeps =
     let of_plain = plain k step.input w.kind in
-    step-evaluates step k (record k { deal = deal }) mid (record k { deal = deal }) new kept (filter (leaves k.id step.input) kept) lent lent left before before after
-    refl (sym gone ∙ ap (live step.moment) (sym (leaves-all k.id step.input kept of_plain.cancels))) refl (holds-deal (record { day = step.day; stopped = step.stopped }) step.input k due deal w)
-    (announces-none (record k { deal = deal }) step before of_plain.often) obeys keeps over
+    let opened = in_step k (just_opened deal false) in
+    step-evaluates step k opened mid opened mid.kept kept (filter (leaves k.id step.input) kept) lent lent left before before after
+    refl (sym gone ∙ ap (live step.moment) (sym (leaves-all k.id step.input kept of_plain.cancels))) refl (sym (took (record { day = step.day; stopped = step.stopped }) step.input k due deal w))
+    (announces-none opened step before of_plain.often) obeys keeps refl
 
 pub moved-recent : (k : Kept) (market : MarketView) (x : Record) (deal : Option Deal) (due : Due) (t : ℕ) → IsAwaited k market x deal due → t ≡ moment_of x → live t (option_to_list deal) ≡ option_to_list deal
 moved-recent k market x deal due t w at =

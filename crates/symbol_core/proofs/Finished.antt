@@ -9,16 +9,15 @@ use Rattle.rulebook.specs.History.{now, records}
 use Rattle.rulebook.specs.Market.{day_record}
 use Rattle.rulebook.specs.Rules.{triggered_in}
 use Rattle.rulebook.specs.Symbol.{deals_of}
-use Rattle.symbol_core.specs.declared.kept.Kept.{Kept}
 use Rattle.symbol_core.specs.declared.kept.Step.{Step}
+use Rattle.symbol_core.specs.InStep.{InStep}
 use Rattle.symbol_core.specs.Rests.{Rests}
 use Rattle.symbol_core.specs.Stands.{Stands}
-use Rattle.symbol_core.specs.Taken.{finished}
 use Rattle.symbol_core.specs.Window.{SameLive, window}
 use Rattle.symbol_core.proofs.Live.{same_then}
 
-pub rests-finished : (mine : List ℕ → Bool) (k : Kept) (kept left : List Deal) (step : Step) (index : ℕ) (h : List Event) → day_record (records h) ≡ Some (step.day, index)
-    → SameLive step.moment left (window k kept) → Stands mine k kept step h → Rests mine (record { kept = finished k; deals = left }) h
+pub rests-finished : (mine : List ℕ → Bool) (k : InStep) (kept left : List Deal) (step : Step) (index : ℕ) (h : List Event) → day_record (records h) ≡ Some (step.day, index)
+    → SameLive step.moment left (window k kept) → Stands mine k kept step h → Rests mine (record { kept = k.kept; deals = left }) h
 rests-finished mine k kept left step index h day same s =
     record {
       terms = s.terms;
@@ -32,9 +31,9 @@ rests-finished mine k kept left step index h day same s =
       halted = s.halted;
       auction = s.auction;
       prior_close = s.prior_close;
-      triggered = s.triggered ∙ ap (λ (o : Option (Day × ℕ)). option_map_or (λ d. triggered_in mine d.0 k.id (records h)) o false) (sym day);
+      triggered = s.triggered ∙ ap (λ (o : Option (Day × ℕ)). option_map_or (λ d. triggered_in mine d.0 k.kept.id (records h)) o false) (sym day);
       carried = s.carried;
       deals =
-          subst (λ (o : Option (Day × ℕ)). SameLive (now h) left (option_map_or (λ d. deals_of d.0 h k.id) o [])) (sym day)
-          (same_then (now h) left (window k kept) (deals_of step.day h k.id) (subst (λ (t : ℕ). SameLive t left (window k kept)) s.moment same) s.window);
+          subst (λ (o : Option (Day × ℕ)). SameLive (now h) left (option_map_or (λ d. deals_of d.0 h k.kept.id) o [])) (sym day)
+          (same_then (now h) left (window k kept) (deals_of step.day h k.kept.id) (subst (λ (t : ℕ). SameLive t left (window k kept)) s.moment same) s.window);
     }

@@ -36,6 +36,7 @@ use Rattle.rulebook.specs.Rules.{Context, at_band, meets, or_else}
 use Rattle.rulebook.specs.Symbol as of
 use Rattle.symbol_core.specs.declared.kept.Kept.{Kept}
 use Rattle.symbol_core.specs.declared.kept.Step.{Step}
+use Rattle.symbol_core.specs.InStep.{InStep}
 use Rattle.symbol_core.specs.Auctions.{auction_by, auction_of, auction_with}
 use Rattle.symbol_core.specs.Kept.{announcing, auction_begun, becoming, brakes, collars_of, pause_now, pausing, reopened, reopening, reopening_with, straddling}
 use Rattle.symbol_core.specs.Pricing.{band, band_by_time, banding, priced_by, reference}
@@ -44,56 +45,64 @@ use Rattle.symbol_core.specs.Stands.{named, Stands, triggers_first}
 use Rattle.symbol_core.proofs.Runs.{adopted_is, begun_is}
 use Rattle.symbol_core.specs.Window.{window}
 
--- the kept state that a history tells, but for its run
-abbrev pub told : (List ℕ → Bool) → Kept → Step → List Event → Kept
+-- the kept state and the open step that a history tells, but for the run
+abbrev pub told : (List ℕ → Bool) → InStep → Step → List Event → InStep
 told mine k step h =
-    let s = k.id in
+    let s = k.kept.id in
     record {
-      id = s;
-      terms = of.terms h mine;
-      phase = of.phase h s;
-      since = of.since h s;
-      run = k.run;
-      straddling = of.was_straddling h s;
-      halted = of.is_under_regulatory_halt h s;
-      auction = auction_of h s;
-      short = record {
-        prior_close = of.prior_close h mine;
-        triggered = rules.triggered_in mine step.day s (records h);
-        carried = rules.is_carried h mine s;
+      kept = record {
+        id = s;
+        terms = of.terms h mine;
+        phase = of.phase h s;
+        since = of.since h s;
+        run = k.kept.run;
+        straddling = of.was_straddling h s;
+        halted = of.is_under_regulatory_halt h s;
+        auction = auction_of h s;
+        short = record {
+          prior_close = of.prior_close h mine;
+          triggered = rules.triggered_in mine step.day s (records h);
+          carried = rules.is_carried h mine s;
+        };
       };
-      left_limit = rules.has_left_limit h s;
-      released = rules.released h s;
-      deal = k.deal;
-      is_fresh = k.is_fresh;
-      restricts = triggers_first (context step.day (named mine s) step.input h);
+      opened = record {
+        left_limit = rules.has_left_limit h s;
+        released = rules.released h s;
+        deal = k.opened.deal;
+        is_fresh = k.opened.is_fresh;
+        restricts = triggers_first (context step.day (named mine s) step.input h);
+      };
     }
 
-pub stands-told : (mine : List ℕ → Bool) (k : Kept) (step : Step) (deals : List Deal) (h : List Event) → Stands mine k deals step h → k ≡ told mine k step h
-stands-told mine k step deals h s = λ i. record k {
-  terms = s.terms i;
-  phase = s.phase i;
-  since = s.since i;
-  straddling = s.straddling i;
-  halted = s.halted i;
-  auction = s.auction i;
-  short = record { prior_close = s.prior_close i; triggered = s.triggered i; carried = s.carried i };
-  left_limit = s.left_limit i;
-  released = s.released i;
-  restricts = s.restricts i;
+pub stands-told : (mine : List ℕ → Bool) (k : InStep) (step : Step) (deals : List Deal) (h : List Event) → Stands mine k deals step h → k ≡ told mine k step h
+stands-told mine k step deals h s = λ i. record {
+  kept = record k.kept {
+    terms = s.terms i;
+    phase = s.phase i;
+    since = s.since i;
+    straddling = s.straddling i;
+    halted = s.halted i;
+    auction = s.auction i;
+    short = record { prior_close = s.prior_close i; triggered = s.triggered i; carried = s.carried i };
+  };
+  opened = record k.opened {
+    left_limit = s.left_limit i;
+    released = s.released i;
+    restricts = s.restricts i;
+  };
 }
 
 -- a rule that reads the kept state without its run, the moment and the market's halt
-pub by_kept : (rule : Kept → Step → List Message) (mine : List ℕ → Bool) (k : Kept) (step : Step) (deals : List Deal) (h : List Event) → Stands mine k deals step h
+pub by_kept : (rule : InStep → Step → List Message) (mine : List ℕ → Bool) (k : InStep) (step : Step) (deals : List Deal) (h : List Event) → Stands mine k deals step h
     → rule (told mine k step h) (record step { moment = now h; stopped = is_market_halted h }) ≡ rule k step
 by_kept rule mine k step deals h s =
     ap (λ (t : ℕ). rule (told mine k step h) (record step { moment = t; stopped = is_market_halted h })) (sym s.moment)
     ∙ ap (λ (b : Bool). rule (told mine k step h) (record step { stopped = b })) (sym s.stopped)
-    ∙ ap (λ (l : Kept). rule l step) (sym (stands-told mine k step deals h s))
+    ∙ ap (λ (l : InStep). rule l step) (sym (stands-told mine k step deals h s))
 
-pub turned-gives : (rule : Phase → Brakes → Option Phase) (k : Kept) (step : Step) (mine : List ℕ → Bool) (deals : List Deal) (h : List Event) → Stands mine k deals step h
-    → rules.turned rule (context step.day (named mine k.id) step.input h) ≡ option_map_or (becoming k) (rule k.phase (brakes k step)) []
-turned-gives rule k step mine deals h s = by_kept (λ l step. option_map_or (becoming l) (rule l.phase (brakes l step)) []) mine k step deals h s
+pub turned-gives : (rule : Phase → Brakes → Option Phase) (k : InStep) (step : Step) (mine : List ℕ → Bool) (deals : List Deal) (h : List Event) → Stands mine k deals step h
+    → rules.turned rule (context step.day (named mine k.kept.id) step.input h) ≡ option_map_or (becoming k.kept) (rule k.kept.phase (brakes k.kept step)) []
+turned-gives rule k step mine deals h s = by_kept (λ l step. option_map_or (becoming l.kept) (rule l.kept.phase (brakes l.kept step)) []) mine k step deals h s
 
 -- a trial publishes what it leaves of the auction
 reopened_told : (mine : List ℕ → Bool) (k : Kept) (step : Step) (h : List Event) (x : Record) (a : AuctionState) (o : Trial)
@@ -115,11 +124,11 @@ reopen_told mine k step h x true (Some b) (Some r) =
     let a = auction_with (auction.origin h k.id) (auction.indication h k.id) b r in
     reopened_told mine k (record step { moment = now h }) h x a (trials.trial (now h) (in_last_10_minutes (now h) step.day) r a.reference a.indication)
 
-pub reopen-gives : (k : Kept) (step : Step) (mine : List ℕ → Bool) (deals : List Deal) (h : List Event) → Stands mine k deals step h
-    → rules.reopen (context step.day (named mine k.id) step.input h) ≡ reopening k step
+pub reopen-gives : (k : InStep) (step : Step) (mine : List ℕ → Bool) (deals : List Deal) (h : List Event) → Stands mine k deals step h
+    → rules.reopen (context step.day (named mine k.kept.id) step.input h) ≡ reopening k.kept step
 reopen-gives k step mine deals h s =
-    reopen_told mine (told mine k step h) (record step { moment = now h; stopped = is_market_halted h }) h step.input (auction.is_paused (of.phase h k.id)) (of.last_band h k.id) (auction.last_round h k.id)
-    ∙ by_kept reopening mine k step deals h s
+    reopen_told mine (told mine k step h).kept (record step { moment = now h; stopped = is_market_halted h }) h step.input (auction.is_paused (of.phase h k.kept.id)) (of.last_band h k.kept.id) (auction.last_round h k.kept.id)
+    ∙ by_kept (λ l. reopening l.kept) mine k step deals h s
 
 -- the end of a limit state, and its begin
 
@@ -133,16 +142,16 @@ entering k step =
     else if at_band LimitHigh (run_quote k) (run_band k) then becoming k LimitHigh
     else []
 
-pub leave-gives : (k : Kept) (step : Step) (mine : List ℕ → Bool) (deals : List Deal) (h : List Event) → Stands mine k deals step h
-    → rules.leave_limit (context step.day (named mine k.id) step.input h) ≡ leaving k step
-leave-gives k step mine deals h s = λ i. if is_limit (sym s.phase i) && not (at_band (sym s.phase i) (sym s.quote i) (sym s.band i)) then becoming k Trading else []
+pub leave-gives : (k : InStep) (step : Step) (mine : List ℕ → Bool) (deals : List Deal) (h : List Event) → Stands mine k deals step h
+    → rules.leave_limit (context step.day (named mine k.kept.id) step.input h) ≡ leaving k.kept step
+leave-gives k step mine deals h s = λ i. if is_limit (sym s.phase i) && not (at_band (sym s.phase i) (sym s.quote i) (sym s.band i)) then becoming k.kept Trading else []
 
-pub enter-gives : (k : Kept) (step : Step) (mine : List ℕ → Bool) (deals : List Deal) (h : List Event) → Stands mine k deals step h
-    → rules.enter_limit (context step.day (named mine k.id) step.input h) ≡ entering k step
+pub enter-gives : (k : InStep) (step : Step) (mine : List ℕ → Bool) (deals : List Deal) (h : List Event) → Stands mine k deals step h
+    → rules.enter_limit (context step.day (named mine k.kept.id) step.input h) ≡ entering k.kept step
 enter-gives k step mine deals h s = λ i.
     if not (is_trading (sym s.phase i)) then []
-    else if at_band LimitLow (sym s.quote i) (sym s.band i) then becoming k LimitLow
-    else if at_band LimitHigh (sym s.quote i) (sym s.band i) then becoming k LimitHigh
+    else if at_band LimitLow (sym s.quote i) (sym s.band i) then becoming k.kept LimitLow
+    else if at_band LimitHigh (sym s.quote i) (sym s.band i) then becoming k.kept LimitHigh
     else []
 
 -- a price, else another
@@ -157,66 +166,66 @@ later-gives : (c : Context) (o : Option Banded)
 later-gives c None = because_either (rules.released c.history c.symbol) (prices.first_price (of.begun c.history c.symbol) c.moment (rules.offered c) (rules.mean_now c))
 later-gives c (Some b) = refl
 
-reference-gives : (k : Kept) (step : Step) (mine : List ℕ → Bool) (deals : List Deal) (h : List Event) → Stands mine k deals step h
-    → rules.reference (context step.day (named mine k.id) step.input h) ≡ reference k step (of.mean step.day h k.id)
+reference-gives : (k : InStep) (step : Step) (mine : List ℕ → Bool) (deals : List Deal) (h : List Event) → Stands mine k deals step h
+    → rules.reference (context step.day (named mine k.kept.id) step.input h) ≡ reference k step (of.mean step.day h k.kept.id)
 reference-gives k step mine deals h s =
-    ap (λ (o : Option Priced). if not (is_trading (of.phase h k.id)) then None else if rules.has_left_limit h k.id then forced (of.mean step.day h k.id) else o)
-    (later-gives (context step.day (named mine k.id) step.input h) (of.last_band h k.id))
+    ap (λ (o : Option Priced). if not (is_trading (of.phase h k.kept.id)) then None else if rules.has_left_limit h k.kept.id then forced (of.mean step.day h k.kept.id) else o)
+    (later-gives (context step.day (named mine k.kept.id) step.input h) (of.last_band h k.kept.id))
     ∙ (λ i.
     if not (is_trading (sym s.phase i)) then None
-    else if sym s.left_limit i then forced (of.mean step.day h k.id)
+    else if sym s.left_limit i then forced (of.mean step.day h k.kept.id)
     else priced_by (sym s.released i) (record { begun = begins i; last = adopts i }) (sym s.moment i)
-    (or_else (of.opening_price step.day k.id step.input) (if rules.opens_on_quotes k.id step.input then of.prior_close_of (sym s.terms i) else None)) (of.mean step.day h k.id))
+    (or_else (of.opening_price step.day k.kept.id step.input) (if rules.opens_on_quotes k.kept.id step.input then of.prior_close_of (sym s.terms i) else None)) (of.mean step.day h k.kept.id))
   where
-    begins : of.begun h k.id ≡ (run_reference k).begun
-    begins = ap (λ (o : Option ℕ). unwrap_or o 0) (sym s.begun) ∙ begun_is k.run
+    begins : of.begun h k.kept.id ≡ (run_reference k.kept).begun
+    begins = ap (λ (o : Option ℕ). unwrap_or o 0) (sym s.begun) ∙ begun_is k.kept.run
 
-    adopts : adoption_by (of.adopted h k.id) (of.last_band h k.id) ≡ (run_reference k).last
-    adopts = sym s.adopted ∙ adopted_is k.run
+    adopts : adoption_by (of.adopted h k.kept.id) (of.last_band h k.kept.id) ≡ (run_reference k.kept).last
+    adopts = sym s.adopted ∙ adopted_is k.kept.run
 
-pub banding-gives : (mean : Option ℕ) (k : Kept) (step : Step) (mine : List ℕ → Bool) (deals : List Deal) (h : List Event) → Stands mine k deals step h
-    → of.mean step.day h k.id ≡ mean → rules.publish_band (context step.day (named mine k.id) step.input h) ≡ banding mean k step
+pub banding-gives : (mean : Option ℕ) (k : InStep) (step : Step) (mine : List ℕ → Bool) (deals : List Deal) (h : List Event) → Stands mine k deals step h
+    → of.mean step.day h k.kept.id ≡ mean → rules.publish_band (context step.day (named mine k.kept.id) step.input h) ≡ banding mean k step
 banding-gives mean k step mine deals h s e =
     (λ i. elim (reference-gives k step mine deals h s i) [ Some r ↦ rules.band c r.cause r.price | None ↦ option_map_or (rules.band_by_time c) (sym s.band i) [] ])
-    ∙ by_kept (λ l later. elim (reference k step (of.mean step.day h k.id)) [ Some r ↦ band l later r.cause r.price | None ↦ option_map_or (band_by_time l later) (run_band k) [] ]) mine k step deals h s
+    ∙ by_kept (λ l later. elim (reference k step (of.mean step.day h k.kept.id)) [ Some r ↦ band l.kept later r.cause r.price | None ↦ option_map_or (band_by_time l.kept later) (run_band k.kept) [] ]) mine k step deals h s
     ∙ ap (λ (m : Option ℕ). banding m k step) e
   where
     c : Context
-    c = context step.day (named mine k.id) step.input h
+    c = context step.day (named mine k.kept.id) step.input h
 
 -- the mean of the history is that of the window
-pub mean-gives : (k : Kept) (step : Step) (mine : List ℕ → Bool) (deals : List Deal) (h : List Event) → Stands mine k deals step h
-    → of.mean step.day h k.id ≡ mean_of (live step.moment (window k deals))
+pub mean-gives : (k : InStep) (step : Step) (mine : List ℕ → Bool) (deals : List Deal) (h : List Event) → Stands mine k deals step h
+    → of.mean step.day h k.kept.id ≡ mean_of (live step.moment (window k deals))
 mean-gives k step mine deals h s =
     ap (λ (ds : List Deal). mean_of ds) (sym (s.window.at (now h) (le_refl (now h))))
     ∙ ap (λ (t : ℕ). mean_of (live t (window k deals))) (sym s.moment)
 
-pub straddle-gives : (k : Kept) (step : Step) (mine : List ℕ → Bool) (deals : List Deal) (h : List Event) → Stands mine k deals step h
-    → rules.straddle (context step.day (named mine k.id) step.input h) ≡ straddling k step
+pub straddle-gives : (k : InStep) (step : Step) (mine : List ℕ → Bool) (deals : List Deal) (h : List Event) → Stands mine k deals step h
+    → rules.straddle (context step.day (named mine k.kept.id) step.input h) ≡ straddling k.kept step
 straddle-gives k step mine deals h s = λ i. straddles (is_trading (sym s.phase i) && meets limits.straddles (sym s.quote i) (sym s.band i)) (sym s.straddling i) where
   straddles : (now was : Bool) → List Message
-  straddles now was = if now && not was then out.Straddle k.id true ∷ [] else if was && not now then out.Straddle k.id false ∷ [] else []
+  straddles now was = if now && not was then out.Straddle k.kept.id true ∷ [] else if was && not now then out.Straddle k.kept.id false ∷ [] else []
 
-abbrev pub restricting : Kept → Step → List Message
-restricting k step = if k.restricts then out.Short k.id Triggered ∷ [] else []
+abbrev pub restricting : InStep → Step → List Message
+restricting k step = if k.opened.restricts then out.Short k.kept.id Triggered ∷ [] else []
 
-pub restrict-gives : (k : Kept) (step : Step) (mine : List ℕ → Bool) (deals : List Deal) (h : List Event) → Stands mine k deals step h
-    → rules.restrict (context step.day (named mine k.id) step.input h) ≡ restricting k step
+pub restrict-gives : (k : InStep) (step : Step) (mine : List ℕ → Bool) (deals : List Deal) (h : List Event) → Stands mine k deals step h
+    → rules.restrict (context step.day (named mine k.kept.id) step.input h) ≡ restricting k step
 restrict-gives k step mine deals h s = by_kept restricting mine k step deals h s
 
 -- a pause, with these bands
 abbrev pausing_with : Option Banded → Kept → Step → List Message
 pausing_with band k step = option_map_or (λ p. becoming k p ++ (if auction.is_paused p then option_map_or (λ b. collars_of k.id (auction_begun k step b)) band [] else [])) (pause_now k step) []
 
-pub pause-gives : (k : Kept) (step : Step) (mine : List ℕ → Bool) (deals : List Deal) (h : List Event) → Stands mine k deals step h
-    → rules.pause (context step.day (named mine k.id) step.input h) ≡ pausing k step
+pub pause-gives : (k : InStep) (step : Step) (mine : List ℕ → Bool) (deals : List Deal) (h : List Event) → Stands mine k deals step h
+    → rules.pause (context step.day (named mine k.kept.id) step.input h) ≡ pausing k.kept step
 pause-gives k step mine deals h s =
-    (λ i. pausing_with (sym s.band i) (told mine k step h) (record step { moment = now h; stopped = is_market_halted h }))
-    ∙ by_kept (pausing_with (run_band k)) mine k step deals h s
+    (λ i. pausing_with (sym s.band i) (told mine k step h).kept (record step { moment = now h; stopped = is_market_halted h }))
+    ∙ by_kept (λ l. pausing_with (run_band k.kept) l.kept) mine k step deals h s
 
-pub announced-gives : (k : Kept) (step : Step) (mine : List ℕ → Bool) (deals : List Deal) (h : List Event) (x : Record) → Stands mine k deals step h → announced (named mine k.id) x h ≡ announcing k x
+pub announced-gives : (k : InStep) (step : Step) (mine : List ℕ → Bool) (deals : List Deal) (h : List Event) (x : Record) → Stands mine k deals step h → announced (named mine k.kept.id) x h ≡ announcing k.kept x
 announced-gives k step mine deals h (in_.Day t d c) s = refl
-announced-gives k step mine deals h (in_.Listing t name l m c) s = ap (λ (b : Bool). if b then out.Listed k.id name ∷ out.Short k.id Carried ∷ [] else out.Listed k.id name ∷ []) (sym s.carried)
+announced-gives k step mine deals h (in_.Listing t name l m c) s = ap (λ (b : Bool). if b then out.Listed k.kept.id name ∷ out.Short k.kept.id Carried ∷ [] else out.Listed k.kept.id name ∷ []) (sym s.carried)
 announced-gives k step mine deals h (in_.Trade t i n p q f) s = refl
 announced-gives k step mine deals h (in_.Cancel t i n) s = refl
 announced-gives k step mine deals h (in_.Quote t i b o x y) s = refl

@@ -22,6 +22,7 @@ use Rattle.rulebook.specs.Rules.{asks_to_pause, at_band}
 use Rattle.rulebook.specs.Symbol.{bands_of}
 use Rattle.symbol_core.specs.declared.kept.Kept.{Kept}
 use Rattle.symbol_core.specs.declared.kept.Step.{Step}
+use Rattle.symbol_core.specs.InStep.{InStep}
 use Rattle.symbol_core.specs.Kept.{auction_begun, collars_of, is_straddling_now, pausing, pausing_as, reopened, reopening, reopening_with, straddling}
 use Rattle.symbol_core.specs.Pricing.{band, band_by_time, banding, reference, time_changes}
 use Rattle.symbol_core.specs.Runs.{run_band, run_quote}
@@ -64,24 +65,24 @@ leaving-goes_on k step e = by (is_limit k.phase && not (at_band k.phase (run_quo
   by true = refl
   by false = e
 
-pub banding-goes_on : (mean : Option ℕ) (k : Kept) (step : Step) → GoesOn k.phase (banding mean k step)
+pub banding-goes_on : (mean : Option ℕ) (k : InStep) (step : Step) → GoesOn k.kept.phase (banding mean k step)
 banding-goes_on mean k step e = by (reference k step mean) where
   by_terms : (why : Cause) (price : ℕ) (o : Option Terms)
-      → is_done (phase_after k.phase (option_map_or (λ listed. let b = bands_of listed step.day step.moment price in out.Band k.id why price b.lower b.upper ∷ []) o [])) ≡ false
+      → is_done (phase_after k.kept.phase (option_map_or (λ listed. let b = bands_of listed step.day step.moment price in out.Band k.kept.id why price b.lower b.upper ∷ []) o [])) ≡ false
   by_terms why price None = e
   by_terms why price (Some listed) = e
 
-  by_change : (why : Cause) (price : ℕ) (b : Bool) → is_done (phase_after k.phase (if b then band k step why price else [])) ≡ false
-  by_change why price true = by_terms why price k.terms
+  by_change : (why : Cause) (price : ℕ) (b : Bool) → is_done (phase_after k.kept.phase (if b then band k.kept step why price else [])) ≡ false
+  by_change why price true = by_terms why price k.kept.terms
   by_change why price false = e
 
-  by_time : (o : Option Banded) → is_done (phase_after k.phase (option_map_or (band_by_time k step) o [])) ≡ false
+  by_time : (o : Option Banded) → is_done (phase_after k.kept.phase (option_map_or (band_by_time k.kept step) o [])) ≡ false
   by_time None = e
-  by_time (Some last) = by_change Cause.Times last.reference (is_trading k.phase && time_changes k step last)
+  by_time (Some last) = by_change Cause.Times last.reference (is_trading k.kept.phase && time_changes k.kept step last)
 
-  by : (o : Option Priced) → is_done (phase_after k.phase (elim o [ Some r ↦ band k step r.cause r.price | None ↦ option_map_or (band_by_time k step) (run_band k) [] ])) ≡ false
-  by (Some r) = by_terms r.cause r.price k.terms
-  by None = by_time (run_band k)
+  by : (o : Option Priced) → is_done (phase_after k.kept.phase (elim o [ Some r ↦ band k.kept step r.cause r.price | None ↦ option_map_or (band_by_time k.kept step) (run_band k.kept) [] ])) ≡ false
+  by (Some r) = by_terms r.cause r.price k.kept.terms
+  by None = by_time (run_band k.kept)
 
 pub entering-goes_on : (k : Kept) (step : Step) → GoesOn k.phase (entering k step)
 entering-goes_on k step e = by (is_trading k.phase) (at_band phase.LimitLow (run_quote k) (run_band k)) (at_band phase.LimitHigh (run_quote k) (run_band k)) where

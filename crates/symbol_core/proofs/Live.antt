@@ -14,6 +14,7 @@ use Rattle.window_core.specs.Deals.{is_live, live}
 use Rattle.window_core.proofs.Deals.{live-live}
 use Rattle.symbol_core.specs.declared.kept.Kept.{Kept}
 use Rattle.symbol_core.specs.declared.kept.Step.{Step}
+use Rattle.symbol_core.specs.InStep.{InStep}
 use Rattle.symbol_core.specs.Taken.{deal_of, taken}
 use Rattle.symbol_core.specs.Window.{SameLive}
 
@@ -64,7 +65,7 @@ live-own day s (in_.Notice t i k) = refl
 live-own day s (in_.Indication t i p u) = refl
 
 -- so is the open step's own, once its record is taken in
-pub live-taken : (step : Step) (old new : Kept) → new ≡ taken old step → step.moment ≡ moment_of step.input → live step.moment (option_to_list new.deal) ≡ option_to_list new.deal
+pub live-taken : (step : Step) (old : Kept) (new : InStep) → new ≡ taken old step → step.moment ≡ moment_of step.input → live step.moment (option_to_list new.opened.deal) ≡ option_to_list new.opened.deal
 live-taken step old new e now =
     let P : ℕ → Type 0 = λ t. live t (option_to_list (deal_of step.day old.id step.input)) ≡ option_to_list (deal_of step.day old.id step.input) in
     rw e (subst P (sym now) (live-own step.day old.id step.input))

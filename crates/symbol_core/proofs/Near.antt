@@ -6,17 +6,17 @@ use Rattle.std.proofs.lemmas.List.Elements.{All-append, All-cons, All-nil}
 use Rattle.price_core.specs.Moves.{moved_one_percent}
 use Rattle.window_core.specs.declared.window.Deal.{Deal}
 use Rattle.window_core.specs.Deals.{AreNear}
-use Rattle.symbol_core.specs.declared.kept.Kept.{Kept}
+use Rattle.symbol_core.specs.InStep.{InStep}
 use Rattle.symbol_core.specs.Window.{counted_deal, window}
 
 not_so : (b : Bool) → not b ≡ true → b ≡ false
 not_so true e = absurd cc
 not_so false e = refl
 
-pub near_window : (k : Kept) (reference : ℕ) (deals : List Deal) (far : Bool) → AreNear reference deals → far ≡ option_map_or (λ d. moved_one_percent d.price reference) k.deal false → not far ≡ true
+pub near_window : (k : InStep) (reference : ℕ) (deals : List Deal) (far : Bool) → AreNear reference deals → far ≡ option_map_or (λ d. moved_one_percent d.price reference) k.opened.deal false → not far ≡ true
     → AreNear reference (window k deals)
 near_window k reference deals far near is is_near =
-    All-append (λ d. moved_one_percent d.price reference ≡ false) (if k.is_fresh then [] else deals) (counted_deal k) (part k.is_fresh) (own (is_some k.run) k.deal (sym is ∙ not_so far is_near))
+    All-append (λ d. moved_one_percent d.price reference ≡ false) (if k.opened.is_fresh then [] else deals) (counted_deal k) (part k.opened.is_fresh) (own (is_some k.kept.run) k.opened.deal (sym is ∙ not_so far is_near))
   where
     part : (fresh : Bool) → AreNear reference (if fresh then [] else deals)
     part true = All-nil (λ d. moved_one_percent d.price reference ≡ false)

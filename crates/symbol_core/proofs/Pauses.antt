@@ -17,6 +17,7 @@ use Rattle.rulebook.specs.Symbol.{is_times}
 use Rattle.rulebook.specs.Auction.{is_paused}
 use Rattle.symbol_core.specs.declared.kept.Kept.{Kept}
 use Rattle.symbol_core.specs.declared.kept.Step.{Step}
+use Rattle.symbol_core.specs.InStep.{InStep}
 use Rattle.symbol_core.specs.Kept.{begins_auction}
 use Rattle.symbol_core.specs.Pricing.{later_price, offered, reference, released_first}
 use Rattle.symbol_core.specs.Runs.{run_band, run_reference}
@@ -69,10 +70,10 @@ trading-unpaused phase.Stopped e = refl
 trading-unpaused phase.Closed e = refl
 
 -- one with a new reference price trades
-pub priced-unpaused : (k : Kept) (step : Step) (mean : Option ℕ) (r : Priced) → reference k step mean ≡ Some r → is_paused k.phase ≡ false
-priced-unpaused k step mean r e = trading-unpaused k.phase (by (is_trading k.phase) e)
+pub priced-unpaused : (k : InStep) (step : Step) (mean : Option ℕ) (r : Priced) → reference k step mean ≡ Some r → is_paused k.kept.phase ≡ false
+priced-unpaused k step mean r e = trading-unpaused k.kept.phase (by (is_trading k.kept.phase) e)
   where
-    by : (trades : Bool) → (if not trades then None else if k.left_limit then forced mean else later_price k step mean) ≡ Some r → trades ≡ true
+    by : (trades : Bool) → (if not trades then None else if k.opened.left_limit then forced mean else later_price k step mean) ≡ Some r → trades ≡ true
     by true e = refl
     by false e = absurd cc
 
@@ -93,13 +94,13 @@ either_adopts : (p : Option ℕ) (o : Option Priced) → by_time o ≡ false →
 either_adopts None o e = e
 either_adopts (Some p) o e = refl
 
-pub priced-adopts : (k : Kept) (step : Step) (mean : Option ℕ) (r : Priced) → reference k step mean ≡ Some r → is_times r.cause ≡ false
-priced-adopts k step mean r e = sym (ap by_time e) ∙ by (is_trading k.phase) k.left_limit
+pub priced-adopts : (k : InStep) (step : Step) (mean : Option ℕ) (r : Priced) → reference k step mean ≡ Some r → is_times r.cause ≡ false
+priced-adopts k step mean r e = sym (ap by_time e) ∙ by (is_trading k.kept.phase) k.opened.left_limit
   where
     last : Option Adoption
-    last = (run_reference k).last
+    last = (run_reference k.kept).last
 
     by : (trades left : Bool) → by_time (if not trades then None else if left then forced mean else later_price k step mean) ≡ false
     by false left = refl
     by true true = because_adopts Forced mean refl
-    by true false = either_adopts (released_first k.released last) (observed (run_reference k).begun last step.moment (offered k step) mean) (observed_adopts (run_reference k).begun last step.moment (offered k step) mean)
+    by true false = either_adopts (released_first k.opened.released last) (observed (run_reference k.kept).begun last step.moment (offered k.kept step) mean) (observed_adopts (run_reference k.kept).begun last step.moment (offered k.kept step) mean)

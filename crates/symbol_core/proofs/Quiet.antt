@@ -16,10 +16,11 @@ use Rattle.symbol_core.specs.declared.kept.Kept.{Kept}
 use Rattle.symbol_core.specs.declared.kept.Step.{Step}
 use Rattle.symbol_core.specs.declared.symbol.MarketView.{MarketView}
 use Rattle.symbol_core.specs.Idle.{IsDue, IsQuiet, IsSettled, Waits, WaitsAt, changes_bands, comes_often, is_out}
+use Rattle.symbol_core.specs.InStep.{InStep}
 use Rattle.symbol_core.specs.Kept.{announcing, quoted_by, requoted}
 use Rattle.symbol_core.specs.Pricing.{reference}
 use Rattle.symbol_core.specs.Stands.{ObeysAll, Says, Speaks, Stands}
-use Rattle.symbol_core.specs.Taken.{finished, taken}
+use Rattle.symbol_core.specs.Taken.{taken}
 use Rattle.symbol_core.specs.Window.{window}
 use Rattle.symbol_core.proofs.Chains.{none}
 use Rattle.symbol_core.proofs.Runs.{run_keeps}
@@ -53,30 +54,25 @@ asks_nothing s (in_.Indication t i p u) e = absurd cc
 bands_taken : (k : Kept) (quote : Option Quotation) (later : Step) → changes_bands (record k { run = option_map (requoted quote) k.run }) later ≡ changes_bands k later
 bands_taken k quote later = run_keeps (λ o. changes_bands (record k { run = o }) later) (requoted quote) (λ run. refl) k.run
 
-waits_taken : (k : Kept) (step : Step) (day : Day) (stopped : Bool) (from until : ℕ) (x : Record) → x ≡ step.input → comes_often x ≡ true → Waits k day stopped from until → Waits (taken k step) day stopped from until
+waits_taken : (k : Kept) (step : Step) (day : Day) (stopped : Bool) (from until : ℕ) (x : Record) → x ≡ step.input → comes_often x ≡ true → Waits k day stopped from until → Waits (taken k step).kept day stopped from until
 waits_taken held step day stopped from until (in_.Day t d c) is e w = absurd cc
 waits_taken held step day stopped from until (in_.Listing t name k l c) is e w = absurd cc
-waits_taken held step day stopped from until (in_.Trade t i n p q f) is e w = subst (λ (y : Record). Waits (taken held (record step { input = y })) day stopped from until) is (record { closes = w.closes; starts = w.starts; pauses = w.pauses; reopens = w.reopens; bands = λ later on le lt. bands_taken held (quoted_by held.id (in_.Trade t i n p q f)) later ∙ w.bands later on le lt })
+waits_taken held step day stopped from until (in_.Trade t i n p q f) is e w = subst (λ (y : Record). Waits (taken held (record step { input = y })).kept day stopped from until) is (record { closes = w.closes; starts = w.starts; pauses = w.pauses; reopens = w.reopens; bands = λ later on le lt. bands_taken held (quoted_by held.id (in_.Trade t i n p q f)) later ∙ w.bands later on le lt })
 waits_taken held step day stopped from until (in_.Cancel t i n) is e w = absurd cc
-waits_taken held step day stopped from until (in_.Quote t i b o y z) is e w = subst (λ (y : Record). Waits (taken held (record step { input = y })) day stopped from until) is (record { closes = w.closes; starts = w.starts; pauses = w.pauses; reopens = w.reopens; bands = λ later on le lt. bands_taken held (quoted_by held.id (in_.Quote t i b o y z)) later ∙ w.bands later on le lt })
-waits_taken held step day stopped from until (in_.IndexTick t v) is e w = subst (λ (y : Record). Waits (taken held (record step { input = y })) day stopped from until) is (record { closes = w.closes; starts = w.starts; pauses = w.pauses; reopens = w.reopens; bands = λ later on le lt. bands_taken held (quoted_by held.id (in_.IndexTick t v)) later ∙ w.bands later on le lt })
-waits_taken held step day stopped from until (in_.Clock t) is e w = subst (λ (y : Record). Waits (taken held (record step { input = y })) day stopped from until) is (record { closes = w.closes; starts = w.starts; pauses = w.pauses; reopens = w.reopens; bands = λ later on le lt. bands_taken held (quoted_by held.id (in_.Clock t)) later ∙ w.bands later on le lt })
+waits_taken held step day stopped from until (in_.Quote t i b o y z) is e w = subst (λ (y : Record). Waits (taken held (record step { input = y })).kept day stopped from until) is (record { closes = w.closes; starts = w.starts; pauses = w.pauses; reopens = w.reopens; bands = λ later on le lt. bands_taken held (quoted_by held.id (in_.Quote t i b o y z)) later ∙ w.bands later on le lt })
+waits_taken held step day stopped from until (in_.IndexTick t v) is e w = subst (λ (y : Record). Waits (taken held (record step { input = y })).kept day stopped from until) is (record { closes = w.closes; starts = w.starts; pauses = w.pauses; reopens = w.reopens; bands = λ later on le lt. bands_taken held (quoted_by held.id (in_.IndexTick t v)) later ∙ w.bands later on le lt })
+waits_taken held step day stopped from until (in_.Clock t) is e w = subst (λ (y : Record). Waits (taken held (record step { input = y })).kept day stopped from until) is (record { closes = w.closes; starts = w.starts; pauses = w.pauses; reopens = w.reopens; bands = λ later on le lt. bands_taken held (quoted_by held.id (in_.Clock t)) later ∙ w.bands later on le lt })
 waits_taken held step day stopped from until (in_.Notice t i kind) is e w = absurd cc
 waits_taken held step day stopped from until (in_.Indication t i p u) is e w = absurd cc
 
-pub waits-taken : (k : Kept) (step : Step) (o : Option ℕ) → IfSome o (λ until. WaitsAt k step until) → IfSome o (λ until. WaitsAt (taken k step) step until)
+pub waits-taken : (k : Kept) (step : Step) (o : Option ℕ) → IfSome o (λ until. WaitsAt k step until) → IfSome o (λ until. WaitsAt (taken k step).kept step until)
 waits-taken k step None w = tt
 waits-taken k step (Some until) w = record { often = w.often; later = w.later; waits = waits_taken k step step.day step.stopped step.moment until step.input refl w.often w.waits }
 
-pub waits-finished : (mid new : Kept) (step : Step) (o : Option ℕ) → new ≡ finished mid → IfSome o (λ until. WaitsAt mid step until) → IfSome o (λ until. Waits new step.day step.stopped step.moment until)
-waits-finished mid new step None is w = tt
-waits-finished mid new step (Some until) is w = subst (λ (k : Kept). Waits k step.day step.stopped step.moment until) (sym is) (by w.waits) where
-  by : Waits mid step.day step.stopped step.moment until → Waits (finished mid) step.day step.stopped step.moment until
-  by v = record { closes = v.closes; starts = v.starts; pauses = v.pauses; reopens = v.reopens; bands = v.bands }
-
-pub settled-finished : (mid new : Kept) (step : Step) → new ≡ finished mid → IsSettled mid step.stopped → IsSettled new step.stopped
-settled-finished mid new step is s =
-    subst (λ (k : Kept). IsSettled k step.stopped) (sym is) (record { runs = s.runs; halted = s.halted; stays = s.stays; low = s.low; high = s.high; straddles = s.straddles })
+-- the moments of a step that is waited at
+pub waits-left : (k : Kept) (step : Step) (o : Option ℕ) → IfSome o (λ until. WaitsAt k step until) → IfSome o (λ until. Waits k step.day step.stopped step.moment until)
+waits-left k step None w = tt
+waits-left k step (Some until) w = w.waits
 
 -- by when the stock was due
 pub waits-due : (k : Kept) (deals : List Deal) (due : Due) (step : Step) → comes_often step.input ≡ true → due.from ≤ step.moment → step.moment < due.waits → record { day = step.day; stopped = step.stopped } ≡ due.market → IsDue (Some due) k deals → is_out k ≡ false
@@ -91,13 +87,13 @@ waits-due k deals due step often from until same is inside = record {
 
 -- No rule says anything.
 
-quiet_at : (k : Kept) (deals : List Deal) (step : Step) (until : ℕ) → WaitsAt k step until → IsSettled k step.stopped → reference k step (mean_of (live step.moment (window k deals))) ≡ None → k.restricts ≡ false → IsQuiet k deals step
+quiet_at : (k : InStep) (deals : List Deal) (step : Step) (until : ℕ) → WaitsAt k.kept step until → IsSettled k.kept step.stopped → reference k step (mean_of (live step.moment (window k deals))) ≡ None → k.opened.restricts ≡ false → IsQuiet k deals step
 quiet_at k deals step until w settled prices restricts = record {
   settled = settled;
   closes = w.waits.closes step.moment w.later;
   starts = w.waits.starts step.moment w.later;
   pauses = w.waits.pauses step.moment w.later;
-  asks = asks_nothing k.id step.input w.often;
+  asks = asks_nothing k.kept.id step.input w.often;
   reopens = w.waits.reopens step.moment w.later;
   prices = prices;
   bands = w.waits.bands step refl (omega arith) w.later;
@@ -109,10 +105,10 @@ append_nothing [] = refl
 append_nothing (m ∷ xs) = ap (λ (ys : List Message). m ∷ ys) (append_nothing xs)
 
 -- nothing is announced at such a record
-pub announces-none : (k : Kept) (step : Step) (before : List Message) → comes_often step.input ≡ true → Says (announcing k step.input) step k k before before
-announces-none k step before often = subst (λ (ms : List Message). Says ms step k k before before) (sym (announces_nothing k step.input often)) (none step k before)
+pub announces-none : (k : InStep) (step : Step) (before : List Message) → comes_often step.input ≡ true → Says (announcing k.kept step.input) step k k before before
+announces-none k step before often = subst (λ (ms : List Message). Says ms step k k before before) (sym (announces_nothing k.kept step.input often)) (none step k before)
 
-obeys_quiet : (k : Kept) (deals : List Deal) (step : Step) (before : List Message) → IsQuiet k deals step → ObeysAll deals symbol_rules step k k before before
+obeys_quiet : (k : InStep) (deals : List Deal) (step : Step) (before : List Message) → IsQuiet k deals step → ObeysAll deals symbol_rules step k k before before
 obeys_quiet k deals step before quiet =
     record {
       says = λ mine h s. append_nothing before ∙ ap (λ (ms : List Message). before ++ ms) (sym (quiet-nothing k deals step quiet mine h s));
@@ -120,14 +116,14 @@ obeys_quiet k deals step before quiet =
       id = refl;
     }
 
-pub speaks-quiet : (k : Kept) (deals : List Deal) (step : Step) (before : List Message) (o : Option ℕ) → is_some o ≡ true → IfSome o (λ until. WaitsAt k step until) → IsSettled k step.stopped → reference k step (mean_of (live step.moment (window k deals))) ≡ None → k.restricts ≡ false
+pub speaks-quiet : (k : InStep) (deals : List Deal) (step : Step) (before : List Message) (o : Option ℕ) → is_some o ≡ true → IfSome o (λ until. WaitsAt k.kept step until) → IsSettled k.kept step.stopped → reference k step (mean_of (live step.moment (window k deals))) ≡ None → k.opened.restricts ≡ false
     → Speaks deals step k k before before
 speaks-quiet k deals step before None some w settled prices restricts = absurd cc
 speaks-quiet k deals step before (Some until) some w settled prices restricts =
     record {
       said = k;
       between = before;
-      announces = subst (λ (ms : List Message). Says ms step k k before before) (sym (announces_nothing k step.input w.often)) (none step k before);
+      announces = subst (λ (ms : List Message). Says ms step k k before before) (sym (announces_nothing k.kept step.input w.often)) (none step k before);
       obeys = obeys_quiet k deals step before (quiet_at k deals step until w settled prices restricts);
     }
 

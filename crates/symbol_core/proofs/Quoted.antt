@@ -15,7 +15,8 @@ use Rattle.symbol_core.specs.declared.kept.Run.{Run}
 use Rattle.symbol_core.specs.declared.kept.Step.{Step}
 use Rattle.symbol_core.specs.declared.symbol.MarketView.{MarketView}
 use Rattle.symbol_core.specs.Evaluates.{Evaluates}
-use Rattle.symbol_core.specs.Idle.{IsDue, IsIdle, IsRested, IsSettled, IsSettledAt, WaitsAt, changes_bands, is_out, quoted}
+use Rattle.symbol_core.specs.Idle.{IsDue, IsIdle, IsSettled, IsSettledAt, WaitsAt, changes_bands, is_out, quoted}
+use Rattle.symbol_core.specs.InStep.{at_rest}
 use Rattle.symbol_core.specs.Kept.{quoted_by, requoted, with_quote}
 use Rattle.symbol_core.specs.Pricing.{reference}
 use Rattle.symbol_core.specs.Steps.{Steps}
@@ -36,8 +37,8 @@ settled-market k deals due market is inside same = let idle = is inside in subst
 kept_quoted : {X : Type 0} (value : Kept → X) (k : Kept) (quote : Quotation) → ((run : Run) (other : Option Quotation) → value (record k { run = Some (requoted other run) }) ≡ value (record k { run = Some run })) → value (with_quote k quote) ≡ value k
 kept_quoted value k quote leaves = run_keeps (λ o. value (record k { run = o })) (requoted (Some quote)) (λ run. leaves run (Some quote)) k.run
 
-reference_quoted : (k : Kept) (quote : Quotation) (step : Step) (mean : Option ℕ) → reference (with_quote k quote) step mean ≡ reference k step mean
-reference_quoted k quote step mean = kept_quoted (λ l. reference l step mean) k quote (λ run other. refl)
+reference_quoted : (k : Kept) (quote : Quotation) (step : Step) (mean : Option ℕ) → reference (at_rest (with_quote k quote)) step mean ≡ reference (at_rest k) step mean
+reference_quoted k quote step mean = kept_quoted (λ l. reference (at_rest l) step mean) k quote (λ run other. refl)
 
 -- settled with the quotation that it then has
 settled_quoted : (k : Kept) (quote : Quotation) (stopped : Bool) → is_some k.run ≡ true → IsSettledAt k (Some quote) stopped → IsSettled (with_quote k quote) stopped
@@ -53,9 +54,7 @@ quoted-due k deals due t quote market is from same run settled = λ inside. by (
   by : IsIdle k deals due → IsIdle (with_quote k quote) (live t deals) (record due { from = t })
   by idle =
       let waits = idle.waits in
-      let rested = idle.rested in
       record {
-        rested = record { left_limit = rested.left_limit; released = rested.released; deal = rested.deal; is_fresh = rested.is_fresh; restricts = rested.restricts };
         settled = subst (λ (m : MarketView). IsSettled (with_quote k quote) m.stopped) same (settled_quoted k quote market.stopped run settled);
         waits = record {
           closes = waits.closes;
@@ -65,7 +64,7 @@ quoted-due k deals due t quote market is from same run settled = λ inside. by (
           bands = λ step day le lt. kept_quoted (λ l. changes_bands l step) k quote (λ run other. refl) ∙ waits.bands step day (omega arith) lt;
         };
         within = idle.within;
-        prices = λ step tick le lt. reference_quoted k quote step (mean_of (live step.moment (live t deals))) ∙ ap (λ (ds : List Deal). reference k step (mean_of ds)) (live-live t step.moment le deals) ∙ idle.prices step tick (omega arith) lt;
+        prices = λ step tick le lt. reference_quoted k quote step (mean_of (live step.moment (live t deals))) ∙ ap (λ (ds : List Deal). reference (at_rest k) step (mean_of ds)) (live-live t step.moment le deals) ∙ idle.prices step tick (omega arith) lt;
       }
 
 module _ (market : MarketView) (t i y z : ℕ) (bid offer : Option ℕ) (k : Kept) (deals : List Deal) (due : Due) (quote : Quotation)
@@ -83,19 +82,9 @@ module _ (market : MarketView) (t i y z : ℕ) (bid offer : Option ℕ) (k : Kep
   abbrev with_it : Kept
   with_it = with_quote k quote
 
-  rested : IsRested with_it
-  rested = record { left_limit = idle.rested.left_limit; released = idle.rested.released; deal = idle.rested.deal; is_fresh = idle.rested.is_fresh; restricts = idle.rested.restricts }
-
   -- the kept state once the quotation is taken in
-  took : with_it ≡ taken k step
-  took = λ j. record k {
-    run = option_map (requoted (sym offered j)) k.run;
-    left_limit = idle.rested.left_limit j;
-    released = idle.rested.released j;
-    deal = idle.rested.deal j;
-    is_fresh = idle.rested.is_fresh j;
-    restricts = idle.rested.restricts j;
-  }
+  took : with_it ≡ (taken k step).kept
+  took = λ j. record k { run = option_map (requoted (sym offered j)) k.run }
 
   abbrev stayed : List Deal
   stayed = live t (filter (leaves k.id x) deals)
@@ -107,23 +96,23 @@ module _ (market : MarketView) (t i y z : ℕ) (bid offer : Option ℕ) (k : Kep
   waits = waits-due k deals due step refl from (let within = idle.within in omega (arith, within, until)) same is inside
 
   -- a quotation offers no price
-  no_price : reference with_it step (mean_of (live t (window with_it stayed))) ≡ None
+  no_price : reference (at_rest with_it) step (mean_of (live t (window (at_rest with_it) stayed))) ≡ None
   no_price =
-      ap (λ (ds : List Deal). reference with_it step (mean_of (live t ds))) (window_rested with_it stayed rested ∙ all)
-      ∙ ap (λ (ds : List Deal). reference with_it step (mean_of ds)) (live-live t t (omega arith) deals)
+      ap (λ (ds : List Deal). reference (at_rest with_it) step (mean_of (live t ds))) (window_rested with_it stayed ∙ all)
+      ∙ ap (λ (ds : List Deal). reference (at_rest with_it) step (mean_of ds)) (live-live t t (omega arith) deals)
       ∙ reference_quoted k quote step (mean_of (live t deals))
       ∙ idle.prices (record step { input = in_.Clock t }) refl from until
 
   keeps : SameLive t (live t deals) (window (taken k step) stayed)
   keeps =
-      subst (λ (ds : List Deal). SameLive t (live t deals) ds) (sym (window_rested (taken k step) stayed (record { left_limit = refl; released = refl; deal = refl; is_fresh = refl; restricts = refl }) ∙ all))
+      subst (λ (ds : List Deal). SameLive t (live t deals) ds) (sym (window_rested (taken k step).kept stayed ∙ all))
       (record { at = λ u le. refl })
 
   pub quote-steps : (before : List Message) → Steps step k with_it deals (live t deals) before before
   quote-steps before =
       let spoken = speaks-quiet (taken k step) stayed step before (Some due.waits) refl (waits-taken k step (Some due.waits) waits)
       (subst (λ (kept : Kept). IsSettled kept market.stopped) took (settled_quoted k quote market.stopped run settled))
-      (subst (λ (kept : Kept). reference kept step (mean_of (live t (window kept stayed))) ≡ None) took no_price) refl in
+      (subst (λ (l : Kept). reference (at_rest l) step (mean_of (live t (window (at_rest l) stayed))) ≡ None) took no_price) refl in
       step-evaluates step k spoken.said (taken k step) (taken k step) with_it deals (filter (leaves k.id x) deals) stayed stayed (live t deals) before spoken.between before
       refl refl refl refl spoken.announces spoken.obeys keeps took
 

@@ -21,6 +21,7 @@ use Rattle.rulebook.specs.Rules.{Context}
 use Rattle.rulebook.specs.Symbol.{phase}
 use Rattle.symbol_core.specs.declared.kept.Kept.{Kept}
 use Rattle.symbol_core.specs.declared.kept.Step.{Step}
+use Rattle.symbol_core.specs.InStep.{InStep}
 use Rattle.symbol_core.specs.Kept.{becoming, brakes, states, turned}
 use Rattle.symbol_core.specs.Stands.{named, ObeysAll, Says, Stands, turning_rules}
 use Rattle.symbol_core.proofs.Chains.{obeys_all, then_of}
@@ -38,12 +39,12 @@ option_closed true k o = refl
 option_closed false k o = refl
 
 -- one of them
-turn_gives : (rule : Phase → Brakes → Option Phase) (k : Kept) (step : Step) (mine : List ℕ → Bool) (deals : List Deal) (h : List Event) → Stands mine k deals step h
-    → obeyed step.day (named mine k.id) step.input (rules.turned rule) h ≡ option_map_or (becoming k) (turns.obeyed rule k.phase (brakes k step)) []
+turn_gives : (rule : Phase → Brakes → Option Phase) (k : InStep) (step : Step) (mine : List ℕ → Bool) (deals : List Deal) (h : List Event) → Stands mine k deals step h
+    → obeyed step.day (named mine k.kept.id) step.input (rules.turned rule) h ≡ option_map_or (becoming k.kept) (turns.obeyed rule k.kept.phase (brakes k.kept step)) []
 turn_gives rule k step mine deals h s =
-    ap (λ (ms : List Message). cond (is_done (phase h k.id)) [] ms) (turned-gives rule k step mine deals h s)
-    ∙ ap (λ (p : Phase). cond (is_done p) [] (option_map_or (becoming k) (rule k.phase (brakes k step)) [])) (sym s.phase)
-    ∙ option_closed (is_done k.phase) k (rule k.phase (brakes k step))
+    ap (λ (ms : List Message). cond (is_done (phase h k.kept.id)) [] ms) (turned-gives rule k step mine deals h s)
+    ∙ ap (λ (p : Phase). cond (is_done p) [] (option_map_or (becoming k.kept) (rule k.kept.phase (brakes k.kept step)) [])) (sym s.phase)
+    ∙ option_closed (is_done k.kept.phase) k.kept (rule k.kept.phase (brakes k.kept step))
 
 -- None of them pauses a stock.
 
@@ -61,32 +62,32 @@ obeyed_unpaused rule unpaused p b = by (is_done p) where
   by false = unpaused p b
 
 -- the phase that one brings, and then those of the others
-by_phase : (k : Kept) (step : Step) (mine : List ℕ → Bool) (deals : List Deal) (h : List Event) (later : List (Phase → Brakes → Option Phase)) → Stands mine k deals step h
-    → ((l : Kept) (g : List Event) → Stands mine l deals step g → all_obeyed step.day (named mine l.id) step.input (turned_rules later) g ≡ states l.id (turns.phases later l.phase (brakes l step)))
-    → (o : Option Phase) → option_map_or is_paused o false ≡ false → option_map_or (becoming k) o [] ++ all_obeyed step.day (named mine k.id) step.input (turned_rules later) (publish (option_map_or (becoming k) o []) h)
-    ≡ states k.id (option_to_list o ++ turns.phases later (unwrap_or o k.phase) (brakes k step))
+by_phase : (k : InStep) (step : Step) (mine : List ℕ → Bool) (deals : List Deal) (h : List Event) (later : List (Phase → Brakes → Option Phase)) → Stands mine k deals step h
+    → ((l : InStep) (g : List Event) → Stands mine l deals step g → all_obeyed step.day (named mine l.kept.id) step.input (turned_rules later) g ≡ states l.kept.id (turns.phases later l.kept.phase (brakes l.kept step)))
+    → (o : Option Phase) → option_map_or is_paused o false ≡ false → option_map_or (becoming k.kept) o [] ++ all_obeyed step.day (named mine k.kept.id) step.input (turned_rules later) (publish (option_map_or (becoming k.kept) o []) h)
+    ≡ states k.kept.id (option_to_list o ++ turns.phases later (unwrap_or o k.kept.phase) (brakes k.kept step))
 by_phase k step mine deals h later s rest None e = rest k h s
 by_phase k step mine deals h later s rest (Some p) e =
-    ap (λ (ms : List Message). out.State k.id p ∷ ms) (rest (turned k step p) (Published (out.State k.id p) ∷ h) (stands-turned mine k deals step p h (alone k p (Some p) refl e) s))
+    ap (λ (ms : List Message). out.State k.kept.id p ∷ ms) (rest (turned k step p) (Published (out.State k.kept.id p) ∷ h) (stands-turned mine k deals step p h (alone k.kept p (Some p) refl e) s))
 
-turns_give : (list : List (Phase → Brakes → Option Phase)) → AllUnpaused list → (k : Kept) (step : Step) (mine : List ℕ → Bool) (deals : List Deal) (h : List Event) → Stands mine k deals step h
-    → all_obeyed step.day (named mine k.id) step.input (turned_rules list) h ≡ states k.id (turns.phases list k.phase (brakes k step))
+turns_give : (list : List (Phase → Brakes → Option Phase)) → AllUnpaused list → (k : InStep) (step : Step) (mine : List ℕ → Bool) (deals : List Deal) (h : List Event) → Stands mine k deals step h
+    → all_obeyed step.day (named mine k.kept.id) step.input (turned_rules list) h ≡ states k.kept.id (turns.phases list k.kept.phase (brakes k.kept step))
 turns_give [] all k step mine deals h s = refl
 turns_give (rule ∷ later) all k step mine deals h s =
-    (λ i. turn_gives rule k step mine deals h s i ++ all_obeyed step.day (named mine k.id) step.input (turned_rules later) (publish (turn_gives rule k step mine deals h s i) h))
-    ∙ by_phase k step mine deals h later s (λ l g t. turns_give later all.1 l step mine deals g t) (turns.obeyed rule k.phase (brakes k step)) (obeyed_unpaused rule all.0 k.phase (brakes k step))
+    (λ i. turn_gives rule k step mine deals h s i ++ all_obeyed step.day (named mine k.kept.id) step.input (turned_rules later) (publish (turn_gives rule k step mine deals h s i) h))
+    ∙ by_phase k step mine deals h later s (λ l g t. turns_give later all.1 l step mine deals g t) (turns.obeyed rule k.kept.phase (brakes k.kept step)) (obeyed_unpaused rule all.0 k.kept.phase (brakes k.kept step))
 
 -- the phases of one call are those of the rules
-pub turns-obey : (k mid new : Kept) (step : Step) (brake : Brakes) (turned : Turned) (before between after : List Message) → brake ≡ brakes k step → option_to_list turned.first ++ option_to_list turned.second ≡ turns.turns k.phase brake
-    → Says (states k.id (option_to_list turned.first)) step k mid before between → Says (states mid.id (option_to_list turned.second)) step mid new between after
+pub turns-obey : (k mid new : InStep) (step : Step) (brake : Brakes) (turned : Turned) (before between after : List Message) → brake ≡ brakes k.kept step → option_to_list turned.first ++ option_to_list turned.second ≡ turns.turns k.kept.phase brake
+    → Says (states k.kept.id (option_to_list turned.first)) step k mid before between → Says (states mid.kept.id (option_to_list turned.second)) step mid new between after
     → (deals : List Deal) → ObeysAll deals turning_rules step k new before after
 turns-obey k mid new step brake turned before between after b all first second deals =
     obeys_all deals turning_rules (then_of (λ s. states s (option_to_list turned.second)) first second)
     (λ mine h s.
     turns_give (turns.session_close ∷ turns.market_halt ∷ turns.start ∷ turns.regulatory_halt ∷ []) turns_unpaused k step mine deals h s
-    ∙ ap (λ (b : Brakes). states k.id (turns.turns k.phase b)) (sym b)
-    ∙ ap (states k.id) (sym all)
-    ∙ map-append (λ p. out.State k.id p) (option_to_list turned.first) (option_to_list turned.second))
+    ∙ ap (λ (b : Brakes). states k.kept.id (turns.turns k.kept.phase b)) (sym b)
+    ∙ ap (states k.kept.id) (sym all)
+    ∙ map-append (λ p. out.State k.kept.id p) (option_to_list turned.first) (option_to_list turned.second))
 
 -- nor do the phases that they bring
 abbrev NonePaused : List Phase → Type 0

@@ -42,11 +42,12 @@ use Rattle.symbol_core.specs.declared.symbol.MarketView.{MarketView}
 use Rattle.symbol_core.specs.Evaluates.{Opens, open_history, part_of, step_of}
 use Rattle.symbol_core.specs.Kept.{announcing, auction_begun, banded, becoming, begins_auction, brakes, collars_of, in_round, is_straddling_now, pause_now, pausing, pausing_as, released, reopened, reopening, reopening_with, straddled, straddling, turned, with_auction}
 use Rattle.symbol_core.specs.Pricing.{band, band_by_time, banding, reference, time_changes}
+use Rattle.symbol_core.specs.InStep.{InStep}
 use Rattle.symbol_core.specs.Rests.{Held, Rests}
 use Rattle.symbol_core.specs.Runs.{run_band, run_quote}
 use Rattle.symbol_core.specs.Stands.{named, Stands}
 use Rattle.symbol_core.specs.Steps.{Starts}
-use Rattle.symbol_core.specs.Taken.{finished, leaves, renewed, taken}
+use Rattle.symbol_core.specs.Taken.{leaves, renewed, taken}
 use Rattle.symbol_core.specs.Window.{window}
 use Rattle.symbol_core.proofs.Apart.{stands-listed}
 use Rattle.symbol_core.proofs.Evaluated.{away, away-open, evaluated-away, starts, step_for}
@@ -60,64 +61,64 @@ use Rattle.symbol_core.proofs.Steps.{day_opened, stands-opened}
 
 -- What messages of the symbol do to the kept state, whatever the history.
 
-record Said (step : Step) (ms : List Message) (k : Kept) : Type 0 where
-  pub new : Kept
-  pub id : new.id ≡ k.id
+record Said (step : Step) (ms : List Message) (k : InStep) : Type 0 where
+  pub new : InStep
+  pub id : new.kept.id ≡ k.kept.id
   pub stands : (mine : List ℕ → Bool) (deals : List Deal) (h : List Event) → Stands mine k deals step h → Stands mine new deals step (publish ms h)
 
-none_said : (step : Step) (k : Kept) → Said step [] k
+none_said : (step : Step) (k : InStep) → Said step [] k
 none_said step k = record { new = k; id = refl; stands = λ mine deals h on. on }
 
 -- a message, then others
-then_said : (step : Step) (m : Message) (ms : List Message) (k : Kept) (first : Said step (m ∷ []) k) → Said step ms first.new → Said step (m ∷ ms) k
+then_said : (step : Step) (m : Message) (ms : List Message) (k : InStep) (first : Said step (m ∷ []) k) → Said step ms first.new → Said step (m ∷ ms) k
 then_said step m ms k first rest =
     record { new = rest.new; id = rest.id ∙ first.id; stands = λ mine deals h on. rest.stands mine deals (Published m ∷ h) (first.stands mine deals h on) }
 
-becoming_said : (k : Kept) (step : Step) (p : Phase) → begins_auction k p ≡ false → Said step (becoming k p) k
+becoming_said : (k : InStep) (step : Step) (p : Phase) → begins_auction k.kept p ≡ false → Said step (becoming k.kept p) k
 becoming_said k step p can = record { new = turned k step p; id = refl; stands = λ mine deals h on. stands-turned mine k deals step p h can on }
 
-straddle_said : (k : Kept) (step : Step) (on : Bool) → Said step (out.Straddle k.id on ∷ []) k
+straddle_said : (k : InStep) (step : Step) (on : Bool) → Said step (out.Straddle k.kept.id on ∷ []) k
 straddle_said k step on = record { new = straddled k on; id = refl; stands = λ mine deals h stands. stands-straddled mine k deals step on h stands }
 
-release_said : (k : Kept) (step : Step) (price : ℕ) → Said step (out.Release k.id price ∷ []) k
+release_said : (k : InStep) (step : Step) (price : ℕ) → Said step (out.Release k.kept.id price ∷ []) k
 release_said k step price = record { new = released k price; id = refl; stands = λ mine deals h on. stands-released mine k deals step price h on }
 
-short_said : (k : Kept) (step : Step) (kind : ShortKind) → Said step (out.Short k.id kind ∷ []) k
+short_said : (k : InStep) (step : Step) (kind : ShortKind) → Said step (out.Short k.kept.id kind ∷ []) k
 short_said k step kind = record { new = k; id = refl; stands = λ mine deals h on. stands-short mine k deals step kind h on }
 
-listed_said : (k : Kept) (step : Step) (name : List ℕ) → Said step (out.Listed k.id name ∷ []) k
+listed_said : (k : InStep) (step : Step) (name : List ℕ) → Said step (out.Listed k.kept.id name ∷ []) k
 listed_said k step name = record { new = k; id = refl; stands = λ mine deals h on. stands-listed mine k deals step name h on }
 
 -- by a test, and by whether there is a value
-said_if : (step : Step) (test : Bool) (ms ns : List Message) (k : Kept) → (test ≡ true → Said step ms k) → (test ≡ false → Said step ns k) → Said step (if test then ms else ns) k
+said_if : (step : Step) (test : Bool) (ms ns : List Message) (k : InStep) → (test ≡ true → Said step ms k) → (test ≡ false → Said step ns k) → Said step (if test then ms else ns) k
 said_if step true ms ns k so else_so = so refl
 said_if step false ms ns k so else_so = else_so refl
 
-said_some : {X : Type 0} (step : Step) (f : X → List Message) (o : Option X) (k : Kept) → ((x : X) → o ≡ Some x → Said step (f x) k) → Said step (option_map_or f o []) k
+said_some : {X : Type 0} (step : Step) (f : X → List Message) (o : Option X) (k : InStep) → ((x : X) → o ≡ Some x → Said step (f x) k) → Said step (option_map_or f o []) k
 said_some step f None k some = none_said step k
 said_some step f (Some x) k some = some x refl
 
 -- What each rule says.
 
-turning_said : (rule : Phase → Brakes → Option Phase) → Unpaused rule → (k : Kept) (step : Step) → Said step (option_map_or (becoming k) (rule k.phase (brakes k step)) []) k
+turning_said : (rule : Phase → Brakes → Option Phase) → Unpaused rule → (k : InStep) (step : Step) → Said step (option_map_or (becoming k.kept) (rule k.kept.phase (brakes k.kept step)) []) k
 turning_said rule unpaused k step =
-    said_some step (becoming k) (rule k.phase (brakes k step)) k
-    (λ p is. becoming_said k step p (alone k p (rule k.phase (brakes k step)) is (unpaused k.phase (brakes k step))))
+    said_some step (becoming k.kept) (rule k.kept.phase (brakes k.kept step)) k
+    (λ p is. becoming_said k step p (alone k.kept p (rule k.kept.phase (brakes k.kept step)) is (unpaused k.kept.phase (brakes k.kept step))))
 
-pausing_said : (k : Kept) (step : Step) → Said step (pausing k step) k
-pausing_said k step = said_some step (pausing_as k step) (pause_now k step) k (λ p is. by p (is_paused p) (run_band k) refl refl) where
+pausing_said : (k : InStep) (step : Step) → Said step (pausing k.kept step) k
+pausing_said k step = said_some step (pausing_as k.kept step) (pause_now k.kept step) k (λ p is. by p (is_paused p) (run_band k.kept) refl refl) where
   rounds : Banded → List Message
-  rounds b = collars_of k.id (auction_begun k step b)
+  rounds b = collars_of k.kept.id (auction_begun k.kept step b)
 
-  by : (p : Phase) (paused : Bool) (band : Option Banded) → is_paused p ≡ paused → run_band k ≡ band → Said step (becoming k p ++ (if paused then option_map_or rounds band [] else [])) k
-  by p false band e is = becoming_said k step p (ap (λ (b : Bool). b && is_some (run_band k)) e)
+  by : (p : Phase) (paused : Bool) (band : Option Banded) → is_paused p ≡ paused → run_band k.kept ≡ band → Said step (becoming k.kept p ++ (if paused then option_map_or rounds band [] else [])) k
+  by p false band e is = becoming_said k step p (ap (λ (b : Bool). b && is_some (run_band k.kept)) e)
   by p true None e is = becoming_said k step p (λ i. e i && is_some (is i))
-  by p true (Some b) e is = record { new = with_auction (turned k step p) (Some (auction_begun k step b)); id = refl; stands = λ mine deals h on. stands-paused mine k deals step p b h e is on }
+  by p true (Some b) e is = record { new = with_auction (turned k step p) (Some (auction_begun k.kept step b)); id = refl; stands = λ mine deals h on. stands-paused mine k deals step p b h e is on }
 
-reopening_said : (k : Kept) (step : Step) → Said step (reopening k step) k
+reopening_said : (k : InStep) (step : Step) → Said step (reopening k.kept step) k
 unfolding release_said
-reopening_said k step = said_some step (reopening_with k step) k.auction k (λ a is. by a is (trials.trial step.moment (in_last_10_minutes step.moment step.day) a.round a.reference a.indication)) where
-  by : (a : AuctionState) → k.auction ≡ Some a → (o : Trial) → Said step (reopened k (with_trial step.moment o a) o) k
+reopening_said k step = said_some step (reopening_with k.kept step) k.kept.auction k (λ a is. by a is (trials.trial step.moment (in_last_10_minutes step.moment step.day) a.round a.reference a.indication)) where
+  by : (a : AuctionState) → k.kept.auction ≡ Some a → (o : Trial) → Said step (reopened k.kept (with_trial step.moment o a) o) k
   by a is trial.NotDue = none_said step k
   by a is (trial.Extend collars) =
       let next = with_trial step.moment (trial.Extend collars) a in
@@ -127,14 +128,14 @@ reopening_said k step = said_some step (reopening_with k step) k.auction k (λ a
         stands = λ mine deals h on. stands-with_round mine k deals step next h (ap (λ (o : Option AuctionState). option_map (in_round next.round) o) is) refl on;
       }
   by a is (trial.Release price) =
-      then_said step (out.Release k.id price) (becoming k Trading) k (release_said k step price) (becoming_said (released k price) step Trading refl)
+      then_said step (out.Release k.kept.id price) (becoming k.kept Trading) k (release_said k step price) (becoming_said (released k price) step Trading refl)
   by a is trial.Closing = becoming_said k step Closing refl
 
-banding_said : (k : Kept) (step : Step) (mean : Option ℕ) → Said step (banding mean k step) k
+banding_said : (k : InStep) (step : Step) (mean : Option ℕ) → Said step (banding mean k step) k
 banding_said k step mean = by (reference k step mean) refl where
-  band_said : (why : Cause) (price : ℕ) → is_paused k.phase ≡ false → (is_times why ≡ true → option_map (λ b. b.reference) (run_band k) ≡ Some price) → Said step (band k step why price) k
+  band_said : (why : Cause) (price : ℕ) → is_paused k.kept.phase ≡ false → (is_times why ≡ true → option_map (λ b. b.reference) (run_band k.kept) ≡ Some price) → Said step (band k.kept step why price) k
   band_said why price unpaused times =
-      said_some step (λ listed. let b = of.bands_of listed step.day step.moment price in out.Band k.id why price b.lower b.upper ∷ []) k.terms k
+      said_some step (λ listed. let b = of.bands_of listed step.day step.moment price in out.Band k.kept.id why price b.lower b.upper ∷ []) k.kept.terms k
       (λ listed is.
       let b : Banded = record { cause = why; reference = price; bands = of.bands_of listed step.day step.moment price } in
       record { new = banded k step b; id = refl; stands = λ mine deals h on. stands-banded mine k deals step b h unpaused times on })
@@ -143,28 +144,28 @@ banding_said k step mean = by (reference k step mean) refl where
   both_hold true b e = refl
   both_hold false b e = absurd cc
 
-  by : (o : Option Priced) → reference k step mean ≡ o → Said step (elim o [ Some r ↦ band k step r.cause r.price | None ↦ option_map_or (band_by_time k step) (run_band k) [] ]) k
+  by : (o : Option Priced) → reference k step mean ≡ o → Said step (elim o [ Some r ↦ band k.kept step r.cause r.price | None ↦ option_map_or (band_by_time k.kept step) (run_band k.kept) [] ]) k
   by (Some r) is = band_said r.cause r.price (priced-unpaused k step mean r is) (λ times. let both : true ≡ false = sym times ∙ priced-adopts k step mean r is in absurd cc)
   by None is =
-      said_some step (band_by_time k step) (run_band k) k
-      (λ last is. said_if step (is_trading k.phase && time_changes k step last) (band k step Times last.reference) [] k
-      (λ so. band_said Times last.reference (trading-unpaused k.phase (both_hold (is_trading k.phase) (time_changes k step last) so)) (λ times. ap (λ (o : Option Banded). option_map (λ b. b.reference) o) is)) (λ else_so. none_said step k))
+      said_some step (band_by_time k.kept step) (run_band k.kept) k
+      (λ last is. said_if step (is_trading k.kept.phase && time_changes k.kept step last) (band k.kept step Times last.reference) [] k
+      (λ so. band_said Times last.reference (trading-unpaused k.kept.phase (both_hold (is_trading k.kept.phase) (time_changes k.kept step last) so)) (λ times. ap (λ (o : Option Banded). option_map (λ b. b.reference) o) is)) (λ else_so. none_said step k))
 
-straddling_said : (k : Kept) (step : Step) → Said step (straddling k step) k
+straddling_said : (k : InStep) (step : Step) → Said step (straddling k.kept step) k
 straddling_said k step =
-    said_if step (is_straddling_now k && not k.straddling) (out.Straddle k.id true ∷ []) (if k.straddling && not (is_straddling_now k) then out.Straddle k.id false ∷ [] else []) k
+    said_if step (is_straddling_now k.kept && not k.kept.straddling) (out.Straddle k.kept.id true ∷ []) (if k.kept.straddling && not (is_straddling_now k.kept) then out.Straddle k.kept.id false ∷ [] else []) k
     (λ so. straddle_said k step true)
-    (λ else_so. said_if step (k.straddling && not (is_straddling_now k)) (out.Straddle k.id false ∷ []) [] k (λ so. straddle_said k step false) (λ else_so. none_said step k))
+    (λ else_so. said_if step (k.kept.straddling && not (is_straddling_now k.kept)) (out.Straddle k.kept.id false ∷ []) [] k (λ so. straddle_said k step false) (λ else_so. none_said step k))
 
-restricting_said : (k : Kept) (step : Step) → Said step (restricting k step) k
-restricting_said k step = said_if step k.restricts (out.Short k.id Triggered ∷ []) [] k (λ so. short_said k step Triggered) (λ else_so. none_said step k)
+restricting_said : (k : InStep) (step : Step) → Said step (restricting k step) k
+restricting_said k step = said_if step k.opened.restricts (out.Short k.kept.id Triggered ∷ []) [] k (λ so. short_said k step Triggered) (λ else_so. none_said step k)
 
-announcing_said : (k : Kept) (step : Step) (x : Record) → Said step (announcing k x) k
+announcing_said : (k : InStep) (step : Step) (x : Record) → Said step (announcing k.kept x) k
 unfolding listed_said
 announcing_said k step (in_.Day t d c) = none_said step k
 announcing_said k step (in_.Listing t name n l c) =
-    said_if step k.short.carried (out.Listed k.id name ∷ out.Short k.id Carried ∷ []) (out.Listed k.id name ∷ []) k
-    (λ so. then_said step (out.Listed k.id name) (out.Short k.id Carried ∷ []) k (listed_said k step name) (short_said k step Carried)) (λ else_so. listed_said k step name)
+    said_if step k.kept.short.carried (out.Listed k.kept.id name ∷ out.Short k.kept.id Carried ∷ []) (out.Listed k.kept.id name ∷ []) k
+    (λ so. then_said step (out.Listed k.kept.id name) (out.Short k.kept.id Carried ∷ []) k (listed_said k step name) (short_said k step Carried)) (λ else_so. listed_said k step name)
 announcing_said k step (in_.Trade t i n p q f) = none_said step k
 announcing_said k step (in_.Cancel t i n) = none_said step k
 announcing_said k step (in_.Quote t i b o x y) = none_said step k
@@ -173,26 +174,26 @@ announcing_said k step (in_.Clock t) = none_said step k
 announcing_said k step (in_.Notice t i n) = none_said step k
 announcing_said k step (in_.Indication t i p u) = none_said step k
 
-leaving_said : (k : Kept) (step : Step) → Said step (leaving k step) k
-leaving_said k step = said_if step (is_limit k.phase && not (at_band k.phase (run_quote k) (run_band k))) (becoming k Trading) [] k (λ so. becoming_said k step Trading refl) (λ else_so. none_said step k)
+leaving_said : (k : InStep) (step : Step) → Said step (leaving k.kept step) k
+leaving_said k step = said_if step (is_limit k.kept.phase && not (at_band k.kept.phase (run_quote k.kept) (run_band k.kept))) (becoming k.kept Trading) [] k (λ so. becoming_said k step Trading refl) (λ else_so. none_said step k)
 
-entering_said : (k : Kept) (step : Step) → Said step (entering k step) k
+entering_said : (k : InStep) (step : Step) → Said step (entering k.kept step) k
 entering_said k step =
-    said_if step (not (is_trading k.phase)) [] (if at_band LimitLow (run_quote k) (run_band k) then becoming k LimitLow else if at_band LimitHigh (run_quote k) (run_band k) then becoming k LimitHigh else []) k (λ so. none_said step k)
-    (λ else_so. said_if step (at_band LimitLow (run_quote k) (run_band k)) (becoming k LimitLow) (if at_band LimitHigh (run_quote k) (run_band k) then becoming k LimitHigh else []) k (λ so. becoming_said k step LimitLow refl)
-    (λ else_so. said_if step (at_band LimitHigh (run_quote k) (run_band k)) (becoming k LimitHigh) [] k (λ so. becoming_said k step LimitHigh refl) (λ else_so. none_said step k)))
+    said_if step (not (is_trading k.kept.phase)) [] (if at_band LimitLow (run_quote k.kept) (run_band k.kept) then becoming k.kept LimitLow else if at_band LimitHigh (run_quote k.kept) (run_band k.kept) then becoming k.kept LimitHigh else []) k (λ so. none_said step k)
+    (λ else_so. said_if step (at_band LimitLow (run_quote k.kept) (run_band k.kept)) (becoming k.kept LimitLow) (if at_band LimitHigh (run_quote k.kept) (run_band k.kept) then becoming k.kept LimitHigh else []) k (λ so. becoming_said k step LimitLow refl)
+    (λ else_so. said_if step (at_band LimitHigh (run_quote k.kept) (run_band k.kept)) (becoming k.kept LimitHigh) [] k (λ so. becoming_said k step LimitHigh refl) (λ else_so. none_said step k)))
 
 -- The rules on two histories.
 
 -- two histories publish the same, and the same kept state stands for both again
-record Pair (mine other : List ℕ → Bool) (step : Step) (deals : List Deal) (k : Kept) (ms ns : List Message) (h g : List Event) : Type 0 where
+record Pair (mine other : List ℕ → Bool) (step : Step) (deals : List Deal) (k : InStep) (ms ns : List Message) (h g : List Event) : Type 0 where
   pub same : ms ≡ ns
-  pub new : Kept
-  pub id : new.id ≡ k.id
+  pub new : InStep
+  pub id : new.kept.id ≡ k.kept.id
   pub one : Stands mine new deals step (publish ms h)
   pub two : Stands other new deals step (publish ns g)
 
-pair : (mine other : List ℕ → Bool) (step : Step) (deals : List Deal) (k : Kept) (ms ns : List Message) (h g : List Event) → Said step ms k → ms ≡ ns
+pair : (mine other : List ℕ → Bool) (step : Step) (deals : List Deal) (k : InStep) (ms ns : List Message) (h g : List Event) → Said step ms k → ms ≡ ns
     → Stands mine k deals step h → Stands other k deals step g → Pair mine other step deals k ms ns h g
 pair mine other step deals k ms ns h g further same one two =
     record {
@@ -204,7 +205,7 @@ pair mine other step deals k ms ns h g further same one two =
     }
 
 -- these messages, then those
-pair_then : (mine other : List ℕ → Bool) (step : Step) (deals : List Deal) (k : Kept) (ms ns : List Message) (h g : List Event) (first : Pair mine other step deals k ms ns h g)
+pair_then : (mine other : List ℕ → Bool) (step : Step) (deals : List Deal) (k : InStep) (ms ns : List Message) (h g : List Event) (first : Pair mine other step deals k ms ns h g)
     → (a b : List Message) → Pair mine other step deals first.new a b (publish ms h) (publish ns g) → Pair mine other step deals k (ms ++ a) (ns ++ b) h g
 pair_then mine other step deals k ms ns h g first a b rest =
     record {
@@ -217,9 +218,9 @@ pair_then mine other step deals k ms ns h g first a b rest =
 
 -- a rule by what is kept: what it gives, and that this leaves a kept state for each history
 record Ruled (rule : Context → List Message) : Type 0 where
-  pub ms : List Deal → Kept → Step → List Message
-  pub gives : (mine : List ℕ → Bool) (k : Kept) (step : Step) (deals : List Deal) (h : List Event) → Stands mine k deals step h → rule (context step.day (named mine k.id) step.input h) ≡ ms deals k step
-  pub says : (k : Kept) (step : Step) (deals : List Deal) → Said step (ms deals k step) k
+  pub ms : List Deal → InStep → Step → List Message
+  pub gives : (mine : List ℕ → Bool) (k : InStep) (step : Step) (deals : List Deal) (h : List Event) → Stands mine k deals step h → rule (context step.day (named mine k.kept.id) step.input h) ≡ ms deals k step
+  pub says : (k : InStep) (step : Step) (deals : List Deal) → Said step (ms deals k step) k
 
 abbrev AllRuled : List (Context → List Message) → Type 0
 AllRuled [] = Unit {0}
@@ -228,7 +229,7 @@ AllRuled (rule ∷ later) = Ruled rule × AllRuled later
 turning_ruled : (rule : Phase → Brakes → Option Phase) → Unpaused rule → Ruled (rules.turned rule)
 turning_ruled rule unpaused =
     record {
-      ms = λ deals k step. option_map_or (becoming k) (rule k.phase (brakes k step)) [];
+      ms = λ deals k step. option_map_or (becoming k.kept) (rule k.kept.phase (brakes k.kept step)) [];
       gives = λ mine k step deals h s. turned-gives rule k step mine deals h s;
       says = λ k step deals. turning_said rule unpaused k step;
     }
@@ -243,11 +244,11 @@ all_ruled = (
       (
         turning_ruled turns.regulatory_halt halt-unpaused,
         (
-          record { ms = λ deals k step. pausing k step; gives = λ mine k step deals h s. pause-gives k step mine deals h s; says = λ k step deals. pausing_said k step },
+          record { ms = λ deals k step. pausing k.kept step; gives = λ mine k step deals h s. pause-gives k step mine deals h s; says = λ k step deals. pausing_said k step },
           (
-            record { ms = λ deals k step. reopening k step; gives = λ mine k step deals h s. reopen-gives k step mine deals h s; says = λ k step deals. reopening_said k step },
+            record { ms = λ deals k step. reopening k.kept step; gives = λ mine k step deals h s. reopen-gives k step mine deals h s; says = λ k step deals. reopening_said k step },
             (
-              record { ms = λ deals k step. leaving k step; gives = λ mine k step deals h s. leave-gives k step mine deals h s; says = λ k step deals. leaving_said k step },
+              record { ms = λ deals k step. leaving k.kept step; gives = λ mine k step deals h s. leave-gives k step mine deals h s; says = λ k step deals. leaving_said k step },
               (
                 record {
                   ms = λ deals k step. banding (mean_of (live step.moment (window k deals))) k step;
@@ -255,9 +256,9 @@ all_ruled = (
                   says = λ k step deals. banding_said k step (mean_of (live step.moment (window k deals)));
                 },
                 (
-                  record { ms = λ deals k step. entering k step; gives = λ mine k step deals h s. enter-gives k step mine deals h s; says = λ k step deals. entering_said k step },
+                  record { ms = λ deals k step. entering k.kept step; gives = λ mine k step deals h s. enter-gives k step mine deals h s; says = λ k step deals. entering_said k step },
                   (
-                    record { ms = λ deals k step. straddling k step; gives = λ mine k step deals h s. straddle-gives k step mine deals h s; says = λ k step deals. straddling_said k step },
+                    record { ms = λ deals k step. straddling k.kept step; gives = λ mine k step deals h s. straddle-gives k step mine deals h s; says = λ k step deals. straddling_said k step },
                     (
                       record { ms = λ deals k step. restricting k step; gives = λ mine k step deals h s. restrict-gives k step mine deals h s; says = λ k step deals. restricting_said k step },
                       tt,
@@ -273,30 +274,30 @@ all_ruled = (
   ),
 )
 
-obeyed_pair : (rule : Context → List Message) → Ruled rule → (mine other : List ℕ → Bool) (step : Step) (deals : List Deal) (k : Kept) (h g : List Event)
+obeyed_pair : (rule : Context → List Message) → Ruled rule → (mine other : List ℕ → Bool) (step : Step) (deals : List Deal) (k : InStep) (h g : List Event)
     → Stands mine k deals step h → Stands other k deals step g
-    → Pair mine other step deals k (obeyed step.day (named mine k.id) step.input rule h) (obeyed step.day (named other k.id) step.input rule g) h g
+    → Pair mine other step deals k (obeyed step.day (named mine k.kept.id) step.input rule h) (obeyed step.day (named other k.kept.id) step.input rule g) h g
 obeyed_pair rule r mine other step deals k h g s t =
-    pair mine other step deals k (obeyed step.day (named mine k.id) step.input rule h) (obeyed step.day (named other k.id) step.input rule g) h g
-    (subst (λ (ms : List Message). Said step ms k) (sym one) (said_if step (is_done k.phase) [] (r.ms deals k step) k (λ so. none_said step k) (λ else_so. r.says k step deals)))
+    pair mine other step deals k (obeyed step.day (named mine k.kept.id) step.input rule h) (obeyed step.day (named other k.kept.id) step.input rule g) h g
+    (subst (λ (ms : List Message). Said step ms k) (sym one) (said_if step (is_done k.kept.phase) [] (r.ms deals k step) k (λ so. none_said step k) (λ else_so. r.says k step deals)))
     (one ∙ sym two) s t
   where
-    one : obeyed step.day (named mine k.id) step.input rule h ≡ (if is_done k.phase then [] else r.ms deals k step)
+    one : obeyed step.day (named mine k.kept.id) step.input rule h ≡ (if is_done k.kept.phase then [] else r.ms deals k step)
     one = λ i. cond (is_done (sym s.phase i)) [] (r.gives mine k step deals h s i)
 
-    two : obeyed step.day (named other k.id) step.input rule g ≡ (if is_done k.phase then [] else r.ms deals k step)
+    two : obeyed step.day (named other k.kept.id) step.input rule g ≡ (if is_done k.kept.phase then [] else r.ms deals k step)
     two = λ i. cond (is_done (sym t.phase i)) [] (r.gives other k step deals g t i)
 
-obeyed_pairs : (later : List (Context → List Message)) → AllRuled later → (mine other : List ℕ → Bool) (step : Step) (deals : List Deal) (k : Kept) (h g : List Event)
+obeyed_pairs : (later : List (Context → List Message)) → AllRuled later → (mine other : List ℕ → Bool) (step : Step) (deals : List Deal) (k : InStep) (h g : List Event)
     → Stands mine k deals step h → Stands other k deals step g
-    → Pair mine other step deals k (all_obeyed step.day (named mine k.id) step.input later h) (all_obeyed step.day (named other k.id) step.input later g) h g
+    → Pair mine other step deals k (all_obeyed step.day (named mine k.kept.id) step.input later h) (all_obeyed step.day (named other k.kept.id) step.input later g) h g
 obeyed_pairs [] all mine other step deals k h g s t = record { same = refl; new = k; id = refl; one = s; two = t }
 obeyed_pairs (rule ∷ later) all mine other step deals k h g s t =
-    let ms = obeyed step.day (named mine k.id) step.input rule h in
-    let ns = obeyed step.day (named other k.id) step.input rule g in
+    let ms = obeyed step.day (named mine k.kept.id) step.input rule h in
+    let ns = obeyed step.day (named other k.kept.id) step.input rule g in
     let first = obeyed_pair rule all.0 mine other step deals k h g s t in
     pair_then mine other step deals k ms ns h g first
-    (all_obeyed step.day (named mine k.id) step.input later (publish ms h)) (all_obeyed step.day (named other k.id) step.input later (publish ns g))
+    (all_obeyed step.day (named mine k.kept.id) step.input later (publish ms h)) (all_obeyed step.day (named other k.kept.id) step.input later (publish ns g))
     (subst
     (λ (i : ℕ). Pair mine other step deals first.new (all_obeyed step.day (named mine i) step.input later (publish ms h)) (all_obeyed step.day (named other i) step.input later (publish ns g)) (publish ms h) (publish ns g))
     first.id (obeyed_pairs later all.1 mine other step deals first.new (publish ms h) (publish ns g) first.one first.two))
@@ -347,7 +348,7 @@ step_twins mine other step k kept others more h g p q =
     record {
       same = both.same;
       twins = record {
-        held = record { kept = finished both.new; deals = window both.new dropped };
+        held = record { kept = both.new.kept; deals = window both.new dropped };
         id = both.id;
         one = rests-finished mine both.new dropped (window both.new dropped) step p.index (publish ms (open_history step.input others h)) (day_opened mine step k kept others h p ms) (record { at = λ u le. refl }) both.one;
         two = rests-finished other both.new dropped (window both.new dropped) step q.index (publish ns (open_history step.input more g)) (day_opened other step k kept more g q ns) (record { at = λ u le. refl }) both.two;

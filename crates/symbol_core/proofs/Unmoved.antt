@@ -40,12 +40,13 @@ use Rattle.symbol_core.specs.declared.symbol.MarketView.{MarketView}
 use Rattle.symbol_core.specs.Evaluates.{Evaluates, Opens, open_history, part_of}
 use Rattle.symbol_core.specs.Kept.{becoming, brakes, pausing_as, reopened, reopening, reopening_with}
 use Rattle.symbol_core.specs.Pricing.{band, band_by_time, reference, time_changes}
-use Rattle.symbol_core.specs.Idle.{IsDue, IsIdle, IsQuiet, IsRested, IsSettled, Waits, changes_bands, reopens_at, starts_at}
+use Rattle.symbol_core.specs.Idle.{IsDue, IsIdle, IsQuiet, IsSettled, Waits, changes_bands, reopens_at, starts_at}
+use Rattle.symbol_core.specs.InStep.{InStep, at_rest}
 use Rattle.symbol_core.specs.Rests.{Held}
 use Rattle.symbol_core.specs.Runs.{run_band, run_quote}
 use Rattle.symbol_core.specs.Silent.{IsOfOthers}
 use Rattle.symbol_core.specs.Stands.{named, Stands}
-use Rattle.symbol_core.specs.Taken.{cancelled_by, finished, leaves, taken}
+use Rattle.symbol_core.specs.Taken.{cancelled_by, leaves, taken}
 use Rattle.symbol_core.specs.Window.{SameLive, window}
 use Rattle.symbol_core.proofs.Cancels.{leaves-all}
 use Rattle.symbol_core.proofs.Evaluated.{evaluated-away, starts, step_for}
@@ -63,7 +64,7 @@ record OfNone (s : ℕ) (x : Record) : Type 0 where
   pub announces : (n : Named) (h : List Event) → announced n x h ≡ []
   pub asks : asks_to_pause s x ≡ false
   pub cancels : cancelled_by s x ≡ None
-  pub takes : (k : Kept) (step : Step) → k.id ≡ s → step.input ≡ x → IsRested k → taken k step ≡ k
+  pub takes : (k : Kept) (step : Step) → k.id ≡ s → step.input ≡ x → taken k step ≡ at_rest k
 
 quote_stays : {X : Type 0} (b : Bool) (x : X) → cond b x x ≡ x
 quote_stays true x = refl
@@ -77,16 +78,14 @@ tick_of_none s x e =
       announces = λ n h. refl;
       asks = refl;
       cancels = refl;
-      takes = λ k step is input r. (λ i. taken k (record step { input = input i }))
-          ∙ (λ i. record k { run = same_run k.run i; left_limit = sym r.left_limit i; released = sym r.released i; deal = sym r.deal i; is_fresh = sym r.is_fresh i; restricts = sym r.restricts i });
+      takes = λ k step is input. (λ i. taken k (record step { input = input i })) ∙ (λ i. at_rest (record k { run = same_run k.run i }));
     })
     (λ t v. record {
       others = λ mine. record { symbol = refl; name = refl };
       announces = λ n h. refl;
       asks = refl;
       cancels = refl;
-      takes = λ k step is input r. (λ i. taken k (record step { input = input i }))
-          ∙ (λ i. record k { run = same_run k.run i; left_limit = sym r.left_limit i; released = sym r.released i; deal = sym r.deal i; is_fresh = sym r.is_fresh i; restricts = sym r.restricts i });
+      takes = λ k step is input. (λ i. taken k (record step { input = input i })) ∙ (λ i. at_rest (record k { run = same_run k.run i }));
     }) x e
 
 -- Where no rule says anything, the symbol stays as it is.
@@ -181,43 +180,42 @@ bands_none k step e = by (run_band k) e where
   by (Some last) e = ap (λ (b : Bool). if b then band k step Times last.reference else []) e
 
 -- a step without a deal of its own leaves the window as it is
-pub window_rested : (k : Kept) (deals : List Deal) → IsRested k → window k deals ≡ deals
-window_rested k deals r =
-    (λ i. (if r.is_fresh i then [] else deals) ++ (if is_some k.run then option_to_list (r.deal i) else [])) ∙ ap (λ (ds : List Deal). deals ++ ds) (quote_stays (is_some k.run) []) ∙ append-nil deals
+pub window_rested : (k : Kept) (deals : List Deal) → window (at_rest k) deals ≡ deals
+window_rested k deals = ap (λ (ds : List Deal). deals ++ ds) (quote_stays (is_some k.run) []) ∙ append-nil deals
 
-quiet_rules : (k : Kept) (deals : List Deal) (step : Step) → IsQuiet k deals step
-    → (mine : List ℕ → Bool) (h : List Event) → Stands mine k deals step h → NoneSaid step.day (named mine k.id) step.input h symbol_rules
+quiet_rules : (k : InStep) (deals : List Deal) (step : Step) → IsQuiet k deals step
+    → (mine : List ℕ → Bool) (h : List Event) → Stands mine k deals step h → NoneSaid step.day (named mine k.kept.id) step.input h symbol_rules
 quiet_rules k deals step quiet mine h s = (
-  said rules.session_close (turned-gives turns.session_close k step mine deals h s ∙ ap (λ (b : Bool). option_map_or (becoming k) (if b then Some Phase.Closed else None) []) quiet.closes),
+  said rules.session_close (turned-gives turns.session_close k step mine deals h s ∙ ap (λ (b : Bool). option_map_or (becoming k.kept) (if b then Some Phase.Closed else None) []) quiet.closes),
   (
     said rules.market_halt (turned-gives turns.market_halt k step mine deals h s
-        ∙ ap (λ (b : Bool). option_map_or (becoming k) (if b then Some Phase.Stopped else None) []) settled.runs),
+        ∙ ap (λ (b : Bool). option_map_or (becoming k.kept) (if b then Some Phase.Stopped else None) []) settled.runs),
     (
       said rules.start (turned-gives turns.start k step mine deals h s
-          ∙ ap (λ (b : Bool). option_map_or (becoming k) (if b then Some Phase.Trading else None) []) quiet.starts),
+          ∙ ap (λ (b : Bool). option_map_or (becoming k.kept) (if b then Some Phase.Trading else None) []) quiet.starts),
       (
         said rules.regulatory_halt (turned-gives turns.regulatory_halt k step mine deals h s
-            ∙ ap (λ (o : Option Phase). option_map_or (becoming k) o []) (halted_none (Some Phase.Halted) (Some (phase_after_regulatory_halt (brakes k step))) k.halted (is_in_regulatory_halt k.phase) settled.halted)),
+            ∙ ap (λ (o : Option Phase). option_map_or (becoming k.kept) o []) (halted_none (Some Phase.Halted) (Some (phase_after_regulatory_halt (brakes k.kept step))) k.kept.halted (is_in_regulatory_halt k.kept.phase) settled.halted)),
         (
           said rules.pause (pause-gives k step mine deals h s
-              ∙ (λ i. option_map_or (pausing_as k step) (if quiet.pauses i || (quiet.asks i && is_trading k.phase && k.straddling) then (if in_last_10_minutes t step.day then Some Phase.Closing else Some Phase.Paused) else None) [])),
+              ∙ (λ i. option_map_or (pausing_as k.kept step) (if quiet.pauses i || (quiet.asks i && is_trading k.kept.phase && k.kept.straddling) then (if in_last_10_minutes t step.day then Some Phase.Closing else Some Phase.Paused) else None) [])),
           (
-            said rules.reopen (reopen-gives k step mine deals h s ∙ reopens_none k step quiet.reopens),
+            said rules.reopen (reopen-gives k step mine deals h s ∙ reopens_none k.kept step quiet.reopens),
             (
-              said rules.leave_limit (leave-gives k step mine deals h s ∙ ap (λ (b : Bool). if b then becoming k Phase.Trading else []) settled.stays),
+              said rules.leave_limit (leave-gives k step mine deals h s ∙ ap (λ (b : Bool). if b then becoming k.kept Phase.Trading else []) settled.stays),
               (
                 said rules.publish_band (banding-gives mean k step mine deals h s (mean-gives k step mine deals h s)
-                    ∙ ap (λ (o : Option Priced). elim o [ Some r ↦ band k step r.cause r.price | None ↦ option_map_or (band_by_time k step) (run_band k) [] ]) quiet.prices
-                    ∙ bands_none k step quiet.bands),
+                    ∙ ap (λ (o : Option Priced). elim o [ Some r ↦ band k.kept step r.cause r.price | None ↦ option_map_or (band_by_time k.kept step) (run_band k.kept) [] ]) quiet.prices
+                    ∙ bands_none k.kept step quiet.bands),
                 (
                   said rules.enter_limit (enter-gives k step mine deals h s
-                      ∙ enters_none (is_trading k.phase) (at_band Phase.LimitLow (run_quote k) (run_band k)) (at_band Phase.LimitHigh (run_quote k) (run_band k)) (becoming k Phase.LimitLow) (becoming k Phase.LimitHigh) settled.low settled.high),
+                      ∙ enters_none (is_trading k.kept.phase) (at_band Phase.LimitLow (run_quote k.kept) (run_band k.kept)) (at_band Phase.LimitHigh (run_quote k.kept) (run_band k.kept)) (becoming k.kept Phase.LimitLow) (becoming k.kept Phase.LimitHigh) settled.low settled.high),
                   (
                     said rules.straddle (straddle-gives k step mine deals h s
-                        ∙ (λ i. if settled.straddles i && not k.straddling then out.Straddle k.id true ∷ [] else if k.straddling && not (settled.straddles i) then out.Straddle k.id false ∷ [] else [])
-                        ∙ same_straddle k k.straddling),
+                        ∙ (λ i. if settled.straddles i && not k.kept.straddling then out.Straddle k.kept.id true ∷ [] else if k.kept.straddling && not (settled.straddles i) then out.Straddle k.kept.id false ∷ [] else [])
+                        ∙ same_straddle k.kept k.kept.straddling),
                     (
-                      said rules.restrict (restrict-gives k step mine deals h s ∙ ap (λ (b : Bool). if b then out.Short k.id Triggered ∷ [] else []) quiet.restricts),
+                      said rules.restrict (restrict-gives k step mine deals h s ∙ ap (λ (b : Bool). if b then out.Short k.kept.id Triggered ∷ [] else []) quiet.restricts),
                       tt,
                     ),
                   ),
@@ -236,18 +234,18 @@ quiet_rules k deals step quiet mine h s = (
   mean : Option ℕ
   mean = mean_of (live t (window k deals))
 
-  settled : IsSettled k step.stopped
+  settled : IsSettled k.kept step.stopped
   settled = quiet.settled
 
-  said : (rule : Context → List Message) → rule (context step.day (named mine k.id) step.input h) ≡ [] → obeyed step.day (named mine k.id) step.input rule h ≡ []
-  said rule e = ap (λ (ms : List Message). cond (is_done (phase h k.id)) [] ms) e ∙ quote_stays (is_done (phase h k.id)) []
+  said : (rule : Context → List Message) → rule (context step.day (named mine k.kept.id) step.input h) ≡ [] → obeyed step.day (named mine k.kept.id) step.input rule h ≡ []
+  said rule e = ap (λ (ms : List Message). cond (is_done (phase h k.kept.id)) [] ms) e ∙ quote_stays (is_done (phase h k.kept.id)) []
 
-pub quiet-nothing : (k : Kept) (deals : List Deal) (step : Step) → IsQuiet k deals step → (mine : List ℕ → Bool) (h : List Event) → Stands mine k deals step h → all_obeyed step.day (named mine k.id) step.input symbol_rules h ≡ []
-quiet-nothing k deals step quiet mine h s = none_said step.day (named mine k.id) step.input h symbol_rules (quiet_rules k deals step quiet mine h s)
+pub quiet-nothing : (k : InStep) (deals : List Deal) (step : Step) → IsQuiet k deals step → (mine : List ℕ → Bool) (h : List Event) → Stands mine k deals step h → all_obeyed step.day (named mine k.kept.id) step.input symbol_rules h ≡ []
+quiet-nothing k deals step quiet mine h s = none_said step.day (named mine k.kept.id) step.input h symbol_rules (quiet_rules k deals step quiet mine h s)
 
 -- an idle symbol is quiet at a tick
 idle_quiet : (k : Kept) (deals : List Deal) (due : Due) (step : Step) → IsIdle k deals due → is_tick step.input ≡ true → due.from ≤ step.moment → step.moment < due.until → step.day ≡ due.market.day → step.stopped ≡ due.market.stopped
-    → IsQuiet k deals step
+    → IsQuiet (at_rest k) deals step
 idle_quiet k deals due step idle tick from until day stopped =
     record {
       settled = subst (λ (b : Bool). IsSettled k b) (sym stopped) idle.settled;
@@ -256,9 +254,9 @@ idle_quiet k deals due step idle tick from until day stopped =
       pauses = waits.pauses step.moment early;
       asks = of_none.asks;
       reopens = waits.reopens step.moment early;
-      prices = ap (λ (ds : List Deal). reference k step (mean_of (live step.moment ds))) (window_rested k deals idle.rested) ∙ idle.prices step tick from until;
+      prices = ap (λ (ds : List Deal). reference (at_rest k) step (mean_of (live step.moment ds))) (window_rested k deals) ∙ idle.prices step tick from until;
       bands = waits.bands step day from early;
-      restricts = idle.rested.restricts;
+      restricts = refl;
     }
   where
     waits : Waits k due.market.day due.market.stopped due.from due.waits
@@ -275,9 +273,9 @@ evaluated-idle : (market : MarketView) (x : Record) (held : Held) (due : Due) (b
 evaluated-idle market x held due before idle tick from until same =
     evaluated-none market x held before tick
     (λ mine others h p.
-    quiet_rules k held.deals step (idle_quiet k held.deals due step idle tick from until (ap (λ (m : MarketView). m.day) same) (ap (λ (m : MarketView). m.stopped) same)) mine (open_history x others h)
-    (subst (λ (ds : List Deal). Stands mine k ds step (open_history x others h)) (leaves-all k.id x held.deals of_none.cancels)
-    (subst (λ (l : Kept). Stands mine l (filter (leaves k.id x) held.deals) step (open_history x others h)) (of_none.takes k step refl refl idle.rested)
+    quiet_rules (at_rest k) held.deals step (idle_quiet k held.deals due step idle tick from until (ap (λ (m : MarketView). m.day) same) (ap (λ (m : MarketView). m.stopped) same)) mine (open_history x others h)
+    (subst (λ (ds : List Deal). Stands mine (at_rest k) ds step (open_history x others h)) (leaves-all k.id x held.deals of_none.cancels)
+    (subst (λ (l : InStep). Stands mine l (filter (leaves k.id x) held.deals) step (open_history x others h)) (of_none.takes k step refl refl)
     (stands-opened mine step k held.deals others h (starts mine held market x others h p)))))
   where
     k : Kept
@@ -321,7 +319,6 @@ due-live k deals due t from is = λ inside. by (is inside) where
   by idle =
       let waits = idle.waits in
       record {
-        rested = idle.rested;
         settled = idle.settled;
         waits = record {
           closes = waits.closes;
@@ -331,7 +328,7 @@ due-live k deals due t from is = λ inside. by (is inside) where
           bands = λ step day le lt. waits.bands step day (omega arith) lt;
         };
         within = idle.within;
-        prices = λ step tick le lt. ap (λ (ds : List Deal). reference k step (mean_of ds)) (live-live t step.moment le deals) ∙ idle.prices step tick (omega arith) lt;
+        prices = λ step tick le lt. ap (λ (ds : List Deal). reference (at_rest k) step (mean_of ds)) (live-live t step.moment le deals) ∙ idle.prices step tick (omega arith) lt;
       }
 
 -- of a symbol that is due, if ever
@@ -349,7 +346,3 @@ due-unlisted k deals due e = λ inside. absurd (by (is_done k.phase) (is_some k.
   by true listed e f = cc
   by false true e f = cc
   by false false e f = cc
-
-pub rested-finished : (old new : Kept) → new ≡ finished old → IsRested new
-rested-finished old new e =
-    record { left_limit = ap (λ (k : Kept). k.left_limit) e; released = ap (λ (k : Kept). k.released) e; deal = ap (λ (k : Kept). k.deal) e; is_fresh = ap (λ (k : Kept). k.is_fresh) e; restricts = ap (λ (k : Kept). k.restricts) e }

@@ -32,7 +32,8 @@ use Rattle.rulebook.specs.Rules.{or_else}
 use Rattle.rulebook.specs.Symbol as of
 use Rattle.symbol_core.specs.declared.kept.Kept.{Kept}
 use Rattle.symbol_core.specs.declared.kept.Step.{Step}
-use Rattle.symbol_core.specs.Idle.{IsRested, PricesFrom, changes_bands, pauses_at, reopens_at, starts_at}
+use Rattle.symbol_core.specs.Idle.{PricesFrom, changes_bands, pauses_at, reopens_at, starts_at}
+use Rattle.symbol_core.specs.InStep.{at_rest}
 use Rattle.symbol_core.specs.Pricing.{later_price, offered, priced_by, reference, time_changes}
 use Rattle.symbol_core.specs.Runs.{run_band, run_reference}
 
@@ -139,10 +140,10 @@ late_or_early t from = by (nat_le from t) refl where
   by true e = grind (arith, nat_tests)
   by false e = grind (arith, nat_tests)
 
-reference_by_mean : (k : Kept) (step : Step) (mean : Option ℕ) → IsRested k → is_tick step.input ≡ true
-    → reference k step mean ≡ (if not (is_trading k.phase) then None else by_mean (awaits k step.moment) mean (run_reference k).last)
-reference_by_mean k step mean r tick =
-    (λ i. if not (is_trading k.phase) then None else if r.left_limit i then forced mean else priced_by (r.released i) (run_reference k) step.moment (offers_none k step tick i) mean)
+reference_by_mean : (k : Kept) (step : Step) (mean : Option ℕ) → is_tick step.input ≡ true
+    → reference (at_rest k) step mean ≡ (if not (is_trading k.phase) then None else by_mean (awaits k step.moment) mean (run_reference k).last)
+reference_by_mean k step mean tick =
+    (λ i. if not (is_trading k.phase) then None else priced_by None (run_reference k) step.moment (offers_none k step tick i) mean)
     ∙ ap (λ (o : Option Priced). if not (is_trading k.phase) then None else o) (by (run_reference k).begun (run_reference k).last)
   where
     opening : (b : Bool) → (if not b then None else mean) ≡ (if b then mean else None)
@@ -157,7 +158,7 @@ reference_by_mean k step mean r tick =
 
 pub prices-never : (k : Kept) (deals : List Deal) (from until : ℕ) → is_trading k.phase ≡ false → PricesFrom k deals from until
 prices-never k deals from until e = λ step tick le before.
-    ap (λ (b : Bool). if not b then None else if k.left_limit then forced (mean_of (live step.moment deals)) else later_price k step (mean_of (live step.moment deals))) e
+    ap (λ (b : Bool). if not b then None else later_price (at_rest k) step (mean_of (live step.moment deals))) e
 
 -- without deals
 no_mean : (trading awaits : Bool) (o : Option Adoption) → (if not trading then None else by_mean awaits None o) ≡ None
@@ -166,20 +167,20 @@ no_mean true true None = refl
 no_mean true false None = refl
 no_mean true awaits (Some last) = refl
 
-pub prices-empty : (k : Kept) (deals : List Deal) (from until : ℕ) → IsRested k → option_map (λ d. d.moment) (slice_get deals 0) ≡ None → PricesFrom k deals from until
-prices-empty k [] from until r e = λ step tick le before. reference_by_mean k step None r tick ∙ no_mean (is_trading k.phase) (awaits k step.moment) (run_reference k).last
-prices-empty k (d ∷ deals) from until r e = absurd cc
+pub prices-empty : (k : Kept) (deals : List Deal) (from until : ℕ) → option_map (λ d. d.moment) (slice_get deals 0) ≡ None → PricesFrom k deals from until
+prices-empty k [] from until e = λ step tick le before. reference_by_mean k step None tick ∙ no_mean (is_trading k.phase) (awaits k step.moment) (run_reference k).last
+prices-empty k (d ∷ deals) from until e = absurd cc
 
 not_awaited : (price : ℕ) (mean : Option ℕ) → moved price false mean ≡ None
 not_awaited price None = refl
 not_awaited price (Some m) = ap (λ (b : Bool). if b then Some m else None) (nothing_and (moved_one_percent m price))
 
 -- before a mean is awaited
-pub prices-unawaited : (k : Kept) (deals : List Deal) (from : ℕ) → IsRested k → PricesFrom k deals from (awaits_from (run_reference k).begun (run_reference k).last)
-prices-unawaited k deals from r = λ step tick le before.
+pub prices-unawaited : (k : Kept) (deals : List Deal) (from : ℕ) → PricesFrom k deals from (awaits_from (run_reference k).begun (run_reference k).last)
+prices-unawaited k deals from = λ step tick le before.
     let early : awaits k step.moment ≡ false = grind (arith, nat_tests) in
     let mean = mean_of (live step.moment deals) in
-    reference_by_mean k step mean r tick
+    reference_by_mean k step mean tick
     ∙ ap (λ (b : Bool). if not (is_trading k.phase) then None else by_mean b mean (run_reference k).last) early
     ∙ ap (λ (o : Option Priced). if not (is_trading k.phase) then None else o) (by mean (run_reference k).last)
     ∙ same_either (not (is_trading k.phase)) None
@@ -189,9 +190,9 @@ prices-unawaited k deals from r = λ step tick le before.
     by mean (Some last) = ap (because Moved) (not_awaited last.price mean)
 
 -- after a reference price, by whether the mean has moved
-by_last : (k : Kept) (a : Adoption) (step : Step) (mean : Option ℕ) → IsRested k → is_tick step.input ≡ true → (run_reference k).last ≡ Some a → moved a.price (has_stood a step.moment) mean ≡ None → reference k step mean ≡ None
-by_last k a step mean r tick is none =
-    reference_by_mean k step mean r tick
+by_last : (k : Kept) (a : Adoption) (step : Step) (mean : Option ℕ) → is_tick step.input ≡ true → (run_reference k).last ≡ Some a → moved a.price (has_stood a step.moment) mean ≡ None → reference (at_rest k) step mean ≡ None
+by_last k a step mean tick is none =
+    reference_by_mean k step mean tick
     ∙ ap (λ (o : Option Adoption). if not (is_trading k.phase) then None else by_mean (awaits_mean (run_reference k).begun o step.moment) mean o) is
     ∙ ap (λ (o : Option ℕ). if not (is_trading k.phase) then None else because Moved o) none
     ∙ same_either (not (is_trading k.phase)) None
@@ -207,20 +208,20 @@ mean-unmoved begun a last t offered mean is e =
     ap (λ (o : Option Adoption). observed begun o t offered None) is ∙ ap (because Moved) (sym (none_moves a t mean e)) ∙ ap (λ (o : Option Adoption). observed begun o t offered mean) (sym is)
 
 -- and once another is awaited none comes while the mean of the deals that are left hasn't moved
-pub prices-left : (k : Kept) (a : Adoption) (deals : List Deal) (from awaits until : ℕ) → IsRested k → (run_reference k).last ≡ Some a → awaits ≡ awaits_from (run_reference k).begun (run_reference k).last
+pub prices-left : (k : Kept) (a : Adoption) (deals : List Deal) (from awaits until : ℕ) → (run_reference k).last ≡ Some a → awaits ≡ awaits_from (run_reference k).begun (run_reference k).last
     → ((u : ℕ) → max from awaits ≤ u → u < until → mean_has_moved a.price (live u deals) ≡ false) → PricesFrom k deals from until
-prices-left k a deals from awaits until r is begins near = λ step tick le before. by step tick le before (nat_lt step.moment awaits) refl where
-  by : (step : Step) → is_tick step.input ≡ true → from ≤ step.moment → step.moment < until → (early : Bool) → nat_lt step.moment awaits ≡ early → reference k step (mean_of (live step.moment deals)) ≡ None
-  by step tick le before true e = let soon : step.moment < awaits = grind (arith, nat_tests) in prices-unawaited k deals from r step tick le (omega (arith, soon, begins))
+prices-left k a deals from awaits until is begins near = λ step tick le before. by step tick le before (nat_lt step.moment awaits) refl where
+  by : (step : Step) → is_tick step.input ≡ true → from ≤ step.moment → step.moment < until → (early : Bool) → nat_lt step.moment awaits ≡ early → reference (at_rest k) step (mean_of (live step.moment deals)) ≡ None
+  by step tick le before true e = let soon : step.moment < awaits = grind (arith, nat_tests) in prices-unawaited k deals from step tick le (omega (arith, soon, begins))
   by step tick le before false e =
       let late : awaits ≤ step.moment = grind (arith, nat_tests) in
-      by_last k a step (mean_of (live step.moment deals)) r tick is
+      by_last k a step (mean_of (live step.moment deals)) tick is
       (none_moves a step.moment (mean_of (live step.moment deals)) (near step.moment (omega (arith, le, late)) before))
 
 -- and never while the price of each deal is near the last reference price
-pub prices-near : (k : Kept) (a : Adoption) (deals : List Deal) (from until : ℕ) → IsRested k → (run_reference k).last ≡ Some a → AreNear a.price deals → PricesFrom k deals from until
-prices-near k a deals from until r is near = λ step tick le before.
-    by_last k a step (mean_of (live step.moment deals)) r tick is
+pub prices-near : (k : Kept) (a : Adoption) (deals : List Deal) (from until : ℕ) → (run_reference k).last ≡ Some a → AreNear a.price deals → PricesFrom k deals from until
+prices-near k a deals from until is near = λ step tick le before.
+    by_last k a step (mean_of (live step.moment deals)) tick is
     (none_moves a step.moment (mean_of (live step.moment deals)) (near_live_mean a.price step.moment deals near))
 
 -- The price of a release, else what is observed.

@@ -19,20 +19,13 @@ use Rattle.symbol_core.specs.declared.due.Due.{Due}
 use Rattle.symbol_core.specs.declared.kept.Kept.{Kept}
 use Rattle.symbol_core.specs.declared.kept.Step.{Step}
 use Rattle.symbol_core.specs.declared.symbol.MarketView.{MarketView}
+use Rattle.symbol_core.specs.InStep.{InStep, at_rest}
 use Rattle.symbol_core.specs.Kept.{straddles_at, with_quote}
 use Rattle.symbol_core.specs.Pricing.{reference, time_changes}
 use Rattle.symbol_core.specs.Rests.{Held}
 use Rattle.symbol_core.specs.Runs.{run_band, run_quote, run_reference}
 use Rattle.symbol_core.specs.Taken.{deal_of, triggers_by}
 use Rattle.symbol_core.specs.Window.{window}
-
--- the last step left nothing for the rules of its own record
-pub record IsRested (k : Kept) : Type 0 where
-  pub left_limit : k.left_limit ≡ false
-  pub released : k.released ≡ None
-  pub deal : k.deal ≡ None
-  pub is_fresh : k.is_fresh ≡ false
-  pub restricts : k.restricts ≡ false
 
 -- in a limit state whose band that quotation has left
 abbrev pub leaves_limit : Kept → Option Quotation → Bool
@@ -83,7 +76,7 @@ ChangesBandsFrom k day from until = (step : Step) → step.day ≡ day → from 
 
 -- a new reference price at a tick
 abbrev pub PricesFrom : Kept → List Deal → ℕ → ℕ → Type 0
-PricesFrom k deals from until = (step : Step) → is_tick step.input ≡ true → from ≤ step.moment → step.moment < until → reference k step (mean_of (live step.moment deals)) ≡ None
+PricesFrom k deals from until = (step : Step) → is_tick step.input ≡ true → from ≤ step.moment → step.moment < until → reference (at_rest k) step (mean_of (live step.moment deals)) ≡ None
 
 -- from a moment of a day on and before another, time brings nothing but perhaps a new reference price
 pub record Waits (k : Kept) (day : Day) (stopped : Bool) (from until : ℕ) : Type 0 where
@@ -94,16 +87,16 @@ pub record Waits (k : Kept) (day : Day) (stopped : Bool) (from until : ℕ) : Ty
   pub bands : ChangesBandsFrom k day from until
 
 -- no rule says anything at the open step
-pub record IsQuiet (k : Kept) (deals : List Deal) (step : Step) : Type 0 where
-  pub settled : IsSettled k step.stopped
+pub record IsQuiet (k : InStep) (deals : List Deal) (step : Step) : Type 0 where
+  pub settled : IsSettled k.kept step.stopped
   pub closes : is_closed step.moment step.day ≡ false
-  pub starts : starts_at k step.day step.stopped step.moment ≡ false
-  pub pauses : pauses_at k step.moment ≡ false
-  pub asks : asks_to_pause k.id step.input ≡ false
-  pub reopens : reopens_at k step.moment ≡ false
+  pub starts : starts_at k.kept step.day step.stopped step.moment ≡ false
+  pub pauses : pauses_at k.kept step.moment ≡ false
+  pub asks : asks_to_pause k.kept.id step.input ≡ false
+  pub reopens : reopens_at k.kept step.moment ≡ false
   pub prices : reference k step (mean_of (live step.moment (window k deals))) ≡ None
-  pub bands : changes_bands k step ≡ false
-  pub restricts : k.restricts ≡ false
+  pub bands : changes_bands k.kept step ≡ false
+  pub restricts : k.opened.restricts ≡ false
 
 -- a quotation, a trade, a clock or an index tick
 abbrev pub comes_often : Record → Bool
@@ -121,7 +114,6 @@ pub record WaitsAt (k : Kept) (step : Step) (until : ℕ) : Type 0 where
 
 -- ticks of that market from that moment on and before the other find nothing to say
 pub record IsIdle (k : Kept) (deals : List Deal) (due : Due) : Type 0 where
-  pub rested : IsRested k
   pub settled : IsSettled k due.market.stopped
   pub waits : Waits k due.market.day due.market.stopped due.from due.waits
   pub within : due.until ≤ due.waits
@@ -152,7 +144,6 @@ keeps_price k t mean = not (is_trading k.phase) || option_map_or (λ last. not (
 
 -- no rule says anything at a moment, and from then on until another only a new reference price can come
 pub record IsStill (k : Kept) (deals : List Deal) (due : Due) : Type 0 where
-  pub rested : IsRested k
   pub settled : IsSettled k due.market.stopped
   pub waits : Waits k due.market.day due.market.stopped due.from due.waits
 
@@ -161,7 +152,6 @@ pub record IsStill (k : Kept) (deals : List Deal) (due : Due) : Type 0 where
 pub record IsAwaited (k : Kept) (market : MarketView) (x : Record) (deal : Option Deal) (due : Due) : Type 0 where
   pub kind : brings_deal_or_time x ≡ true
   pub inside : is_out k ≡ false
-  pub rested : IsRested k
   pub settled : IsSettled k due.market.stopped
   pub waits : Waits k due.market.day due.market.stopped due.from due.waits
   pub from : due.from ≡ moment_of x

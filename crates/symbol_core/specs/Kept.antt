@@ -1,4 +1,4 @@
--- What the code does to the kept state, in one equation each. Private words: no public clause cites them.
+-- What the code does to a stock in an open step, in one equation each. Private words: no public clause cites them.
 use Rattle.std.specs.Prelude.{ℕ, Bool, true, false, Option, Some, None, List, [], ◌∷◌, ◌++◌, ◌==◌, if◌then◌else◌, ◌&&◌, ◌||◌, not, is_some, map, unwrap_or, option_map, ◌+◌}
 use Rattle.std.specs.Option.{option_map_or}
 use Rattle.price_core.specs.declared.quote.Quotation.{Quotation}
@@ -30,6 +30,7 @@ use Rattle.rulebook.specs.Symbol.{is_times, opens_before}
 use Rattle.symbol_core.specs.declared.kept.Kept.{Kept}
 use Rattle.symbol_core.specs.declared.kept.Run.{Run}
 use Rattle.symbol_core.specs.declared.kept.Step.{Step}
+use Rattle.symbol_core.specs.InStep.{InStep, in_step}
 use Rattle.symbol_core.specs.Runs.{run_band, run_begun, run_quote}
 
 abbrev pub quoted_by : ℕ → Record → Option Quotation
@@ -51,21 +52,25 @@ begins k p = is_trading p && not (is_limit k.phase)
 abbrev pub run_of : ℕ → Step → Run
 run_of s step = record { reference = record { begun = step.moment; last = None }; quote = quoted_by s step.input; band = None }
 
-abbrev pub turned : Kept → Step → Phase → Kept
-turned k step p = record k {
-  phase = p;
-  since = step.moment;
-  run = if begins k p then Some (run_of k.id step) else k.run;
-  auction = None;
-  left_limit = (is_trading p && is_limit k.phase) || k.left_limit;
-  is_fresh = begins k p || k.is_fresh;
+abbrev pub turned : InStep → Step → Phase → InStep
+turned k step p = record {
+  kept = record k.kept {
+    phase = p;
+    since = step.moment;
+    run = if begins k.kept p then Some (run_of k.kept.id step) else k.kept.run;
+    auction = None;
+  };
+  opened = record k.opened {
+    left_limit = (is_trading p && is_limit k.kept.phase) || k.opened.left_limit;
+    is_fresh = begins k.kept p || k.opened.is_fresh;
+  };
 }
 
-abbrev pub straddled : Kept → Bool → Kept
-straddled k on = record k { straddling = on }
+abbrev pub straddled : InStep → Bool → InStep
+straddled k on = in_step (record k.kept { straddling = on }) k.opened
 
-abbrev pub with_auction : Kept → Option AuctionState → Kept
-with_auction k auction = record k { auction = auction }
+abbrev pub with_auction : InStep → Option AuctionState → InStep
+with_auction k auction = in_step (record k.kept { auction = auction }) k.opened
 
 -- an auction begins where the stock is paused in a run that has bands
 abbrev pub begins_auction : Kept → Phase → Bool
@@ -86,8 +91,8 @@ abbrev pub heard : Option Indication → Option AuctionState → Option AuctionS
 heard None auction = auction
 heard (Some i) auction = option_map (with_indication i.price i.unmatched) auction
 
-abbrev pub released : Kept → ℕ → Kept
-released k price = record k { released = Some price }
+abbrev pub released : InStep → ℕ → InStep
+released k price = in_step k.kept (record k.opened { released = Some price })
 
 -- the run's first bands, at an opening trade in its first five minutes, begin the window anew
 abbrev pub restarts : Kept → Step → Bool
@@ -103,11 +108,10 @@ abbrev pub run_banded : Step → Banded → Run → Run
 run_banded step b run = record run { reference = adopting step b run.reference; band = Some b }
 
 -- outside a run bands count for nothing
-abbrev pub banded : Kept → Step → Banded → Kept
-banded k step b = record k {
-  run = option_map (run_banded step b) k.run;
-  is_fresh = (is_some k.run && restarts k step) || k.is_fresh;
-}
+abbrev pub banded : InStep → Step → Banded → InStep
+banded k step b =
+    in_step (record k.kept { run = option_map (run_banded step b) k.kept.run })
+    (record k.opened { is_fresh = (is_some k.kept.run && restarts k.kept step) || k.opened.is_fresh })
 
 -- A rule over what is kept.
 

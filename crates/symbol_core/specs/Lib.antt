@@ -1,5 +1,6 @@
 pub mod Auctions
 pub mod Runs
+pub mod InStep
 pub mod Kept
 pub mod Pricing
 pub mod Window

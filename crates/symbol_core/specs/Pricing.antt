@@ -15,6 +15,7 @@ use Rattle.rulebook.specs.Rules.{or_else, opens_on_quotes, differs}
 use Rattle.rulebook.specs.Symbol.{bands_of, prior_close_of, opening_price}
 use Rattle.symbol_core.specs.declared.kept.Kept.{Kept}
 use Rattle.symbol_core.specs.declared.kept.Step.{Step}
+use Rattle.symbol_core.specs.InStep.{InStep}
 use Rattle.symbol_core.specs.Runs.{run_band, run_reference}
 
 abbrev pub offered : Kept → Step → Option ℕ
@@ -29,13 +30,13 @@ abbrev pub priced_by : Option ℕ → ReferenceState → ℕ → Option ℕ → 
 priced_by released reference t offered mean =
     or_else (because cause.First (released_first released reference.last)) (observed reference.begun reference.last t offered mean)
 
-abbrev pub later_price : Kept → Step → Option ℕ → Option Priced
-later_price k step mean = priced_by k.released (run_reference k) step.moment (offered k step) mean
+abbrev pub later_price : InStep → Step → Option ℕ → Option Priced
+later_price k step mean = priced_by k.opened.released (run_reference k.kept) step.moment (offered k.kept step) mean
 
-abbrev pub reference : Kept → Step → Option ℕ → Option Priced
+abbrev pub reference : InStep → Step → Option ℕ → Option Priced
 reference k step mean =
-    if not (is_trading k.phase) then None
-    else if k.left_limit then forced mean
+    if not (is_trading k.kept.phase) then None
+    else if k.opened.left_limit then forced mean
     else later_price k step mean
 
 abbrev pub band : Kept → Step → Cause → ℕ → List Message
@@ -48,9 +49,9 @@ time_changes k step last = option_map_or (λ listed. differs (bands_of listed st
 abbrev pub band_by_time : Kept → Step → Banded → List Message
 band_by_time k step last = if is_trading k.phase && time_changes k step last then band k step cause.Times last.reference else []
 
-abbrev pub banding : Option ℕ → Kept → Step → List Message
+abbrev pub banding : Option ℕ → InStep → Step → List Message
 banding mean k step =
     elim (reference k step mean) [
-      | Some r ↦ band k step r.cause r.price
-      | None ↦ option_map_or (band_by_time k step) (run_band k) []
+      | Some r ↦ band k.kept step r.cause r.price
+      | None ↦ option_map_or (band_by_time k.kept step) (run_band k.kept) []
     ]

@@ -1,4 +1,4 @@
--- The kept state once a record is taken in. Private words: no public clause cites them.
+-- A stock once a record is taken in. Private words: no public clause cites them.
 use Rattle.std.specs.Prelude.{ℕ, Bool, true, false, Option, Some, None, ◌==◌, if◌then◌else◌, not, ◌&&◌, ◌||◌, option_map}
 use Rattle.std.specs.Option.{option_map_or}
 use Rattle.session_core.specs.declared.day.Day.{Day}
@@ -15,6 +15,7 @@ use Rattle.rulebook.specs.Auction.{indicated_by}
 use Rattle.rulebook.specs.Symbol.{cancels}
 use Rattle.symbol_core.specs.declared.kept.Kept.{Kept}
 use Rattle.symbol_core.specs.declared.kept.Step.{Step}
+use Rattle.symbol_core.specs.InStep.{InStep, in_step, just_opened}
 use Rattle.symbol_core.specs.Kept.{heard, quoted_by, requoted}
 
 -- today's terms once a record is taken in
@@ -60,30 +61,18 @@ shorted x deal short = record short {
 abbrev pub restricts : Record → Option Deal → ShortState → Bool
 restricts x deal short = triggers_by (prior_close_by x short.prior_close) deal && not short.triggered
 
--- the kept state once a record other than a day is taken in
-abbrev pub taken : Kept → Step → Kept
-taken k step = record k {
-  terms = listed_by step.input k.terms;
-  run = option_map (requoted (quoted_by k.id step.input)) k.run;
-  halted = halted_by k.id step.input k.halted;
-  auction = heard (indicated_by k.id step.input) k.auction;
-  left_limit = false;
-  released = None;
-  deal = deal_of step.day k.id step.input;
-  is_fresh = false;
-  short = shorted step.input (deal_of step.day k.id step.input) k.short;
-  restricts = restricts step.input (deal_of step.day k.id step.input) k.short;
-}
-
--- the kept state once the rules have been obeyed, without what was of the step alone
-abbrev pub finished : Kept → Kept
-finished k = record k {
-  left_limit = false;
-  released = None;
-  deal = None;
-  is_fresh = false;
-  restricts = false;
-}
+-- the kept state and the open step once a record other than a day is taken in
+abbrev pub taken : Kept → Step → InStep
+taken k step =
+    in_step
+    (record k {
+      terms = listed_by step.input k.terms;
+      run = option_map (requoted (quoted_by k.id step.input)) k.run;
+      halted = halted_by k.id step.input k.halted;
+      auction = heard (indicated_by k.id step.input) k.auction;
+      short = shorted step.input (deal_of step.day k.id step.input) k.short;
+    })
+    (just_opened (deal_of step.day k.id step.input) (restricts step.input (deal_of step.day k.id step.input) k.short))
 
 -- the kept state of an id at the begin of a day
 abbrev pub renewed : ℕ → Bool → Kept
@@ -97,9 +86,4 @@ renewed s carried = record {
   halted = false;
   auction = None;
   short = listed None carried;
-  left_limit = false;
-  released = None;
-  deal = None;
-  is_fresh = false;
-  restricts = false;
 }

@@ -8,12 +8,13 @@ ghost use Rattle.refprice_core.specs.Prices.{observed};
 ghost use Rattle.rulebook.specs.Auction.{is_paused};
 ghost use Rattle.rulebook.specs.Rules as rules;
 ghost use Rattle.rulebook.specs.Symbol.{bands_of, is_times, prior_close_of};
+ghost use Rattle.symbol_core.specs.InStep.{in_step};
 ghost use Rattle.symbol_core.specs.Pricing as pricing;
 ghost use Rattle.symbol_core.specs.Runs.{run_band, run_reference};
 ghost use Rattle.symbol_core.specs.Stands.{ObeysWith, Says};
 ghost use Rattle.symbol_core.specs.Window.{window};
 
-use crate::kept::{Kept, Step};
+use crate::kept::{Kept, OpenStep, Step};
 use crate::records::{opening_price, opens_on_quotes};
 use crate::says::midnight;
 use pause_core::is_trading;
@@ -40,13 +41,39 @@ fn differs(a: &Bands, b: &Bands) -> bool
     !(a.lower.units() == b.lower.units() && a.upper.units() == b.upper.units())
 }
 
+impl OpenStep {
+    /// Whether the price of its own deal is at least one per cent away from a reference price.
+    fn deal_is_far(&self, reference: Price) -> bool
+        ensures { result ≡ option_map_or (λ d. moved_one_percent d.price reference) self.now.deal false }
+    {
+        match &self.deal {
+            Some(deal) => moved_one_percent(deal.price, reference),
+            None => false,
+        }
+    }
+
+    /// The price at which it released the symbol, where the run has taken none yet.
+    fn released_first(&self, reference: &Reference) -> Option<Price>
+        ensures { result ≡ pricing.released_first self.now.released reference.now.last }
+    {
+        match reference.last() {
+            Some(_) => None,
+            None => self.released,
+        }
+    }
+}
+
 impl Kept {
     /// The mean of the window, with the open step's own deal.
-    fn mean(&self, t: Moment, deals: &Window) -> Option<Price>
-        ensures { result ≡ mean_of (live t (window self.now deals.now.deals)) }
+    fn mean(&self, t: Moment, opened: &OpenStep, deals: &Window) -> Option<Price>
+        ensures { result ≡ mean_of (live t (window (in_step self.now opened.now) deals.now.deals)) }
     {
-        let last = if self.run.is_some() { self.deal } else { None };
-        if self.is_fresh {
+        let last = if self.run.is_some() {
+            opened.deal
+        } else {
+            None
+        };
+        if opened.is_fresh {
             live_mean(t, &[], &last)
         } else {
             deals.mean_with(t, &last)
@@ -88,34 +115,28 @@ impl Kept {
         }
     }
 
-    /// Whether the price of the open step's own deal is at least one per cent away from a reference price.
-    fn deal_is_far(&self, reference: Price) -> bool
-        ensures { result ≡ option_map_or (λ d. moved_one_percent d.price reference) self.now.deal false }
-    {
-        match &self.deal {
-            Some(deal) => moved_one_percent(deal.price, reference),
-            None => false,
-        }
-    }
-
     /// Whether the price of each deal of the window, the open step's own too, is known to be less than one per cent away
     /// from a reference price.
-    fn stays_near(&self, deals: &Window, reference: Price) -> bool
-        ensures { result ≡ true → AreNear reference (window self.now deals.now.deals) }
+    fn stays_near(&self, opened: &OpenStep, deals: &Window, reference: Price) -> bool
+        ensures { result ≡ true → AreNear reference (window (in_step self.now opened.now) deals.now.deals) }
     {
-        deals.stays_near(reference) && !self.deal_is_far(reference)
+        deals.stays_near(reference) && !opened.deal_is_far(reference)
     }
 
     /// Whether the mean of the window, with the open step's own deal, is at least one per cent away from a reference price.
-    fn mean_has_moved(&self, t: Moment, deals: &Window, reference: Price) -> bool
-        ensures { result ≡ option_map_or (λ m. moved_one_percent m reference) (mean_of (live t (window self.now deals.now.deals))) false }
+    fn mean_has_moved(&self, t: Moment, opened: &OpenStep, deals: &Window, reference: Price) -> bool
+        ensures { result ≡ option_map_or (λ m. moved_one_percent m reference) (mean_of (live t (window (in_step self.now opened.now) deals.now.deals))) false }
     {
-        if self.stays_near(deals, reference) {
+        if self.stays_near(opened, deals, reference) {
             return false;
         }
-        let last = if self.run.is_some() { self.deal } else { None };
-        if self.is_fresh {
-            match self.mean(t, deals) {
+        let last = if self.run.is_some() {
+            opened.deal
+        } else {
+            None
+        };
+        if opened.is_fresh {
+            match self.mean(t, opened, deals) {
                 Some(mean) => moved_one_percent(mean, reference),
                 None => false,
             }
@@ -125,60 +146,63 @@ impl Kept {
     }
 
     /// The mean of the window, where it may be a new reference price.
-    fn awaited_mean(&self, t: Moment, deals: &Window, reference: &Reference) -> Option<Price>
-        ensures { (offered : Option ℕ) → observed reference.now.begun reference.now.last t offered result ≡ observed reference.now.begun reference.now.last t offered (mean_of (live t (window self.now deals.now.deals))) }
+    fn awaited_mean(
+        &self,
+        t: Moment,
+        opened: &OpenStep,
+        deals: &Window,
+        reference: &Reference,
+    ) -> Option<Price>
+        ensures { (offered : Option ℕ) → observed reference.now.begun reference.now.last t offered result ≡ observed reference.now.begun reference.now.last t offered (mean_of (live t (window (in_step self.now opened.now) deals.now.deals))) }
     {
         if !reference.awaits_mean(t) {
             return None;
         }
         match reference.last() {
-            Some(last) if !self.mean_has_moved(t, deals, last.price) => None,
-            _ => self.mean(t, deals),
-        }
-    }
-
-    /// The price at which the open step released the symbol, where the run has taken none yet.
-    fn released_first(&self, reference: &Reference) -> Option<Price>
-        ensures { result ≡ pricing.released_first self.now.released reference.now.last }
-    {
-        match reference.last() {
-            Some(_) => None,
-            None => self.released,
+            Some(last) if !self.mean_has_moved(t, opened, deals, last.price) => None,
+            _ => self.mean(t, opened, deals),
         }
     }
 }
 
 impl Kept {
-    fn later_price(&self, step: &Step, deals: &Window) -> Option<Priced>
-        ensures { result ≡ pricing.later_price self.now step.now (mean_of (live step.now.moment (window self.now deals.now.deals))) }
+    fn later_price(&self, step: &Step, opened: &OpenStep, deals: &Window) -> Option<Priced>
+        ensures { result ≡ pricing.later_price (in_step self.now opened.now) step.now (mean_of (live step.now.moment (window (in_step self.now opened.now) deals.now.deals))) }
     {
         let reference = self.last_reference();
-        let released = self.released_first(&reference);
+        let released = opened.released_first(&reference);
         if released.is_some() {
             return because(Cause::First, released);
         }
-        let mean = self.awaited_mean(step.moment, deals, &reference);
+        let mean = self.awaited_mean(step.moment, opened, deals, &reference);
         reference.observed(step.moment, self.offered(step), mean)
     }
 
     /// A new reference price, where there is one.
-    pub fn reference(&self, step: &Step, deals: &Window) -> Option<Priced>
-        ensures { result ≡ pricing.reference self.now step.now (mean_of (live step.now.moment (window self.now deals.now.deals))) }
+    pub fn reference(&self, step: &Step, opened: &OpenStep, deals: &Window) -> Option<Priced>
+        ensures { result ≡ pricing.reference (in_step self.now opened.now) step.now (mean_of (live step.now.moment (window (in_step self.now opened.now) deals.now.deals))) }
     {
         if !is_trading(self.phase) {
             None
-        } else if self.left_limit {
-            forced(self.mean(step.moment, deals))
+        } else if opened.left_limit {
+            forced(self.mean(step.moment, opened, deals))
         } else {
-            self.later_price(step, deals)
+            self.later_price(step, opened, deals)
         }
     }
 
-    fn band(&mut self, step: &Step, cause: Cause, price: Price, out: &mut Vec<Message>)
+    fn band(
+        &mut self,
+        step: &Step,
+        opened: &mut OpenStep,
+        cause: Cause,
+        price: Price,
+        out: &mut Vec<Message>,
+    )
         requires unpaused { is_paused self.old.phase ≡ false }
         requires times { is_times cause ≡ true → option_map (λ last. last.reference) (run_band self.old) ≡ Some price }
         requires room { vec_len out.old + 1 ≤ vec_capacity out.old }
-        ensures says { Says (pricing.band self.old step.now cause price) step.now self.old self.new out.old.items out.new.items }
+        ensures says { Says (pricing.band self.old step.now cause price) step.now (in_step self.old opened.old) (in_step self.new opened.new) out.old.items out.new.items }
         ensures room { vec_capacity out.old ≤ vec_capacity out.new }
         ensures len { vec_len out.new ≤ vec_len out.old + 1 }
     {
@@ -186,6 +210,7 @@ impl Kept {
             let bands = bands_of(&listed, &step.day, step.moment, price);
             self.say_band(
                 step,
+                opened,
                 &Banded {
                     cause,
                     reference: price,
@@ -209,39 +234,51 @@ impl Kept {
         }
     }
 
-    fn band_by_time(&mut self, step: &Step, out: &mut Vec<Message>)
+    fn band_by_time(&mut self, step: &Step, opened: &mut OpenStep, out: &mut Vec<Message>)
         requires { vec_len out.old + 1 ≤ vec_capacity out.old }
-        ensures says { Says (option_map_or (pricing.band_by_time self.old step.now) (run_band self.old) []) step.now self.old self.new out.old.items out.new.items }
+        ensures says { Says (option_map_or (pricing.band_by_time self.old step.now) (run_band self.old) []) step.now (in_step self.old opened.old) (in_step self.new opened.new) out.old.items out.new.items }
         ensures room { vec_capacity out.old ≤ vec_capacity out.new }
         ensures len { vec_len out.new ≤ vec_len out.old + 1 }
     {
         if let Some(last) = self.last_band() {
             if is_trading(self.phase) && self.time_changes(step, &last) {
-                self.band(step, Cause::Times, last.reference, out);
+                self.band(step, opened, Cause::Times, last.reference, out);
             }
         }
     }
 
-    fn banding(&mut self, step: &Step, deals: &Window, out: &mut Vec<Message>)
+    fn banding(
+        &mut self,
+        step: &Step,
+        opened: &mut OpenStep,
+        deals: &Window,
+        out: &mut Vec<Message>,
+    )
         requires { vec_len out.old + 1 ≤ vec_capacity out.old }
-        ensures says { Says (pricing.banding (mean_of (live step.now.moment (window self.old deals.now.deals))) self.old step.now) step.now self.old self.new out.old.items out.new.items }
+        ensures says { Says (pricing.banding (mean_of (live step.now.moment (window (in_step self.old opened.old) deals.now.deals))) (in_step self.old opened.old) step.now) step.now (in_step self.old opened.old) (in_step self.new opened.new) out.old.items out.new.items }
         ensures room { vec_capacity out.old ≤ vec_capacity out.new }
         ensures len { vec_len out.new ≤ vec_len out.old + 1 }
     {
-        match self.reference(step, deals) {
-            Some(r) => self.band(step, r.cause, r.price, out),
-            None => self.band_by_time(step, out),
+        match self.reference(step, opened, deals) {
+            Some(r) => self.band(step, opened, r.cause, r.price, out),
+            None => self.band_by_time(step, opened, out),
         }
     }
 
     /// Bands, with a new reference price or where the time of day changes them.
-    pub fn publish_band(&mut self, step: &Step, deals: &Window, out: &mut Vec<Message>)
+    pub fn publish_band(
+        &mut self,
+        step: &Step,
+        opened: &mut OpenStep,
+        deals: &Window,
+        out: &mut Vec<Message>,
+    )
         requires goes_on { is_done self.old.phase ≡ false }
         requires room { vec_len out.old + 1 ≤ vec_capacity out.old }
-        ensures obeys { ObeysWith deals.now.deals rules.publish_band step.now self.old self.new out.old.items out.new.items }
+        ensures obeys { ObeysWith deals.now.deals rules.publish_band step.now (in_step self.old opened.old) (in_step self.new opened.new) out.old.items out.new.items }
         ensures room { vec_capacity out.old ≤ vec_capacity out.new }
         ensures len { vec_len out.new ≤ vec_len out.old + 1 }
     {
-        self.banding(step, deals, out);
+        self.banding(step, opened, deals, out);
     }
 }

@@ -7,13 +7,14 @@ ghost use Rattle.pause_core.specs.Phases.{can_start, is_trading};
 ghost use Rattle.percent_core.specs.Percentages.{span};
 ghost use Rattle.window_core.specs.declared.window.Deal.{Deal};
 ghost use Rattle.rulebook.specs.Rules.{at_band};
-ghost use Rattle.symbol_core.specs.Idle.{ChangesBandsFrom, IsDue, IsRested, IsSettled, IsSettledAt, PausesFrom, PricesFrom, ReopensFrom, StartsFrom, Waits, WaitsAt, is_out, leaves_limit};
+ghost use Rattle.symbol_core.specs.Idle.{ChangesBandsFrom, IsDue, IsSettled, IsSettledAt, PausesFrom, PricesFrom, ReopensFrom, StartsFrom, Waits, WaitsAt, is_out, leaves_limit};
 ghost use Rattle.window_core.specs.Deals.{live, mean_of};
+ghost use Rattle.symbol_core.specs.InStep.{in_step};
 ghost use Rattle.symbol_core.specs.Pricing.{reference, time_changes};
 ghost use Rattle.symbol_core.specs.Runs.{run_band, run_reference};
 ghost use Rattle.symbol_core.specs.Window.{window};
 
-use crate::kept::{Kept, Step};
+use crate::kept::{Kept, OpenStep, Step};
 use crate::records::comes_often;
 use crate::symbol::MarketView;
 use crate::turns::at_band;
@@ -247,7 +248,7 @@ impl Kept {
     /// After a reference price: never while the price of each deal is near it. Else where, once another mean is awaited, that of
     /// the deals that are left may be far from it.
     fn moves_from(&self, t: Moment, last: &Adoption, deals: &Window) -> u64
-        ensures { IsRested self.now → (run_reference self.now).last ≡ Some last.now → PricesFrom self.now deals.now.deals t result }
+        ensures { (run_reference self.now).last ≡ Some last.now → PricesFrom self.now deals.now.deals t result }
     {
         if deals.stays_near(last.price) {
             return u64::MAX;
@@ -258,7 +259,7 @@ impl Kept {
 
     /// From when on time may bring a new reference price, in nanoseconds of the day.
     pub fn prices_from(&self, t: Moment, deals: &Window) -> u64
-        ensures { IsRested self.now → PricesFrom self.now deals.now.deals t result }
+        ensures { PricesFrom self.now deals.now.deals t result }
     {
         if !is_trading(self.phase) {
             return u64::MAX;
@@ -306,18 +307,20 @@ impl Kept {
 
     /// Whether no rule says anything at the step of a record that comes often, where time brings nothing but perhaps a new
     /// reference price.
-    pub fn is_quiet(&self, step: &Step, deals: &Window) -> bool
+    pub fn is_quiet(&self, step: &Step, opened: &OpenStep, deals: &Window) -> bool
         ensures settled { result ≡ true → IsSettled self.now step.now.stopped }
-        ensures prices { result ≡ true → reference self.now step.now (mean_of (live step.now.moment (window self.now deals.now.deals))) ≡ None }
-        ensures restricts { result ≡ true → self.now.restricts ≡ false }
+        ensures prices { result ≡ true → reference (in_step self.now opened.now) step.now (mean_of (live step.now.moment (window (in_step self.now opened.now) deals.now.deals))) ≡ None }
+        ensures restricts { result ≡ true → opened.now.restricts ≡ false }
     {
-        self.is_settled(step.stopped) && self.reference(step, deals).is_none() && !self.restricts
+        self.is_settled(step.stopped)
+            && self.reference(step, opened, deals).is_none()
+            && !opened.restricts
     }
 
     /// When the symbol is next due after a step, where only time can bring something, and before a moment only a new
     /// reference price.
     pub fn due_within(&self, step: &Step, deals: &Window, waits: u64) -> Due
-        ensures { IsRested self.now → IsSettled self.now step.now.stopped → Waits self.now step.now.day step.now.stopped step.now.moment waits → IsDue (Some result) self.now deals.now.deals }
+        ensures { IsSettled self.now step.now.stopped → Waits self.now step.now.day step.now.stopped step.now.moment waits → IsDue (Some result) self.now deals.now.deals }
     {
         let prices = self.prices_from(step.moment, deals);
         Due::of(step, waits, earlier(waits, prices))
@@ -325,7 +328,7 @@ impl Kept {
 
     /// When the symbol is next due after a step. None where a rule says something at the next tick, whenever that comes.
     pub fn due(&self, step: &Step, deals: &Window) -> Option<Due>
-        ensures { IsRested self.now → IsDue result self.now deals.now.deals }
+        ensures { IsDue result self.now deals.now.deals }
     {
         if self.is_out() {
             Some(Due::of(step, u64::MAX, u64::MAX))

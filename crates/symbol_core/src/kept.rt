@@ -25,12 +25,6 @@ pub struct Kept {
     pub straddling: bool,
     /// Whether a regulatory halt is in effect.
     pub halted: bool,
-    /// Whether the open step has left a limit state.
-    pub left_limit: bool,
-    /// Whether the kept deals are of before the window's begin.
-    pub is_fresh: bool,
-    /// Whether the open step's trade is the first of today that triggers the short sale restriction.
-    pub restricts: bool,
     /// The moment of the phase.
     pub since: Moment,
     /// Today's listing.
@@ -41,9 +35,20 @@ pub struct Kept {
     pub auction: Option<Auction>,
     /// The short sale restriction.
     pub short: Short,
-    /// The price at which the open step released the symbol.
+}
+
+/// What belongs to the open step alone, and is gone at its end.
+#[derive(Clone, Copy, Debug)]
+pub struct OpenStep {
+    /// Whether it has left a limit state.
+    pub left_limit: bool,
+    /// Whether the kept deals are of before the window's begin.
+    pub is_fresh: bool,
+    /// Whether its trade is the first of today that triggers the short sale restriction.
+    pub restricts: bool,
+    /// The price at which it released the symbol.
     pub released: Option<Price>,
-    /// The open step's own deal, not yet among the kept ones.
+    /// Its own deal, not yet among the kept ones.
     pub deal: Option<Deal>,
 }
 

@@ -4,7 +4,7 @@ ghost use Rattle.window_core.specs.Deals.{live, mean_of};
 ghost use Rattle.limit_core.specs.Limits.{straddles};
 ghost use Rattle.rulebook.specs.Rules.{at_band, meets};
 ghost use Rattle.refprice_core.specs.Prices.{moved_price};
-ghost use Rattle.symbol_core.specs.Idle.{IsDue, IsRested, IsSettled, IsSettledAt, IsStill, PricesFrom, brings_deal_or_time, is_out, keeps_price};
+ghost use Rattle.symbol_core.specs.Idle.{IsDue, IsSettled, IsSettledAt, IsStill, PricesFrom, brings_deal_or_time, is_out, keeps_price};
 ghost use Rattle.symbol_core.specs.Runs.{run_band, run_reference};
 ghost use Rattle.symbol_core.specs.Taken.{deal_of, triggers_by};
 

@@ -5,10 +5,11 @@ ghost use Rattle.pause_core.specs.Phases.{is_done};
 ghost use Rattle.rulebook.specs.Auction.{is_paused};
 ghost use Rattle.rulebook.specs.Rules as rules;
 ghost use Rattle.symbol_core.specs.Idle.{pauses_at};
+ghost use Rattle.symbol_core.specs.InStep.{in_step};
 ghost use Rattle.symbol_core.specs.Kept.{pause_now, pausing, pausing_as};
 ghost use Rattle.symbol_core.specs.Stands.{Obeys, Says};
 
-use crate::kept::{Kept, Step};
+use crate::kept::{Kept, OpenStep, Step};
 use crate::records::asks_to_pause;
 use crate::says::is_paused;
 use limit_core::LimitTimer;
@@ -41,51 +42,57 @@ impl Kept {
         )
     }
 
-    fn begin_pause(&mut self, step: &Step, phase: Phase, out: &mut Vec<Message>)
+    fn begin_pause(
+        &mut self,
+        step: &Step,
+        opened: &mut OpenStep,
+        phase: Phase,
+        out: &mut Vec<Message>,
+    )
         requires paused { is_paused phase ≡ true }
         requires room { vec_len out.old + 2 ≤ vec_capacity out.old }
-        ensures says { Says (pausing_as self.old step.now phase) step.now self.old self.new out.old.items out.new.items }
+        ensures says { Says (pausing_as self.old step.now phase) step.now (in_step self.old opened.old) (in_step self.new opened.new) out.old.items out.new.items }
         ensures room { vec_capacity out.old ≤ vec_capacity out.new }
         ensures len { vec_len out.new ≤ vec_len out.old + 2 }
     {
         match self.last_band() {
-            Some(b) => self.say_pause(step, phase, &b, out),
-            None => self.becomes(step, phase, out),
+            Some(b) => self.say_pause(step, opened, phase, &b, out),
+            None => self.becomes(step, opened, phase, out),
         }
     }
 
-    fn pause_as(&mut self, step: &Step, phase: Phase, out: &mut Vec<Message>)
+    fn pause_as(&mut self, step: &Step, opened: &mut OpenStep, phase: Phase, out: &mut Vec<Message>)
         requires { vec_len out.old + 2 ≤ vec_capacity out.old }
-        ensures says { Says (pausing_as self.old step.now phase) step.now self.old self.new out.old.items out.new.items }
+        ensures says { Says (pausing_as self.old step.now phase) step.now (in_step self.old opened.old) (in_step self.new opened.new) out.old.items out.new.items }
         ensures room { vec_capacity out.old ≤ vec_capacity out.new }
         ensures len { vec_len out.new ≤ vec_len out.old + 2 }
     {
         if is_paused(phase) {
-            self.begin_pause(step, phase, out);
+            self.begin_pause(step, opened, phase, out);
         } else {
-            self.becomes(step, phase, out);
+            self.becomes(step, opened, phase, out);
         }
     }
 
-    fn pausing(&mut self, step: &Step, out: &mut Vec<Message>)
+    fn pausing(&mut self, step: &Step, opened: &mut OpenStep, out: &mut Vec<Message>)
         requires { vec_len out.old + 2 ≤ vec_capacity out.old }
-        ensures says { Says (pausing self.old step.now) step.now self.old self.new out.old.items out.new.items }
+        ensures says { Says (pausing self.old step.now) step.now (in_step self.old opened.old) (in_step self.new opened.new) out.old.items out.new.items }
         ensures room { vec_capacity out.old ≤ vec_capacity out.new }
         ensures len { vec_len out.new ≤ vec_len out.old + 2 }
     {
         if let Some(phase) = self.pause_now(step) {
-            self.pause_as(step, phase, out);
+            self.pause_as(step, opened, phase, out);
         }
     }
 
     /// A trading pause, after 15 seconds in a limit state or where the listing exchange asks for it.
-    pub fn pause(&mut self, step: &Step, out: &mut Vec<Message>)
+    pub fn pause(&mut self, step: &Step, opened: &mut OpenStep, out: &mut Vec<Message>)
         requires goes_on { is_done self.old.phase ≡ false }
         requires room { vec_len out.old + 2 ≤ vec_capacity out.old }
-        ensures obeys { Obeys rules.pause step.now self.old self.new out.old.items out.new.items }
+        ensures obeys { Obeys rules.pause step.now (in_step self.old opened.old) (in_step self.new opened.new) out.old.items out.new.items }
         ensures room { vec_capacity out.old ≤ vec_capacity out.new }
         ensures len { vec_len out.new ≤ vec_len out.old + 2 }
     {
-        self.pausing(step, out);
+        self.pausing(step, opened, out);
     }
 }

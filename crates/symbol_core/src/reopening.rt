@@ -3,73 +3,87 @@ ghost use Rattle.std.specs.Prelude.{◌≡◌, ◌+◌, ◌≤◌, ◌∷◌, So
 ghost use Rattle.pause_core.specs.Phases.{is_done};
 ghost use Rattle.reopen_core.specs.AuctionState.{with_trial};
 ghost use Rattle.rulebook.specs.Rules as rules;
+ghost use Rattle.symbol_core.specs.InStep.{in_step};
 ghost use Rattle.symbol_core.specs.Kept.{becoming, reopened, reopening, reopening_with};
 ghost use Rattle.symbol_core.specs.Stands.{Obeys, Says};
 
-use crate::kept::{Kept, Step};
+use crate::kept::{Kept, OpenStep, Step};
 use price_core::Price;
 use reopen_core::{Auction, Trial};
 use session_core::{Phase, last_10};
 use wire_out::Message;
 
 impl Kept {
-    fn release(&mut self, step: &Step, price: Price, out: &mut Vec<Message>)
+    fn release(&mut self, step: &Step, opened: &mut OpenStep, price: Price, out: &mut Vec<Message>)
         requires { vec_len out.old + 2 ≤ vec_capacity out.old }
-        ensures says { Says (Message.Release self.old.id price ∷ becoming self.old Phase.Trading) step.now self.old self.new out.old.items out.new.items }
+        ensures says { Says (Message.Release self.old.id price ∷ becoming self.old Phase.Trading) step.now (in_step self.old opened.old) (in_step self.new opened.new) out.old.items out.new.items }
         ensures room { vec_capacity out.old ≤ vec_capacity out.new }
         ensures len { vec_len out.new ≤ vec_len out.old + 2 }
     {
-        self.say_release(step, price, out);
-        self.becomes(step, Phase::Trading, out);
+        self.say_release(step, opened, price, out);
+        self.becomes(step, opened, Phase::Trading, out);
     }
 
     /// Takes what a trial gave, and the auction as it left it.
-    fn take_trial(&mut self, step: &Step, auction: &Auction, trial: Trial, out: &mut Vec<Message>)
+    fn take_trial(
+        &mut self,
+        step: &Step,
+        opened: &mut OpenStep,
+        auction: &Auction,
+        trial: Trial,
+        out: &mut Vec<Message>,
+    )
         requires tried { option_map (with_trial step.now.moment trial) self.old.auction ≡ Some auction.now }
         requires room { vec_len out.old + 2 ≤ vec_capacity out.old }
-        ensures says { Says (reopened self.old auction.now trial) step.now self.old self.new out.old.items out.new.items }
+        ensures says { Says (reopened self.old auction.now trial) step.now (in_step self.old opened.old) (in_step self.new opened.new) out.old.items out.new.items }
         ensures room { vec_capacity out.old ≤ vec_capacity out.new }
         ensures len { vec_len out.new ≤ vec_len out.old + 2 }
     {
         match trial {
             Trial::NotDue => {}
             Trial::Extend(_) => self.say_round(step, auction, out),
-            Trial::Release(price) => self.release(step, price, out),
-            Trial::Closing => self.becomes(step, Phase::Closing, out),
+            Trial::Release(price) => self.release(step, opened, price, out),
+            Trial::Closing => self.becomes(step, opened, Phase::Closing, out),
         }
     }
 
-    fn try_auction(&mut self, step: &Step, auction: &Auction, out: &mut Vec<Message>)
+    fn try_auction(
+        &mut self,
+        step: &Step,
+        opened: &mut OpenStep,
+        auction: &Auction,
+        out: &mut Vec<Message>,
+    )
         requires auction { self.old.auction ≡ Some auction.now }
         requires room { vec_len out.old + 2 ≤ vec_capacity out.old }
-        ensures says { Says (reopening_with self.old step.now auction.now) step.now self.old self.new out.old.items out.new.items }
+        ensures says { Says (reopening_with self.old step.now auction.now) step.now (in_step self.old opened.old) (in_step self.new opened.new) out.old.items out.new.items }
         ensures room { vec_capacity out.old ≤ vec_capacity out.new }
         ensures len { vec_len out.new ≤ vec_len out.old + 2 }
     {
         let mut tried = *auction;
         let trial = tried.trial(step.moment, last_10(step.moment, &step.day));
-        self.take_trial(step, &tried, trial, out);
+        self.take_trial(step, opened, &tried, trial, out);
     }
 
-    fn reopening(&mut self, step: &Step, out: &mut Vec<Message>)
+    fn reopening(&mut self, step: &Step, opened: &mut OpenStep, out: &mut Vec<Message>)
         requires { vec_len out.old + 2 ≤ vec_capacity out.old }
-        ensures says { Says (reopening self.old step.now) step.now self.old self.new out.old.items out.new.items }
+        ensures says { Says (reopening self.old step.now) step.now (in_step self.old opened.old) (in_step self.new opened.new) out.old.items out.new.items }
         ensures room { vec_capacity out.old ≤ vec_capacity out.new }
         ensures len { vec_len out.new ≤ vec_len out.old + 2 }
     {
         if let Some(auction) = self.auction {
-            self.try_auction(step, &auction, out);
+            self.try_auction(step, opened, &auction, out);
         }
     }
 
     /// A trial of the reopening auction, five minutes after its last round began.
-    pub fn reopen(&mut self, step: &Step, out: &mut Vec<Message>)
+    pub fn reopen(&mut self, step: &Step, opened: &mut OpenStep, out: &mut Vec<Message>)
         requires goes_on { is_done self.old.phase ≡ false }
         requires room { vec_len out.old + 2 ≤ vec_capacity out.old }
-        ensures obeys { Obeys rules.reopen step.now self.old self.new out.old.items out.new.items }
+        ensures obeys { Obeys rules.reopen step.now (in_step self.old opened.old) (in_step self.new opened.new) out.old.items out.new.items }
         ensures room { vec_capacity out.old ≤ vec_capacity out.new }
         ensures len { vec_len out.new ≤ vec_len out.old + 2 }
     {
-        self.reopening(step, out);
+        self.reopening(step, opened, out);
     }
 }

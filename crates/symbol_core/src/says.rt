@@ -2,11 +2,12 @@
 ghost use Rattle.std.specs.Prelude.{true, false, None, Some, ◌≡◌, ◌+◌, ◌≤◌, ◌++◌, ◌∷◌, [], List, option_map, vec_len, vec_capacity};
 ghost use Rattle.rulebook.specs.Auction.{is_paused, origin_of};
 ghost use Rattle.rulebook.specs.Symbol.{is_times};
+ghost use Rattle.symbol_core.specs.InStep.{in_step};
 ghost use Rattle.symbol_core.specs.Kept.{auction_begun, becoming, begins_auction, in_round, collars_of, run_banded, run_of, turned};
 ghost use Rattle.symbol_core.specs.Runs.{run_band};
 ghost use Rattle.symbol_core.specs.Stands.{Says};
 
-use crate::kept::{Kept, Run, Step};
+use crate::kept::{Kept, OpenStep, Run, Step};
 use crate::records::{indicated_by, opens_early, quoted_by};
 use pause_core::{is_limit, is_trading};
 use price_core::{Cause, Price};
@@ -56,25 +57,26 @@ fn push(out: &mut Vec<Message>, message: Message)
 }
 
 impl Kept {
-    fn begin_run(&mut self, step: &Step)
-        ensures { self.new ≡ record self.old { run = Some (run_of self.old.id step.now); is_fresh = true } }
+    fn begin_run(&mut self, step: &Step, opened: &mut OpenStep)
+        ensures run { self.new ≡ record self.old { run = Some (run_of self.old.id step.now) } }
+        ensures fresh { opened.new ≡ record opened.old { is_fresh = true } }
     {
         self.run = Some(Run {
             reference: Reference::begin(step.moment),
             quote: quoted_by(self.id, &step.input),
             band: None,
         });
-        self.is_fresh = true;
+        opened.is_fresh = true;
     }
 
-    fn set_phase(&mut self, step: &Step, phase: Phase)
-        ensures { self.new ≡ turned self.old step.now phase }
+    fn set_phase(&mut self, step: &Step, opened: &mut OpenStep, phase: Phase)
+        ensures { in_step self.new opened.new ≡ turned (in_step self.old opened.old) step.now phase }
     {
         let trades = is_trading(phase);
         if is_limit(self.phase) {
-            self.left_limit = trades || self.left_limit;
+            opened.left_limit = trades || opened.left_limit;
         } else if trades {
-            self.begin_run(step);
+            self.begin_run(step, opened);
         }
         self.phase = phase;
         self.since = step.moment;
@@ -82,10 +84,16 @@ impl Kept {
     }
 
     /// The symbol's phase becomes this one, without an auction.
-    pub fn becomes(&mut self, step: &Step, phase: Phase, out: &mut Vec<Message>)
+    pub fn becomes(
+        &mut self,
+        step: &Step,
+        opened: &mut OpenStep,
+        phase: Phase,
+        out: &mut Vec<Message>,
+    )
         requires alone { begins_auction self.old phase ≡ false }
         requires room { vec_len out.old + 1 ≤ vec_capacity out.old }
-        ensures says { Says (Message.State self.old.id phase ∷ []) step.now self.old self.new out.old.items out.new.items }
+        ensures says { Says (Message.State self.old.id phase ∷ []) step.now (in_step self.old opened.old) (in_step self.new opened.new) out.old.items out.new.items }
         ensures room { vec_capacity out.old ≤ vec_capacity out.new }
         ensures len { vec_len out.new ≡ vec_len out.old + 1 }
     {
@@ -96,7 +104,7 @@ impl Kept {
                 phase,
             },
         );
-        self.set_phase(step, phase);
+        self.set_phase(step, opened, phase);
     }
 }
 
@@ -126,11 +134,18 @@ impl Kept {
     }
 
     /// The symbol is paused, and the first round of its auction begins.
-    pub fn say_pause(&mut self, step: &Step, phase: Phase, b: &Banded, out: &mut Vec<Message>)
+    pub fn say_pause(
+        &mut self,
+        step: &Step,
+        opened: &mut OpenStep,
+        phase: Phase,
+        b: &Banded,
+        out: &mut Vec<Message>,
+    )
         requires paused { is_paused phase ≡ true }
         requires band { run_band self.old ≡ Some b.now }
         requires room { vec_len out.old + 2 ≤ vec_capacity out.old }
-        ensures says { Says (becoming self.old phase ++ collars_of self.old.id (auction_begun self.old step.now b.now)) step.now self.old self.new out.old.items out.new.items }
+        ensures says { Says (becoming self.old phase ++ collars_of self.old.id (auction_begun self.old step.now b.now)) step.now (in_step self.old opened.old) (in_step self.new opened.new) out.old.items out.new.items }
         ensures room { vec_capacity out.old ≤ vec_capacity out.new }
         ensures len { vec_len out.new ≡ vec_len out.old + 2 }
     {
@@ -143,7 +158,7 @@ impl Kept {
             },
         );
         push(out, self.collar(&auction));
-        self.set_phase(step, phase);
+        self.set_phase(step, opened, phase);
         self.auction = Some(auction);
     }
 }
@@ -166,7 +181,7 @@ impl Kept {
     /// A straddle state begins or ends.
     pub fn say_straddle(&mut self, step: &Step, on: bool, out: &mut Vec<Message>)
         requires { vec_len out.old + 1 ≤ vec_capacity out.old }
-        ensures says { Says (Message.Straddle self.old.id on ∷ []) step.now self.old self.new out.old.items out.new.items }
+        ensures says { (opened : OpenStep) → Says (Message.Straddle self.old.id on ∷ []) step.now (in_step self.old opened) (in_step self.new opened) out.old.items out.new.items }
         ensures room { vec_capacity out.old ≤ vec_capacity out.new }
         ensures len { vec_len out.new ≡ vec_len out.old + 1 }
     {
@@ -185,7 +200,7 @@ impl Kept {
         requires same { option_map (in_round auction.now.round) self.old.auction ≡ Some auction.now }
         requires now { auction.now.round.moment ≡ step.now.moment }
         requires room { vec_len out.old + 1 ≤ vec_capacity out.old }
-        ensures says { Says (collars_of self.old.id auction.now) step.now self.old self.new out.old.items out.new.items }
+        ensures says { (opened : OpenStep) → Says (collars_of self.old.id auction.now) step.now (in_step self.old opened) (in_step self.new opened) out.old.items out.new.items }
         ensures room { vec_capacity out.old ≤ vec_capacity out.new }
         ensures len { vec_len out.new ≡ vec_len out.old + 1 }
     {
@@ -194,9 +209,15 @@ impl Kept {
     }
 
     /// The auction releases the symbol.
-    pub fn say_release(&mut self, step: &Step, price: Price, out: &mut Vec<Message>)
+    pub fn say_release(
+        &self,
+        step: &Step,
+        opened: &mut OpenStep,
+        price: Price,
+        out: &mut Vec<Message>,
+    )
         requires { vec_len out.old + 1 ≤ vec_capacity out.old }
-        ensures says { Says (Message.Release self.old.id price ∷ []) step.now self.old self.new out.old.items out.new.items }
+        ensures says { Says (Message.Release self.now.id price ∷ []) step.now (in_step self.now opened.old) (in_step self.now opened.new) out.old.items out.new.items }
         ensures room { vec_capacity out.old ≤ vec_capacity out.new }
         ensures len { vec_len out.new ≡ vec_len out.old + 1 }
     {
@@ -207,12 +228,12 @@ impl Kept {
                 price,
             },
         );
-        self.released = Some(price);
+        opened.released = Some(price);
     }
 
     fn say_listed(&mut self, step: &Step, name: [u8; 8], out: &mut Vec<Message>)
         requires { vec_len out.old + 1 ≤ vec_capacity out.old }
-        ensures says { Says (Message.Listed self.old.id name ∷ []) step.now self.old self.new out.old.items out.new.items }
+        ensures says { (opened : OpenStep) → Says (Message.Listed self.old.id name ∷ []) step.now (in_step self.old opened) (in_step self.new opened) out.old.items out.new.items }
         ensures room { vec_capacity out.old ≤ vec_capacity out.new }
         ensures len { vec_len out.new ≡ vec_len out.old + 1 }
     {
@@ -227,7 +248,7 @@ impl Kept {
 
     fn say_carried(&mut self, step: &Step, out: &mut Vec<Message>)
         requires { vec_len out.old + 1 ≤ vec_capacity out.old }
-        ensures says { Says (Message.Short self.old.id ShortKind.Carried ∷ []) step.now self.old self.new out.old.items out.new.items }
+        ensures says { (opened : OpenStep) → Says (Message.Short self.old.id ShortKind.Carried ∷ []) step.now (in_step self.old opened) (in_step self.new opened) out.old.items out.new.items }
         ensures room { vec_capacity out.old ≤ vec_capacity out.new }
         ensures len { vec_len out.new ≡ vec_len out.old + 1 }
     {
@@ -242,7 +263,7 @@ impl Kept {
 
     fn announce_carried(&mut self, step: &Step, name: [u8; 8], out: &mut Vec<Message>)
         requires { vec_len out.old + 2 ≤ vec_capacity out.old }
-        ensures says { Says (Message.Listed self.old.id name ∷ Message.Short self.old.id ShortKind.Carried ∷ []) step.now self.old self.new out.old.items out.new.items }
+        ensures says { (opened : OpenStep) → Says (Message.Listed self.old.id name ∷ Message.Short self.old.id ShortKind.Carried ∷ []) step.now (in_step self.old opened) (in_step self.new opened) out.old.items out.new.items }
         ensures room { vec_capacity out.old ≤ vec_capacity out.new }
         ensures len { vec_len out.new ≤ vec_len out.old + 2 }
     {
@@ -252,7 +273,7 @@ impl Kept {
 
     fn announce_name(&mut self, step: &Step, name: [u8; 8], out: &mut Vec<Message>)
         requires { vec_len out.old + 2 ≤ vec_capacity out.old }
-        ensures says { Says (announcing_name self.old name) step.now self.old self.new out.old.items out.new.items }
+        ensures says { (opened : OpenStep) → Says (announcing_name self.old name) step.now (in_step self.old opened) (in_step self.new opened) out.old.items out.new.items }
         ensures room { vec_capacity out.old ≤ vec_capacity out.new }
         ensures len { vec_len out.new ≤ vec_len out.old + 2 }
     {
@@ -266,7 +287,7 @@ impl Kept {
     /// What a listing announces.
     pub fn announce(&mut self, step: &Step, out: &mut Vec<Message>)
         requires { vec_len out.old + 2 ≤ vec_capacity out.old }
-        ensures says { Says (announcing self.old step.now.input) step.now self.old self.new out.old.items out.new.items }
+        ensures says { (opened : OpenStep) → Says (announcing self.old step.now.input) step.now (in_step self.old opened) (in_step self.new opened) out.old.items out.new.items }
         ensures room { vec_capacity out.old ≤ vec_capacity out.new }
         ensures len { vec_len out.new ≤ vec_len out.old + 2 }
     {
@@ -278,7 +299,7 @@ impl Kept {
     /// The short sale restriction is triggered.
     pub fn say_triggered(&mut self, step: &Step, out: &mut Vec<Message>)
         requires { vec_len out.old + 1 ≤ vec_capacity out.old }
-        ensures says { Says (Message.Short self.old.id ShortKind.Triggered ∷ []) step.now self.old self.new out.old.items out.new.items }
+        ensures says { (opened : OpenStep) → Says (Message.Short self.old.id ShortKind.Triggered ∷ []) step.now (in_step self.old opened) (in_step self.new opened) out.old.items out.new.items }
         ensures room { vec_capacity out.old ≤ vec_capacity out.new }
         ensures len { vec_len out.new ≡ vec_len out.old + 1 }
     {
@@ -291,23 +312,29 @@ impl Kept {
         );
     }
 
-    fn take_band(&mut self, step: &Step, b: &Banded)
-        ensures { self.new ≡ banded self.old step.now b.now }
+    fn take_band(&mut self, step: &Step, opened: &mut OpenStep, b: &Banded)
+        ensures { in_step self.new opened.new ≡ banded (in_step self.old opened.old) step.now b.now }
     {
         if let Some(run) = &mut self.run {
             if run.band.is_none() && opens_early(self.id, run.reference.begun(), step) {
-                self.is_fresh = true;
+                opened.is_fresh = true;
             }
             run.take_band(step, b);
         }
     }
 
     /// Price bands.
-    pub fn say_band(&mut self, step: &Step, b: &Banded, out: &mut Vec<Message>)
+    pub fn say_band(
+        &mut self,
+        step: &Step,
+        opened: &mut OpenStep,
+        b: &Banded,
+        out: &mut Vec<Message>,
+    )
         requires unpaused { is_paused self.old.phase ≡ false }
         requires times { is_times b.now.cause ≡ true → option_map (λ last. last.reference) (run_band self.old) ≡ Some b.now.reference }
         requires room { vec_len out.old + 1 ≤ vec_capacity out.old }
-        ensures says { Says (Message.Band self.old.id b.now.cause b.now.reference b.now.bands.lower b.now.bands.upper ∷ []) step.now self.old self.new out.old.items out.new.items }
+        ensures says { Says (Message.Band self.old.id b.now.cause b.now.reference b.now.bands.lower b.now.bands.upper ∷ []) step.now (in_step self.old opened.old) (in_step self.new opened.new) out.old.items out.new.items }
         ensures room { vec_capacity out.old ≤ vec_capacity out.new }
         ensures len { vec_len out.new ≡ vec_len out.old + 1 }
     {
@@ -321,6 +348,6 @@ impl Kept {
                 upper: b.bands.upper,
             },
         );
-        self.take_band(step, b);
+        self.take_band(step, opened, b);
     }
 }

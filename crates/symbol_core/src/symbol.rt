@@ -7,13 +7,14 @@ ghost use Rattle.rulebook.specs.declared.event.Event.{Event};
 ghost use Rattle.rulebook.specs.Symbol as of;
 ghost use Rattle.rulebook.specs.Symbol.{traded_price};
 ghost use Rattle.symbol_core.specs.Evaluates.{most_of_symbol};
-ghost use Rattle.symbol_core.specs.Idle.{IsAwaited, IsDue, IsRested, IsSettled, Waits, WaitsAt, quoted};
+ghost use Rattle.symbol_core.specs.Idle.{IsAwaited, IsDue, IsSettled, Waits, WaitsAt, quoted};
+ghost use Rattle.symbol_core.specs.InStep.{in_step};
 ghost use Rattle.symbol_core.specs.Stands.{Speaks};
 ghost use Rattle.symbol_core.specs.Steps.{Steps};
 ghost use Rattle.symbol_core.specs.Taken.{deal_of};
 
 use crate::due::Due;
-use crate::kept::{Kept, Step};
+use crate::kept::{Kept, OpenStep, Step};
 use crate::passing::{add_one, brings_deal_or_time, deal_in, drop_old, reserve_deal};
 use crate::records::{quoted_by, traded_price};
 use crate::taking::{drop_cancelled, keep_deals};
@@ -344,6 +345,7 @@ impl Symbol {
 /// them one by one that this is nothing.
 fn speak(
     k: &mut Kept,
+    opened: &mut OpenStep,
     deals: &Window,
     step: &Step,
     waits: Option<u64>,
@@ -351,16 +353,16 @@ fn speak(
 ) -> bool
     requires waits { IfSome waits (λ until. WaitsAt k.old step.now until) }
     requires out { vec_len out.old + 15 ≤ vec_capacity out.old }
-    ensures speaks { Speaks deals.now.deals step.now k.old k.new out.old.items out.new.items }
+    ensures speaks { Speaks deals.now.deals step.now (in_step k.old opened.old) (in_step k.new opened.new) out.old.items out.new.items }
     ensures quiet { result ≡ true → (k.new ≡ k.old) × IsSettled k.old step.now.stopped }
     ensures few { vec_len out.new ≤ vec_len out.old + 15 }
     ensures capacity { vec_capacity out.old ≤ vec_capacity out.new }
 {
-    if waits.is_some() && k.is_quiet(step, deals) {
+    if waits.is_some() && k.is_quiet(step, opened, deals) {
         return true;
     }
     k.announce(step, out);
-    k.obey(step, deals, out);
+    k.obey(step, opened, deals, out);
     false
 }
 
@@ -372,7 +374,6 @@ fn due_after(
     waits: Option<u64>,
     is_quiet: bool,
 ) -> Option<Due>
-    requires rested { IsRested k.now }
     requires quiet { is_quiet ≡ true → IsSettled k.now step.now.stopped }
     requires waits { is_quiet ≡ true → IfSome waits (λ until. Waits k.now step.now.day step.now.stopped step.now.moment until) }
     ensures { IsDue result k.now deals.now.deals }
@@ -402,19 +403,11 @@ fn take_step(
 {
     drop_cancelled(k.id, &step.input, deals);
     drop_old(step.moment, deals);
-    k.take(step);
-    let deal = k.deal;
-    let is_quiet = speak(k, deals, step, waits, out);
-    keep_deals(k, step.moment, &deal, deals);
-    k.forget_step();
+    let mut opened = k.take(step);
+    let deal = opened.deal;
+    let is_quiet = speak(k, &mut opened, deals, step, waits, out);
+    keep_deals(k, opened.is_fresh, step.moment, &deal, deals);
     due_after(k, deals, step, waits, is_quiet)
-}
-
-/// Keeps the deal of the open step.
-fn hold(k: &mut Kept, deal: &Option<Deal>)
-    ensures { k.new ≡ record k.old { deal = deal.now } }
-{
-    k.deal = *deal;
 }
 
 /// Takes a trade or a tick in that brings a new reference price, and obeys the rules. The answer is when the stock is next
@@ -435,9 +428,8 @@ fn take_moved(
     ensures recent { step.now.moment ≡ moment_of step.now.input → live step.now.moment deals.new.deals ≡ deals.new.deals }
     ensures due { IsDue result k.new deals.new.deals }
 {
-    hold(k, &awaited.deal);
-    k.obey(step, deals, out);
-    keep_deals(k, step.moment, &awaited.deal, deals);
-    k.forget_step();
+    let mut opened = OpenStep::begin(awaited.deal, false);
+    k.obey(step, &mut opened, deals, out);
+    keep_deals(k, opened.is_fresh, step.moment, &awaited.deal, deals);
     k.due(step, deals)
 }

@@ -1,11 +1,12 @@
-// Taking a record in, and what is kept at the end of a step.
-ghost use Rattle.std.specs.Prelude.{◌≡◌, ◌≤◌, ◌++◌, [], None, false, is_some, if◌then◌else◌, filter, length, option_to_list};
+// Taking a record in, and the deals that are kept at the end of a step.
+ghost use Rattle.std.specs.Prelude.{◌≡◌, ◌≤◌, ◌++◌, [], is_some, if◌then◌else◌, filter, length, option_to_list};
 ghost use Rattle.window_core.specs.Deals.{live};
+ghost use Rattle.symbol_core.specs.InStep.{in_step, just_opened};
 ghost use Rattle.symbol_core.specs.Kept.{heard, requoted};
-ghost use Rattle.symbol_core.specs.Taken.{finished, leaves, renewed, restricts, shorted, taken};
+ghost use Rattle.symbol_core.specs.Taken.{leaves, renewed, restricts, shorted, taken};
 ghost use Rattle.symbol_core.specs.Window.{SameLive};
 
-use crate::kept::{Kept, Run, Step};
+use crate::kept::{Kept, OpenStep, Run, Step};
 use crate::records::{cancelled_by, deal_of, halted_by, indicated_by, listed_by, quoted_by};
 use crate::says::midnight;
 use price_core::Quotation;
@@ -26,6 +27,21 @@ impl Run {
     }
 }
 
+impl OpenStep {
+    /// A step that has said nothing yet, with its own deal and whether that begins the short sale restriction.
+    pub fn begin(deal: Option<Deal>, restricts: bool) -> OpenStep
+        ensures { result ≡ just_opened deal restricts }
+    {
+        OpenStep {
+            left_limit: false,
+            is_fresh: false,
+            restricts,
+            released: None,
+            deal,
+        }
+    }
+}
+
 impl Kept {
     /// The kept state of an id at the begin of a day, with whether the day before triggered the short sale restriction.
     pub fn renewed(id: u16, carried: bool) -> Kept
@@ -41,17 +57,12 @@ impl Kept {
             halted: false,
             auction: None,
             short: Short::listed(None, carried),
-            left_limit: false,
-            released: None,
-            deal: None,
-            is_fresh: false,
-            restricts: false,
         }
     }
 
-    /// Takes a record in that is no day.
-    pub fn take(&mut self, step: &Step)
-        ensures { self.new ≡ taken self.old step.now }
+    /// Takes a record in that is no day, and opens its step.
+    pub fn take(&mut self, step: &Step) -> OpenStep
+        ensures { in_step self.new result ≡ taken self.old step.now }
     {
         self.terms = listed_by(&step.input, self.terms);
         if let Some(run) = &mut self.run {
@@ -59,33 +70,23 @@ impl Kept {
         }
         self.halted = halted_by(self.id, &step.input, self.halted);
         hear(indicated_by(self.id, &step.input), &mut self.auction);
-        self.forget_step();
-        self.deal = deal_of(self.id, step);
-        self.take_short(&step.input);
+        let deal = deal_of(self.id, step);
+        let restricts = self.take_short(&step.input, &deal);
+        OpenStep::begin(deal, restricts)
     }
 
-    /// Takes what the record and its deal are to the short sale restriction.
-    fn take_short(&mut self, x: &Record)
-        ensures { self.new ≡ record self.old { short = shorted x.now self.old.deal self.old.short; restricts = restricts x.now self.old.deal self.old.short } }
+    /// Takes what the record and its deal are to the short sale restriction. The answer is whether the deal begins it.
+    fn take_short(&mut self, x: &Record, deal: &Option<Deal>) -> bool
+        ensures short { self.new ≡ record self.old { short = shorted x.now deal.now self.old.short } }
+        ensures restricts { result ≡ restricts x.now deal.now self.old.short }
     {
         if let Record::Listing { close, .. } = *x {
             self.short.list(close);
         }
-        self.restricts = match &self.deal {
+        match deal {
             Some(deal) => self.short.trade(deal.price),
             None => false,
-        };
-    }
-
-    /// Leaves nothing of a step alone.
-    pub fn forget_step(&mut self)
-        ensures { self.new ≡ finished self.old }
-    {
-        self.left_limit = false;
-        self.released = None;
-        self.deal = None;
-        self.is_fresh = false;
-        self.restricts = false;
+        }
     }
 }
 
@@ -111,11 +112,11 @@ pub fn drop_cancelled(id: u16, x: &Record, deals: &mut Window)
 }
 
 /// A new window keeps none of the deals before it.
-fn begin_window(k: &Kept, deals: &mut Window)
-    ensures items { deals.new.deals ≡ (if k.now.is_fresh then [] else deals.old.deals) }
+fn begin_window(is_fresh: bool, deals: &mut Window)
+    ensures items { deals.new.deals ≡ (if is_fresh then [] else deals.old.deals) }
     ensures spare { deals.old.spare ≤ deals.new.spare }
 {
-    if k.is_fresh {
+    if is_fresh {
         deals.restart();
     }
 }
@@ -131,13 +132,13 @@ fn add_deal(k: &Kept, deal: &Option<Deal>, deals: &mut Window)
     }
 }
 
-/// The deals of the window that are less than five minutes old become the kept ones.
-pub fn keep_deals(k: &Kept, t: Moment, deal: &Option<Deal>, deals: &mut Window)
+/// The deals of the window that are less than five minutes old become the kept ones, with the step's deal.
+pub fn keep_deals(k: &Kept, is_fresh: bool, t: Moment, deal: &Option<Deal>, deals: &mut Window)
     requires { length (option_to_list deal.now) ≤ deals.old.spare }
-    ensures same { SameLive t deals.new.deals ((if k.now.is_fresh then [] else deals.old.deals) ++ (if is_some k.now.run then option_to_list deal.now else [])) }
+    ensures same { SameLive t deals.new.deals ((if is_fresh then [] else deals.old.deals) ++ (if is_some k.now.run then option_to_list deal.now else [])) }
     ensures recent { live t (option_to_list deal.now) ≡ option_to_list deal.now → live t deals.new.deals ≡ deals.new.deals }
 {
-    begin_window(k, deals);
+    begin_window(is_fresh, deals);
     deals.advance(t);
     add_deal(k, deal, deals);
 }

@@ -410,7 +410,10 @@ fn a_symbol_is_due_where_a_mean_may_come(rt: HostRuntime) -> Result<(), Fail> {
         trade(34_210, 1, 500_000, 1)?,
         trade(34_211, 2, 515_000, 0)?,
     ];
-    assert_eq!(rt; due_after(&rt, false, &far_before_30_seconds)?, Some(34_240));
+    assert_eq!(rt;
+        due_after(&rt, false, &far_before_30_seconds)?,
+        Some(34_240)
+    );
     let after_30_seconds = [
         new_day(3)?,
         listing(500_000)?,
@@ -670,9 +673,7 @@ fn a_tick_at_which_an_old_trade_leaves_finds_the_next_due(rt: HostRuntime) -> Re
 }
 
 #[test]
-fn a_trade_that_leaves_and_keeps_the_mean_near_wakes_no_stock(
-    rt: HostRuntime,
-) -> Result<(), Fail> {
+fn a_trade_that_leaves_and_keeps_the_mean_near_wakes_no_stock(rt: HostRuntime) -> Result<(), Fail> {
     let three_trades = [
         new_day(3)?,
         listing(500_000)?,

@@ -8,11 +8,12 @@ ghost use Rattle.window_core.specs.declared.window.Deal.{Deal};
 ghost use Rattle.rulebook.specs.Auction.{is_paused};
 ghost use Rattle.rulebook.specs.Rules as rules;
 ghost use Rattle.rulebook.specs.Rules.{at_band, meets};
+ghost use Rattle.symbol_core.specs.InStep.{in_step};
 ghost use Rattle.symbol_core.specs.Kept.{brakes, is_straddling_now, states, straddles_at, straddling};
 ghost use Rattle.symbol_core.specs.Runs.{run_band, run_quote};
 ghost use Rattle.symbol_core.specs.Stands.{Obeys, ObeysAll, Says, turning_rules};
 
-use crate::kept::{Kept, Step};
+use crate::kept::{Kept, OpenStep, Step};
 use limit_core::{is_at_lower, is_at_upper, straddles};
 use pause_core::{Brakes, is_limit, is_trading, turn};
 use price_core::Quotation;
@@ -39,29 +40,35 @@ impl Kept {
     }
 
     /// The phase that a rule brings, where it brings one.
-    fn turn_to(&mut self, step: &Step, to: Option<Phase>, out: &mut Vec<Message>)
+    fn turn_to(
+        &mut self,
+        step: &Step,
+        opened: &mut OpenStep,
+        to: Option<Phase>,
+        out: &mut Vec<Message>,
+    )
         requires unpaused { option_map_or is_paused to false ≡ false }
         requires room { vec_len out.old + 1 ≤ vec_capacity out.old }
-        ensures says { Says (states self.old.id (option_to_list to)) step.now self.old self.new out.old.items out.new.items }
+        ensures says { Says (states self.old.id (option_to_list to)) step.now (in_step self.old opened.old) (in_step self.new opened.new) out.old.items out.new.items }
         ensures room { vec_capacity out.old ≤ vec_capacity out.new }
         ensures len { vec_len out.new ≤ vec_len out.old + 1 }
     {
         if let Some(phase) = to {
-            self.becomes(step, phase, out);
+            self.becomes(step, opened, phase, out);
         }
     }
 
     /// The session close, a market-wide halt (NYSE Rule 7.12), the start of trading and a regulatory halt by notice, with its
     /// end.
-    pub fn turn(&mut self, step: &Step, out: &mut Vec<Message>)
+    pub fn turn(&mut self, step: &Step, opened: &mut OpenStep, out: &mut Vec<Message>)
         requires { vec_len out.old + 2 ≤ vec_capacity out.old }
-        ensures obeys { (deals : List Deal) → ObeysAll deals turning_rules step.now self.old self.new out.old.items out.new.items }
+        ensures obeys { (deals : List Deal) → ObeysAll deals turning_rules step.now (in_step self.old opened.old) (in_step self.new opened.new) out.old.items out.new.items }
         ensures room { vec_capacity out.old ≤ vec_capacity out.new }
         ensures len { vec_len out.new ≤ vec_len out.old + 2 }
     {
         let turned = turn(self.phase, &self.brakes(step));
-        self.turn_to(step, turned.first, out);
-        self.turn_to(step, turned.second, out);
+        self.turn_to(step, opened, turned.first, out);
+        self.turn_to(step, opened, turned.second, out);
     }
 }
 
@@ -119,23 +126,23 @@ impl Kept {
 
 impl Kept {
     /// A limit state is left when the quotation leaves the band (LULD Plan, Section VI).
-    pub fn leave_limit(&mut self, step: &Step, out: &mut Vec<Message>)
+    pub fn leave_limit(&mut self, step: &Step, opened: &mut OpenStep, out: &mut Vec<Message>)
         requires goes_on { is_done self.old.phase ≡ false }
         requires room { vec_len out.old + 1 ≤ vec_capacity out.old }
-        ensures obeys { Obeys rules.leave_limit step.now self.old self.new out.old.items out.new.items }
+        ensures obeys { Obeys rules.leave_limit step.now (in_step self.old opened.old) (in_step self.new opened.new) out.old.items out.new.items }
         ensures room { vec_capacity out.old ≤ vec_capacity out.new }
         ensures len { vec_len out.new ≤ vec_len out.old + 1 }
     {
         if is_limit(self.phase) && !self.is_at_band(self.phase) {
-            self.becomes(step, Phase::Trading, out);
+            self.becomes(step, opened, Phase::Trading, out);
         }
     }
 
     /// A limit state begins where the quotation is at a band (LULD Plan, Section VI).
-    pub fn enter_limit(&mut self, step: &Step, out: &mut Vec<Message>)
+    pub fn enter_limit(&mut self, step: &Step, opened: &mut OpenStep, out: &mut Vec<Message>)
         requires goes_on { is_done self.old.phase ≡ false }
         requires room { vec_len out.old + 1 ≤ vec_capacity out.old }
-        ensures obeys { Obeys rules.enter_limit step.now self.old self.new out.old.items out.new.items }
+        ensures obeys { Obeys rules.enter_limit step.now (in_step self.old opened.old) (in_step self.new opened.new) out.old.items out.new.items }
         ensures room { vec_capacity out.old ≤ vec_capacity out.new }
         ensures len { vec_len out.new ≤ vec_len out.old + 1 }
     {
@@ -143,9 +150,9 @@ impl Kept {
             return;
         }
         if self.is_at_band(Phase::LimitLow) {
-            self.becomes(step, Phase::LimitLow, out);
+            self.becomes(step, opened, Phase::LimitLow, out);
         } else if self.is_at_band(Phase::LimitHigh) {
-            self.becomes(step, Phase::LimitHigh, out);
+            self.becomes(step, opened, Phase::LimitHigh, out);
         }
     }
 
@@ -164,7 +171,7 @@ impl Kept {
 
     fn straddling(&mut self, step: &Step, out: &mut Vec<Message>)
         requires { vec_len out.old + 1 ≤ vec_capacity out.old }
-        ensures says { Says (straddling self.old step.now) step.now self.old self.new out.old.items out.new.items }
+        ensures says { (opened : OpenStep) → Says (straddling self.old step.now) step.now (in_step self.old opened) (in_step self.new opened) out.old.items out.new.items }
         ensures room { vec_capacity out.old ≤ vec_capacity out.new }
         ensures len { vec_len out.new ≤ vec_len out.old + 1 }
     {
@@ -180,7 +187,7 @@ impl Kept {
     pub fn straddle(&mut self, step: &Step, out: &mut Vec<Message>)
         requires goes_on { is_done self.old.phase ≡ false }
         requires room { vec_len out.old + 1 ≤ vec_capacity out.old }
-        ensures obeys { Obeys rules.straddle step.now self.old self.new out.old.items out.new.items }
+        ensures obeys { (opened : OpenStep) → Obeys rules.straddle step.now (in_step self.old opened) (in_step self.new opened) out.old.items out.new.items }
         ensures room { vec_capacity out.old ≤ vec_capacity out.new }
         ensures len { vec_len out.new ≤ vec_len out.old + 1 }
     {

@@ -5,7 +5,7 @@ use Rattle.symbol_core.proofs.taking.keep_deals.Goals as goal
 pub returns-clause-same : goal.returns-clause-same
 returns-clause-same c =
     rw (c.add_deal.ensures, c.advance.ensures.deals, c.begin_window.ensures.items)
-    (same-added c.args.t (if c.args.k.now.is_fresh then [] else c.args.deals.now.deals) (if is_some c.args.k.now.run then option_to_list c.args.deal.now else []))
+    (same-added c.args.t (if c.args.is_fresh then [] else c.args.deals.now.deals) (if is_some c.args.k.now.run then option_to_list c.args.deal.now else []))
 
 pub returns-clause-recent : goal.returns-clause-recent
 returns-clause-recent c = λ own.

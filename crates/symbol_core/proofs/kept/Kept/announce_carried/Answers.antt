@@ -5,4 +5,4 @@ use Rattle.symbol_core.proofs.Chains.{then_of}
 use Rattle.symbol_core.proofs.kept.Kept.announce_carried.Goals as goal
 
 pub returns-clause-says : goal.returns-clause-says
-returns-clause-says c = then_of (λ i. out.Short i Carried ∷ []) c.say_listed.ensures.says c.say_carried.ensures.says
+returns-clause-says c = λ opened. then_of (λ i. out.Short i Carried ∷ []) (c.say_listed.ensures.says opened) (c.say_carried.ensures.says opened)

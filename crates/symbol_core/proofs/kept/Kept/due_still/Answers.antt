@@ -5,9 +5,8 @@ pub returns : goal.returns
 returns c = λ inside.
     let still = c.requires in
     record {
-      rested = still.rested;
       settled = still.settled;
       waits = still.waits;
       within = c.earlier.ensures.first;
-      prices = λ step tick le before. c.prices_from.ensures still.rested step tick le (omega (arith, before, c.earlier.ensures.second));
+      prices = λ step tick le before. c.prices_from.ensures step tick le (omega (arith, before, c.earlier.ensures.second));
     }

@@ -4,6 +4,6 @@ use Rattle.symbol_core.specs.Idle.{IsIdle}
 use Rattle.symbol_core.proofs.kept.Kept.due_within.Goals as goal
 
 pub returns : goal.returns
-returns c = λ rested settled waits inside.
+returns c = λ settled waits inside.
     subst (λ (due : Due). IsIdle c.args.self.now c.args.deals.now.deals due) (sym c.of.ensures)
-    (record { rested = rested; settled = settled; waits = waits; within = c.earlier.ensures.first; prices = λ step tick le before. c.prices_from-prices.ensures rested step tick le (omega arith) })
+    (record { settled = settled; waits = waits; within = c.earlier.ensures.first; prices = λ step tick le before. c.prices_from-prices.ensures step tick le (omega arith) })

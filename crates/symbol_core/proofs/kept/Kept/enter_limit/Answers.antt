@@ -8,6 +8,7 @@ use Rattle.symbol_core.specs.Kept.{becoming}
 use Rattle.symbol_core.specs.Runs.{run_band, run_quote}
 use Rattle.symbol_core.proofs.Chains.{obeys}
 use Rattle.symbol_core.proofs.Gives.{enter-gives}
+use Rattle.symbol_core.specs.InStep.{in_step}
 use Rattle.symbol_core.proofs.kept.Kept.enter_limit.Goals as goal
 
 pub returns-then-is_at_band-clause-obeys : goal.returns-then-is_at_band-clause-obeys
@@ -16,7 +17,7 @@ returns-then-is_at_band-clause-obeys c =
     let trading : not (is_trading k.phase) ≡ false = ap not (sym c.is_trading.ensures ∙ c.if-not-is_trading.false) in
     let low : at_band LimitLow (run_quote k) (run_band k) ≡ true = sym c.is_at_band.ensures ∙ c.if-is_at_band.true in
     obeys rules.enter_limit c.requires.goes_on refl c.becomes.ensures.says
-    (λ mine deals h s. enter-gives k c.args.step.now mine deals h s
+    (λ mine deals h s. enter-gives (in_step k c.args.opened.now) c.args.step.now mine deals h s
     ∙ (λ i. if trading i then [] else if low i then becoming k LimitLow else if at_band LimitHigh (run_quote k) (run_band k) then becoming k LimitHigh else []))
 
 pub returns-then-is_at_band-2-clause-obeys : goal.returns-then-is_at_band-2-clause-obeys
@@ -26,5 +27,5 @@ returns-then-is_at_band-2-clause-obeys c =
     let low : at_band LimitLow (run_quote k) (run_band k) ≡ false = sym c.is_at_band.ensures ∙ c.if-is_at_band.false in
     let high : at_band LimitHigh (run_quote k) (run_band k) ≡ true = sym c.is_at_band-else-is_at_band.ensures ∙ c.if-is_at_band-2.true in
     obeys rules.enter_limit c.requires.goes_on refl c.becomes-then-is_at_band-2.ensures.says
-    (λ mine deals h s. enter-gives k c.args.step.now mine deals h s
+    (λ mine deals h s. enter-gives (in_step k c.args.opened.now) c.args.step.now mine deals h s
     ∙ (λ i. if trading i then [] else if low i then becoming k LimitLow else if high i then becoming k LimitHigh else []))

@@ -1,6 +1,7 @@
 use Rattle.std.proofs.Common.{sym, ◌∙◌}
 use Rattle.symbol_core.specs.Stands.{later_rules}
 use Rattle.symbol_core.proofs.Chains.{closed, last, next, then_all, with_deals}
+use Rattle.symbol_core.specs.InStep.{in_step}
 use Rattle.symbol_core.proofs.kept.Kept.obey.Goals as goal
 
 pub pause-requires-clause-goes_on : goal.pause-requires-clause-goes_on
@@ -22,14 +23,14 @@ pub straddle-requires-clause-goes_on : goal.straddle-requires-clause-goes_on
 straddle-requires-clause-goes_on c = c.enter_limit.ensures.obeys.goes_on
 
 pub restrict-requires-clause-goes_on : goal.restrict-requires-clause-goes_on
-restrict-requires-clause-goes_on c = c.straddle.ensures.obeys.goes_on
+restrict-requires-clause-goes_on c = (c.straddle.ensures.obeys c.enter_limit.new.opened).goes_on
 
 pub returns-then-is_done-clause-obeys : goal.returns-then-is_done-clause-obeys
 returns-then-is_done-clause-obeys c =
     let deals = c.args.deals.now.deals in
-    then_all (c.turn.ensures.obeys deals) (closed deals later_rules c.args.step.now c.turn.new.self c.turn.new.out.items (sym c.is_done.ensures ∙ c.if-is_done.true))
+    then_all (c.turn.ensures.obeys deals) (closed deals later_rules c.args.step.now (in_step c.turn.new.self c.turn.new.opened) c.turn.new.out.items (sym c.is_done.ensures ∙ c.if-is_done.true))
 
 pub returns-clause-obeys : goal.returns-clause-obeys
 returns-clause-obeys c =
     let deals = c.args.deals.now.deals in
-    then_all (c.turn.ensures.obeys deals) (next (with_deals deals c.pause.ensures.obeys) (next (with_deals deals c.reopen.ensures.obeys) (next (with_deals deals c.leave_limit.ensures.obeys) (next c.publish_band.ensures.obeys (next (with_deals deals c.enter_limit.ensures.obeys) (next (with_deals deals c.straddle.ensures.obeys) (next (with_deals deals c.restrict.ensures.obeys) (last deals c.args.step.now c.restrict.new.self c.restrict.new.out.items))))))))
+    then_all (c.turn.ensures.obeys deals) (next (with_deals deals c.pause.ensures.obeys) (next (with_deals deals c.reopen.ensures.obeys) (next (with_deals deals c.leave_limit.ensures.obeys) (next c.publish_band.ensures.obeys (next (with_deals deals c.enter_limit.ensures.obeys) (next (with_deals deals (c.straddle.ensures.obeys c.enter_limit.new.opened)) (next (with_deals deals c.restrict.ensures.obeys) (last deals c.args.step.now (in_step c.restrict.new.self c.enter_limit.new.opened) c.restrict.new.out.items))))))))

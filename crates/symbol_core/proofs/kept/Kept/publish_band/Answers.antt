@@ -4,11 +4,12 @@ use Rattle.symbol_core.specs.Window.{window}
 use Rattle.symbol_core.proofs.Chains.{obeys_with}
 use Rattle.symbol_core.proofs.Gives.{banding-gives, mean-gives}
 use Rattle.symbol_core.proofs.GoesOn.{banding-goes_on}
+use Rattle.symbol_core.specs.InStep.{in_step}
 use Rattle.symbol_core.proofs.kept.Kept.publish_band.Goals as goal
 
 pub returns-clause-obeys : goal.returns-clause-obeys
 returns-clause-obeys c =
-    let k = c.args.self.now in
+    let k = in_step c.args.self.now c.args.opened.now in
     let step = c.args.step.now in
     let deals = c.args.deals.now.deals in
     let mean = mean_of (live step.moment (window k deals)) in
