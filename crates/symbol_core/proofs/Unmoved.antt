@@ -1,6 +1,6 @@
 -- A clock or an index tick at which no rule says anything of the symbol.
 use Rattle.std.proofs.Common.{arith, ◌≡◌, ℕ, ◌<◌, ◌≤◌, Bool, true, false, cond, List, [], ◌∷◌, ◌++◌, refl, sym, ap, ◌∙◌, subst}
-use Rattle.std.specs.Prelude.{Option, Some, None, if◌then◌else◌, ◌+◌, ◌&&◌, ◌||◌, nat_lt, not, filter, is_some, option_to_list, IfSome}
+use Rattle.std.specs.Prelude.{Option, Some, None, if◌then◌else◌, ◌+◌, ◌&&◌, ◌||◌, nat_lt, not, filter, is_some, IfSome}
 use Rattle.std.specs.Option.{option_map_or}
 use Rattle.std.proofs.lemmas.List.{append-nil}
 use Rattle.price_core.specs.declared.quote.Cause.TheVariants.{Times}

@@ -19,7 +19,7 @@ use Rattle.percent_core.specs.Percentages as percentages
 use Rattle.percent_core.specs.PriceBands.{bands}
 use Rattle.refprice_core.specs.declared.reference.Adoption.{Adoption}
 use Rattle.refprice_core.specs.declared.reference.Priced.{Priced}
-use Rattle.refprice_core.specs.Prices.{awaits_from, awaits_mean, because, forced, has_stood, moved_price, observed}
+use Rattle.refprice_core.specs.Prices.{awaits_from, awaits_mean, because, has_stood, moved_price, observed}
 use Rattle.reopen_core.specs.AuctionState.{AuctionState}
 use Rattle.window_core.specs.declared.window.Deal.{Deal}
 use Rattle.window_core.specs.Deals.{mean_has_moved, AreNear, live, mean_of}
