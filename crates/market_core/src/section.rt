@@ -11,9 +11,9 @@ use price_core::NoMemory;
 use session_core::Moment;
 use std::alloc::Global;
 use std::marker::Model;
-use symbol_core::{MOST_OF_SYMBOL, MarketView, Symbol};
+use symbol_core::{MarketView, Messages, Symbol};
 use wire_in::Record;
-use wire_out::{Message, Stamped};
+use wire_out::Stamped;
 
 /// The stocks of ids that follow each other, in their order, each with the moment at which a tick may next bring it
 /// something.
@@ -22,19 +22,18 @@ pub struct Section {
     symbols: Vec<Symbol>,
     alarms: Alarms,
     since: Option<Since>,
-    said: Vec<Message>,
+    said: Messages,
 }
 
 impl Model for Section {
     ghost use Rattle.std.specs.Prelude.{◌-◌, ◌≤◌, min, length, vec_len, vec_capacity};
-    ghost use Rattle.symbol_core.specs.Evaluates.{most_of_symbol};
     ghost use Rattle.market_core.specs.Sections.{SectionState, EachIdles};
 
     ghost Value = { SectionState };
 
     ghost view = { λ section. record { symbols = section.symbols.items; spare = min (vec_capacity section.symbols - vec_len section.symbols) (length section.alarms - vec_len section.symbols); since = section.since } };
 
-    ghost invariant = { λ section. (vec_len section.symbols ≤ length section.alarms) × (most_of_symbol ≤ vec_capacity section.said) × EachIdles section.since section.alarms section.symbols.items };
+    ghost invariant = { λ section. (vec_len section.symbols ≤ length section.alarms) × EachIdles section.since section.alarms section.symbols.items };
 }
 
 /// The first place from one on that is due, or the end where none before it is.
@@ -91,7 +90,7 @@ impl Section {
     pub fn new(alloc: Global) -> Result<Section, NoMemory>
         ensures { IfOk result (λ section. section.symbols ≡ []) }
     {
-        let said = Vec::with_capacity(alloc, MOST_OF_SYMBOL)?;
+        let said = Messages::new(alloc)?;
         Ok(Section {
             symbols: Vec::new(alloc),
             alarms: Alarms::new(alloc),

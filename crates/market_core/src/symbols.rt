@@ -8,7 +8,7 @@ ghost use Rattle.market_core.specs.Ruled.{stamped};
 
 use price_core::NoMemory;
 use session_core::Moment;
-use symbol_core::{MarketView, Symbol};
+use symbol_core::{MarketView, Messages, Symbol};
 use wire_in::Record;
 use wire_out::{Message, Stamped};
 
@@ -39,21 +39,18 @@ pub(crate) fn evaluate(
     symbol: &mut Symbol,
     x: &Record,
     market: &MarketView,
-    said: &mut Vec<Message>,
+    said: &mut Messages,
     out: &mut Vec<Stamped>,
 ) -> Result<(), NoMemory>
-    requires said { most_of_symbol ≤ vec_capacity said.old }
     requires room { vec_len out.old + most_of_symbol ≤ vec_capacity out.old }
     ensures ok { OnOk result (Appends market.now x.now symbol.old symbol.new out.old.items out.new.items) }
     ensures err { OnErr result ((symbol.new ≡ symbol.old) × (out.new.items ≡ out.old.items)) }
     ensures succeeds { is_trade x.now ≡ false → IsOk result }
-    ensures said { most_of_symbol ≤ vec_capacity said.new }
     ensures room { vec_capacity out.old ≤ vec_capacity out.new }
     ensures len { vec_len out.new ≤ vec_len out.old + most_of_symbol }
 {
-    said.clear();
     symbol.evaluate(x, market, said)?;
-    stamp(said, x.moment(), out);
+    stamp(said.items(), x.moment(), out);
     Ok(())
 }
 
@@ -62,14 +59,12 @@ pub(crate) fn evaluate_each(
     symbols: &mut [Symbol],
     x: &Record,
     market: &MarketView,
-    said: &mut Vec<Message>,
+    said: &mut Messages,
     out: &mut Vec<Stamped>,
 )
     requires kind { is_trade x.now ≡ false }
-    requires said { most_of_symbol ≤ vec_capacity said.old }
     requires room { vec_len out.old + most_of_symbol * length symbols.old ≤ vec_capacity out.old }
     ensures appends { AppendsBelow (length symbols.old) market.now x.now symbols.old symbols.new out.old.items out.new.items }
-    ensures said { most_of_symbol ≤ vec_capacity said.new }
     ensures room { vec_capacity out.old ≤ vec_capacity out.new }
     ensures len { vec_len out.new ≤ vec_len out.old + most_of_symbol * length symbols.old }
 {

@@ -1,5 +1,5 @@
 // Reference prices and price bands (LULD Plan, Section V).
-ghost use Rattle.std.specs.Prelude.{◌≡◌, ◌+◌, ◌≤◌, [], true, false, Some, ℕ, List, Option, option_map, vec_len, vec_capacity};
+ghost use Rattle.std.specs.Prelude.{◌≡◌, ◌+◌, ◌≤◌, [], true, false, Some, ℕ, List, Option, option_map, length};
 ghost use Rattle.std.specs.Option.{option_map_or};
 ghost use Rattle.price_core.specs.Moves.{moved_one_percent};
 ghost use Rattle.pause_core.specs.Phases.{is_done};
@@ -8,6 +8,7 @@ ghost use Rattle.refprice_core.specs.Prices.{observed};
 ghost use Rattle.rulebook.specs.Auction.{is_paused};
 ghost use Rattle.rulebook.specs.Rules as rules;
 ghost use Rattle.rulebook.specs.Symbol.{bands_of, is_times, prior_close_of};
+ghost use Rattle.symbol_core.specs.Evaluates.{most_of_symbol};
 ghost use Rattle.symbol_core.specs.InStep.{in_step};
 ghost use Rattle.symbol_core.specs.Pricing as pricing;
 ghost use Rattle.symbol_core.specs.Runs.{run_band, run_reference};
@@ -15,6 +16,7 @@ ghost use Rattle.symbol_core.specs.Stands.{ObeysWith, Says};
 ghost use Rattle.symbol_core.specs.Window.{window};
 
 use crate::kept::{Kept, OpenStep, Step};
+use crate::messages::Messages;
 use crate::records::{opening_price, opens_on_quotes};
 use crate::says::midnight;
 use pause_core::is_trading;
@@ -24,7 +26,6 @@ use refprice_core::{Priced, Reference, because, forced};
 use rulebook::{Banded, Terms};
 use session_core::{Day, Moment};
 use window_core::{Window, live_mean};
-use wire_out::Message;
 
 /// The bands that a reference price gives at a moment of the day.
 fn bands_of(terms: &Terms, day: &Day, t: Moment, reference: Price) -> Bands
@@ -197,14 +198,13 @@ impl Kept {
         opened: &mut OpenStep,
         cause: Cause,
         price: Price,
-        out: &mut Vec<Message>,
+        out: &mut Messages,
     )
         requires unpaused { is_paused self.old.phase ≡ false }
         requires times { is_times cause ≡ true → option_map (λ last. last.reference) (run_band self.old) ≡ Some price }
-        requires room { vec_len out.old + 1 ≤ vec_capacity out.old }
-        ensures says { Says (pricing.band self.old step.now cause price) step.now (in_step self.old opened.old) (in_step self.new opened.new) out.old.items out.new.items }
-        ensures room { vec_capacity out.old ≤ vec_capacity out.new }
-        ensures len { vec_len out.new ≤ vec_len out.old + 1 }
+        requires room { length out.old + 1 ≤ most_of_symbol }
+        ensures says { Says (pricing.band self.old step.now cause price) step.now (in_step self.old opened.old) (in_step self.new opened.new) out.old out.new }
+        ensures len { length out.new ≤ length out.old + 1 }
     {
         if let Some(listed) = self.terms {
             let bands = bands_of(&listed, &step.day, step.moment, price);
@@ -234,11 +234,10 @@ impl Kept {
         }
     }
 
-    fn band_by_time(&mut self, step: &Step, opened: &mut OpenStep, out: &mut Vec<Message>)
-        requires { vec_len out.old + 1 ≤ vec_capacity out.old }
-        ensures says { Says (option_map_or (pricing.band_by_time self.old step.now) (run_band self.old) []) step.now (in_step self.old opened.old) (in_step self.new opened.new) out.old.items out.new.items }
-        ensures room { vec_capacity out.old ≤ vec_capacity out.new }
-        ensures len { vec_len out.new ≤ vec_len out.old + 1 }
+    fn band_by_time(&mut self, step: &Step, opened: &mut OpenStep, out: &mut Messages)
+        requires { length out.old + 1 ≤ most_of_symbol }
+        ensures says { Says (option_map_or (pricing.band_by_time self.old step.now) (run_band self.old) []) step.now (in_step self.old opened.old) (in_step self.new opened.new) out.old out.new }
+        ensures len { length out.new ≤ length out.old + 1 }
     {
         if let Some(last) = self.last_band() {
             if is_trading(self.phase) && self.time_changes(step, &last) {
@@ -247,17 +246,10 @@ impl Kept {
         }
     }
 
-    fn banding(
-        &mut self,
-        step: &Step,
-        opened: &mut OpenStep,
-        deals: &Window,
-        out: &mut Vec<Message>,
-    )
-        requires { vec_len out.old + 1 ≤ vec_capacity out.old }
-        ensures says { Says (pricing.banding (mean_of (live step.now.moment (window (in_step self.old opened.old) deals.now.deals))) (in_step self.old opened.old) step.now) step.now (in_step self.old opened.old) (in_step self.new opened.new) out.old.items out.new.items }
-        ensures room { vec_capacity out.old ≤ vec_capacity out.new }
-        ensures len { vec_len out.new ≤ vec_len out.old + 1 }
+    fn banding(&mut self, step: &Step, opened: &mut OpenStep, deals: &Window, out: &mut Messages)
+        requires { length out.old + 1 ≤ most_of_symbol }
+        ensures says { Says (pricing.banding (mean_of (live step.now.moment (window (in_step self.old opened.old) deals.now.deals))) (in_step self.old opened.old) step.now) step.now (in_step self.old opened.old) (in_step self.new opened.new) out.old out.new }
+        ensures len { length out.new ≤ length out.old + 1 }
     {
         match self.reference(step, opened, deals) {
             Some(r) => self.band(step, opened, r.cause, r.price, out),
@@ -271,13 +263,12 @@ impl Kept {
         step: &Step,
         opened: &mut OpenStep,
         deals: &Window,
-        out: &mut Vec<Message>,
+        out: &mut Messages,
     )
         requires goes_on { is_done self.old.phase ≡ false }
-        requires room { vec_len out.old + 1 ≤ vec_capacity out.old }
-        ensures obeys { ObeysWith deals.now.deals rules.publish_band step.now (in_step self.old opened.old) (in_step self.new opened.new) out.old.items out.new.items }
-        ensures room { vec_capacity out.old ≤ vec_capacity out.new }
-        ensures len { vec_len out.new ≤ vec_len out.old + 1 }
+        requires room { length out.old + 1 ≤ most_of_symbol }
+        ensures obeys { ObeysWith deals.now.deals rules.publish_band step.now (in_step self.old opened.old) (in_step self.new opened.new) out.old out.new }
+        ensures len { length out.new ≤ length out.old + 1 }
     {
         self.banding(step, opened, deals, out);
     }

@@ -1,26 +1,19 @@
-ghost use Rattle.std.specs.Prelude.{◌+◌, ◌≤◌, vec_len, vec_capacity};
+ghost use Rattle.std.specs.Prelude.{◌+◌, ◌≤◌, length};
 ghost use Rattle.rulebook.specs.Book.{symbol_rules};
+ghost use Rattle.symbol_core.specs.Evaluates.{most_of_symbol};
 ghost use Rattle.symbol_core.specs.InStep.{in_step};
 ghost use Rattle.symbol_core.specs.Stands.{ObeysAll};
 
 use crate::kept::{Kept, OpenStep, Step};
+use crate::messages::Messages;
 use pause_core::is_done;
 use window_core::Window;
-use wire_out::Message;
 
 impl Kept {
     /// The rules of the symbol, in order. The others read that it isn't closed, which those that turn its phase tell.
-    pub fn obey(
-        &mut self,
-        step: &Step,
-        opened: &mut OpenStep,
-        deals: &Window,
-        out: &mut Vec<Message>,
-    )
-        requires { vec_len out.old + 13 ≤ vec_capacity out.old }
-        ensures obeys { ObeysAll deals.now.deals symbol_rules step.now (in_step self.old opened.old) (in_step self.new opened.new) out.old.items out.new.items }
-        ensures room { vec_capacity out.old ≤ vec_capacity out.new }
-        ensures len { vec_len out.new ≤ vec_len out.old + 13 }
+    pub fn obey(&mut self, step: &Step, opened: &mut OpenStep, deals: &Window, out: &mut Messages)
+        requires { length out.old + 13 ≤ most_of_symbol }
+        ensures obeys { ObeysAll deals.now.deals symbol_rules step.now (in_step self.old opened.old) (in_step self.new opened.new) out.old out.new }
     {
         self.turn(step, opened, out);
         if is_done(self.phase) {

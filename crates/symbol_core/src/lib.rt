@@ -5,6 +5,7 @@ mod bands;
 mod chain;
 mod due;
 mod kept;
+mod messages;
 mod passing;
 mod pausing;
 mod records;
@@ -18,4 +19,5 @@ mod tests;
 mod turns;
 
 pub use due::Due;
-pub use symbol::{MOST_OF_SYMBOL, MarketView, Symbol};
+pub use messages::{MOST_OF_SYMBOL, Messages};
+pub use symbol::{MarketView, Symbol};

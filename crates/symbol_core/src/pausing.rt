@@ -1,22 +1,23 @@
 // Trading pauses (LULD Plan, Section VII).
-ghost use Rattle.std.specs.Prelude.{◌≡◌, ◌+◌, ◌≤◌, [], List, true, false, vec_len, vec_capacity};
+ghost use Rattle.std.specs.Prelude.{◌≡◌, ◌+◌, ◌≤◌, [], List, true, false, length};
 ghost use Rattle.std.specs.Option.{option_map_or};
 ghost use Rattle.pause_core.specs.Phases.{is_done};
 ghost use Rattle.rulebook.specs.Auction.{is_paused};
 ghost use Rattle.rulebook.specs.Rules as rules;
+ghost use Rattle.symbol_core.specs.Evaluates.{most_of_symbol};
 ghost use Rattle.symbol_core.specs.Idle.{pauses_at};
 ghost use Rattle.symbol_core.specs.InStep.{in_step};
 ghost use Rattle.symbol_core.specs.Kept.{pause_now, pausing, pausing_as};
 ghost use Rattle.symbol_core.specs.Stands.{Obeys, Says};
 
 use crate::kept::{Kept, OpenStep, Step};
+use crate::messages::Messages;
 use crate::records::asks_to_pause;
 use crate::says::is_paused;
 use limit_core::LimitTimer;
 use pause_core::pause;
 use price_core::Side;
 use session_core::{Moment, Phase, last_10};
-use wire_out::Message;
 
 impl Kept {
     /// Whether it has been in a limit state for 15 seconds.
@@ -42,18 +43,11 @@ impl Kept {
         )
     }
 
-    fn begin_pause(
-        &mut self,
-        step: &Step,
-        opened: &mut OpenStep,
-        phase: Phase,
-        out: &mut Vec<Message>,
-    )
+    fn begin_pause(&mut self, step: &Step, opened: &mut OpenStep, phase: Phase, out: &mut Messages)
         requires paused { is_paused phase ≡ true }
-        requires room { vec_len out.old + 2 ≤ vec_capacity out.old }
-        ensures says { Says (pausing_as self.old step.now phase) step.now (in_step self.old opened.old) (in_step self.new opened.new) out.old.items out.new.items }
-        ensures room { vec_capacity out.old ≤ vec_capacity out.new }
-        ensures len { vec_len out.new ≤ vec_len out.old + 2 }
+        requires room { length out.old + 2 ≤ most_of_symbol }
+        ensures says { Says (pausing_as self.old step.now phase) step.now (in_step self.old opened.old) (in_step self.new opened.new) out.old out.new }
+        ensures len { length out.new ≤ length out.old + 2 }
     {
         match self.last_band() {
             Some(b) => self.say_pause(step, opened, phase, &b, out),
@@ -61,11 +55,10 @@ impl Kept {
         }
     }
 
-    fn pause_as(&mut self, step: &Step, opened: &mut OpenStep, phase: Phase, out: &mut Vec<Message>)
-        requires { vec_len out.old + 2 ≤ vec_capacity out.old }
-        ensures says { Says (pausing_as self.old step.now phase) step.now (in_step self.old opened.old) (in_step self.new opened.new) out.old.items out.new.items }
-        ensures room { vec_capacity out.old ≤ vec_capacity out.new }
-        ensures len { vec_len out.new ≤ vec_len out.old + 2 }
+    fn pause_as(&mut self, step: &Step, opened: &mut OpenStep, phase: Phase, out: &mut Messages)
+        requires { length out.old + 2 ≤ most_of_symbol }
+        ensures says { Says (pausing_as self.old step.now phase) step.now (in_step self.old opened.old) (in_step self.new opened.new) out.old out.new }
+        ensures len { length out.new ≤ length out.old + 2 }
     {
         if is_paused(phase) {
             self.begin_pause(step, opened, phase, out);
@@ -74,11 +67,10 @@ impl Kept {
         }
     }
 
-    fn pausing(&mut self, step: &Step, opened: &mut OpenStep, out: &mut Vec<Message>)
-        requires { vec_len out.old + 2 ≤ vec_capacity out.old }
-        ensures says { Says (pausing self.old step.now) step.now (in_step self.old opened.old) (in_step self.new opened.new) out.old.items out.new.items }
-        ensures room { vec_capacity out.old ≤ vec_capacity out.new }
-        ensures len { vec_len out.new ≤ vec_len out.old + 2 }
+    fn pausing(&mut self, step: &Step, opened: &mut OpenStep, out: &mut Messages)
+        requires { length out.old + 2 ≤ most_of_symbol }
+        ensures says { Says (pausing self.old step.now) step.now (in_step self.old opened.old) (in_step self.new opened.new) out.old out.new }
+        ensures len { length out.new ≤ length out.old + 2 }
     {
         if let Some(phase) = self.pause_now(step) {
             self.pause_as(step, opened, phase, out);
@@ -86,12 +78,11 @@ impl Kept {
     }
 
     /// A trading pause, after 15 seconds in a limit state or where the listing exchange asks for it.
-    pub fn pause(&mut self, step: &Step, opened: &mut OpenStep, out: &mut Vec<Message>)
+    pub fn pause(&mut self, step: &Step, opened: &mut OpenStep, out: &mut Messages)
         requires goes_on { is_done self.old.phase ≡ false }
-        requires room { vec_len out.old + 2 ≤ vec_capacity out.old }
-        ensures obeys { Obeys rules.pause step.now (in_step self.old opened.old) (in_step self.new opened.new) out.old.items out.new.items }
-        ensures room { vec_capacity out.old ≤ vec_capacity out.new }
-        ensures len { vec_len out.new ≤ vec_len out.old + 2 }
+        requires room { length out.old + 2 ≤ most_of_symbol }
+        ensures obeys { Obeys rules.pause step.now (in_step self.old opened.old) (in_step self.new opened.new) out.old out.new }
+        ensures len { length out.new ≤ length out.old + 2 }
     {
         self.pausing(step, opened, out);
     }

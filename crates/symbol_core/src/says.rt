@@ -1,13 +1,15 @@
 // What a symbol says, and what is then kept of it.
-ghost use Rattle.std.specs.Prelude.{true, false, None, Some, ◌≡◌, ◌+◌, ◌≤◌, ◌++◌, ◌∷◌, [], List, option_map, vec_len, vec_capacity};
+ghost use Rattle.std.specs.Prelude.{true, false, None, Some, ◌≡◌, ◌+◌, ◌≤◌, ◌++◌, ◌∷◌, [], List, option_map, length};
 ghost use Rattle.rulebook.specs.Auction.{is_paused, origin_of};
 ghost use Rattle.rulebook.specs.Symbol.{is_times};
+ghost use Rattle.symbol_core.specs.Evaluates.{most_of_symbol};
 ghost use Rattle.symbol_core.specs.InStep.{in_step};
 ghost use Rattle.symbol_core.specs.Kept.{auction_begun, becoming, begins_auction, in_round, collars_of, run_banded, run_of, turned};
 ghost use Rattle.symbol_core.specs.Runs.{run_band};
 ghost use Rattle.symbol_core.specs.Stands.{Says};
 
 use crate::kept::{Kept, OpenStep, Run, Step};
+use crate::messages::Messages;
 use crate::records::{indicated_by, opens_early, quoted_by};
 use pause_core::{is_limit, is_trading};
 use price_core::{Cause, Price};
@@ -47,15 +49,6 @@ pub fn midnight() -> Moment
     Moment::new(0).unwrap()
 }
 
-fn push(out: &mut Vec<Message>, message: Message)
-    requires { vec_len out.old + 1 ≤ vec_capacity out.old }
-    ensures items { out.new.items ≡ out.old.items ++ message ∷ [] }
-    ensures room { vec_capacity out.old ≤ vec_capacity out.new }
-    ensures len { vec_len out.new ≡ vec_len out.old + 1 }
-{
-    out.push(message).unwrap();
-}
-
 impl Kept {
     fn begin_run(&mut self, step: &Step, opened: &mut OpenStep)
         ensures run { self.new ≡ record self.old { run = Some (run_of self.old.id step.now) } }
@@ -84,26 +77,16 @@ impl Kept {
     }
 
     /// The symbol's phase becomes this one, without an auction.
-    pub fn becomes(
-        &mut self,
-        step: &Step,
-        opened: &mut OpenStep,
-        phase: Phase,
-        out: &mut Vec<Message>,
-    )
+    pub fn becomes(&mut self, step: &Step, opened: &mut OpenStep, phase: Phase, out: &mut Messages)
         requires alone { begins_auction self.old phase ≡ false }
-        requires room { vec_len out.old + 1 ≤ vec_capacity out.old }
-        ensures says { Says (Message.State self.old.id phase ∷ []) step.now (in_step self.old opened.old) (in_step self.new opened.new) out.old.items out.new.items }
-        ensures room { vec_capacity out.old ≤ vec_capacity out.new }
-        ensures len { vec_len out.new ≡ vec_len out.old + 1 }
+        requires room { length out.old + 1 ≤ most_of_symbol }
+        ensures says { Says (Message.State self.old.id phase ∷ []) step.now (in_step self.old opened.old) (in_step self.new opened.new) out.old out.new }
+        ensures len { length out.new ≡ length out.old + 1 }
     {
-        push(
-            out,
-            Message::State {
-                symbol: self.id,
-                phase,
-            },
-        );
+        out.push(Message::State {
+            symbol: self.id,
+            phase,
+        });
         self.set_phase(step, opened, phase);
     }
 }
@@ -140,24 +123,20 @@ impl Kept {
         opened: &mut OpenStep,
         phase: Phase,
         b: &Banded,
-        out: &mut Vec<Message>,
+        out: &mut Messages,
     )
         requires paused { is_paused phase ≡ true }
         requires band { run_band self.old ≡ Some b.now }
-        requires room { vec_len out.old + 2 ≤ vec_capacity out.old }
-        ensures says { Says (becoming self.old phase ++ collars_of self.old.id (auction_begun self.old step.now b.now)) step.now (in_step self.old opened.old) (in_step self.new opened.new) out.old.items out.new.items }
-        ensures room { vec_capacity out.old ≤ vec_capacity out.new }
-        ensures len { vec_len out.new ≡ vec_len out.old + 2 }
+        requires room { length out.old + 2 ≤ most_of_symbol }
+        ensures says { Says (becoming self.old phase ++ collars_of self.old.id (auction_begun self.old step.now b.now)) step.now (in_step self.old opened.old) (in_step self.new opened.new) out.old out.new }
+        ensures len { length out.new ≡ length out.old + 2 }
     {
         let auction = self.auction_begun(step, b);
-        push(
-            out,
-            Message::State {
-                symbol: self.id,
-                phase,
-            },
-        );
-        push(out, self.collar(&auction));
+        out.push(Message::State {
+            symbol: self.id,
+            phase,
+        });
+        out.push(self.collar(&auction));
         self.set_phase(step, opened, phase);
         self.auction = Some(auction);
     }
@@ -179,103 +158,78 @@ impl Kept {
     ghost use Rattle.symbol_core.specs.Kept.{announcing, announcing_name, banded};
 
     /// A straddle state begins or ends.
-    pub fn say_straddle(&mut self, step: &Step, on: bool, out: &mut Vec<Message>)
-        requires { vec_len out.old + 1 ≤ vec_capacity out.old }
-        ensures says { (opened : OpenStep) → Says (Message.Straddle self.old.id on ∷ []) step.now (in_step self.old opened) (in_step self.new opened) out.old.items out.new.items }
-        ensures room { vec_capacity out.old ≤ vec_capacity out.new }
-        ensures len { vec_len out.new ≡ vec_len out.old + 1 }
+    pub fn say_straddle(&mut self, step: &Step, on: bool, out: &mut Messages)
+        requires { length out.old + 1 ≤ most_of_symbol }
+        ensures says { (opened : OpenStep) → Says (Message.Straddle self.old.id on ∷ []) step.now (in_step self.old opened) (in_step self.new opened) out.old out.new }
+        ensures len { length out.new ≡ length out.old + 1 }
     {
-        push(
-            out,
-            Message::Straddle {
-                symbol: self.id,
-                on,
-            },
-        );
+        out.push(Message::Straddle {
+            symbol: self.id,
+            on,
+        });
         self.straddling = on;
     }
 
     /// The next round of the auction begins.
-    pub fn say_round(&mut self, step: &Step, auction: &Auction, out: &mut Vec<Message>)
+    pub fn say_round(&mut self, step: &Step, auction: &Auction, out: &mut Messages)
         requires same { option_map (in_round auction.now.round) self.old.auction ≡ Some auction.now }
         requires now { auction.now.round.moment ≡ step.now.moment }
-        requires room { vec_len out.old + 1 ≤ vec_capacity out.old }
-        ensures says { (opened : OpenStep) → Says (collars_of self.old.id auction.now) step.now (in_step self.old opened) (in_step self.new opened) out.old.items out.new.items }
-        ensures room { vec_capacity out.old ≤ vec_capacity out.new }
-        ensures len { vec_len out.new ≡ vec_len out.old + 1 }
+        requires room { length out.old + 1 ≤ most_of_symbol }
+        ensures says { (opened : OpenStep) → Says (collars_of self.old.id auction.now) step.now (in_step self.old opened) (in_step self.new opened) out.old out.new }
+        ensures len { length out.new ≡ length out.old + 1 }
     {
-        push(out, self.collar(auction));
+        out.push(self.collar(auction));
         self.auction = Some(*auction);
     }
 
     /// The auction releases the symbol.
-    pub fn say_release(
-        &self,
-        step: &Step,
-        opened: &mut OpenStep,
-        price: Price,
-        out: &mut Vec<Message>,
-    )
-        requires { vec_len out.old + 1 ≤ vec_capacity out.old }
-        ensures says { Says (Message.Release self.now.id price ∷ []) step.now (in_step self.now opened.old) (in_step self.now opened.new) out.old.items out.new.items }
-        ensures room { vec_capacity out.old ≤ vec_capacity out.new }
-        ensures len { vec_len out.new ≡ vec_len out.old + 1 }
+    pub fn say_release(&self, step: &Step, opened: &mut OpenStep, price: Price, out: &mut Messages)
+        requires { length out.old + 1 ≤ most_of_symbol }
+        ensures says { Says (Message.Release self.now.id price ∷ []) step.now (in_step self.now opened.old) (in_step self.now opened.new) out.old out.new }
+        ensures len { length out.new ≡ length out.old + 1 }
     {
-        push(
-            out,
-            Message::Release {
-                symbol: self.id,
-                price,
-            },
-        );
+        out.push(Message::Release {
+            symbol: self.id,
+            price,
+        });
         opened.released = Some(price);
     }
 
-    fn say_listed(&mut self, step: &Step, name: [u8; 8], out: &mut Vec<Message>)
-        requires { vec_len out.old + 1 ≤ vec_capacity out.old }
-        ensures says { (opened : OpenStep) → Says (Message.Listed self.old.id name ∷ []) step.now (in_step self.old opened) (in_step self.new opened) out.old.items out.new.items }
-        ensures room { vec_capacity out.old ≤ vec_capacity out.new }
-        ensures len { vec_len out.new ≡ vec_len out.old + 1 }
+    fn say_listed(&mut self, step: &Step, name: [u8; 8], out: &mut Messages)
+        requires { length out.old + 1 ≤ most_of_symbol }
+        ensures says { (opened : OpenStep) → Says (Message.Listed self.old.id name ∷ []) step.now (in_step self.old opened) (in_step self.new opened) out.old out.new }
+        ensures len { length out.new ≡ length out.old + 1 }
     {
-        push(
-            out,
-            Message::Listed {
-                symbol: self.id,
-                name,
-            },
-        );
+        out.push(Message::Listed {
+            symbol: self.id,
+            name,
+        });
     }
 
-    fn say_carried(&mut self, step: &Step, out: &mut Vec<Message>)
-        requires { vec_len out.old + 1 ≤ vec_capacity out.old }
-        ensures says { (opened : OpenStep) → Says (Message.Short self.old.id ShortKind.Carried ∷ []) step.now (in_step self.old opened) (in_step self.new opened) out.old.items out.new.items }
-        ensures room { vec_capacity out.old ≤ vec_capacity out.new }
-        ensures len { vec_len out.new ≡ vec_len out.old + 1 }
+    fn say_carried(&mut self, step: &Step, out: &mut Messages)
+        requires { length out.old + 1 ≤ most_of_symbol }
+        ensures says { (opened : OpenStep) → Says (Message.Short self.old.id ShortKind.Carried ∷ []) step.now (in_step self.old opened) (in_step self.new opened) out.old out.new }
+        ensures len { length out.new ≡ length out.old + 1 }
     {
-        push(
-            out,
-            Message::Short {
-                symbol: self.id,
-                kind: ShortKind::Carried,
-            },
-        );
+        out.push(Message::Short {
+            symbol: self.id,
+            kind: ShortKind::Carried,
+        });
     }
 
-    fn announce_carried(&mut self, step: &Step, name: [u8; 8], out: &mut Vec<Message>)
-        requires { vec_len out.old + 2 ≤ vec_capacity out.old }
-        ensures says { (opened : OpenStep) → Says (Message.Listed self.old.id name ∷ Message.Short self.old.id ShortKind.Carried ∷ []) step.now (in_step self.old opened) (in_step self.new opened) out.old.items out.new.items }
-        ensures room { vec_capacity out.old ≤ vec_capacity out.new }
-        ensures len { vec_len out.new ≤ vec_len out.old + 2 }
+    fn announce_carried(&mut self, step: &Step, name: [u8; 8], out: &mut Messages)
+        requires { length out.old + 2 ≤ most_of_symbol }
+        ensures says { (opened : OpenStep) → Says (Message.Listed self.old.id name ∷ Message.Short self.old.id ShortKind.Carried ∷ []) step.now (in_step self.old opened) (in_step self.new opened) out.old out.new }
+        ensures len { length out.new ≤ length out.old + 2 }
     {
         self.say_listed(step, name, out);
         self.say_carried(step, out);
     }
 
-    fn announce_name(&mut self, step: &Step, name: [u8; 8], out: &mut Vec<Message>)
-        requires { vec_len out.old + 2 ≤ vec_capacity out.old }
-        ensures says { (opened : OpenStep) → Says (announcing_name self.old name) step.now (in_step self.old opened) (in_step self.new opened) out.old.items out.new.items }
-        ensures room { vec_capacity out.old ≤ vec_capacity out.new }
-        ensures len { vec_len out.new ≤ vec_len out.old + 2 }
+    fn announce_name(&mut self, step: &Step, name: [u8; 8], out: &mut Messages)
+        requires { length out.old + 2 ≤ most_of_symbol }
+        ensures says { (opened : OpenStep) → Says (announcing_name self.old name) step.now (in_step self.old opened) (in_step self.new opened) out.old out.new }
+        ensures len { length out.new ≤ length out.old + 2 }
     {
         if self.short.is_carried() {
             self.announce_carried(step, name, out);
@@ -285,11 +239,10 @@ impl Kept {
     }
 
     /// What a listing announces.
-    pub fn announce(&mut self, step: &Step, out: &mut Vec<Message>)
-        requires { vec_len out.old + 2 ≤ vec_capacity out.old }
-        ensures says { (opened : OpenStep) → Says (announcing self.old step.now.input) step.now (in_step self.old opened) (in_step self.new opened) out.old.items out.new.items }
-        ensures room { vec_capacity out.old ≤ vec_capacity out.new }
-        ensures len { vec_len out.new ≤ vec_len out.old + 2 }
+    pub fn announce(&mut self, step: &Step, out: &mut Messages)
+        requires { length out.old + 2 ≤ most_of_symbol }
+        ensures says { (opened : OpenStep) → Says (announcing self.old step.now.input) step.now (in_step self.old opened) (in_step self.new opened) out.old out.new }
+        ensures len { length out.new ≤ length out.old + 2 }
     {
         if let Record::Listing { name, .. } = step.input {
             self.announce_name(step, name, out);
@@ -297,19 +250,15 @@ impl Kept {
     }
 
     /// The short sale restriction is triggered.
-    pub fn say_triggered(&mut self, step: &Step, out: &mut Vec<Message>)
-        requires { vec_len out.old + 1 ≤ vec_capacity out.old }
-        ensures says { (opened : OpenStep) → Says (Message.Short self.old.id ShortKind.Triggered ∷ []) step.now (in_step self.old opened) (in_step self.new opened) out.old.items out.new.items }
-        ensures room { vec_capacity out.old ≤ vec_capacity out.new }
-        ensures len { vec_len out.new ≡ vec_len out.old + 1 }
+    pub fn say_triggered(&mut self, step: &Step, out: &mut Messages)
+        requires { length out.old + 1 ≤ most_of_symbol }
+        ensures says { (opened : OpenStep) → Says (Message.Short self.old.id ShortKind.Triggered ∷ []) step.now (in_step self.old opened) (in_step self.new opened) out.old out.new }
+        ensures len { length out.new ≡ length out.old + 1 }
     {
-        push(
-            out,
-            Message::Short {
-                symbol: self.id,
-                kind: ShortKind::Triggered,
-            },
-        );
+        out.push(Message::Short {
+            symbol: self.id,
+            kind: ShortKind::Triggered,
+        });
     }
 
     fn take_band(&mut self, step: &Step, opened: &mut OpenStep, b: &Banded)
@@ -324,30 +273,20 @@ impl Kept {
     }
 
     /// Price bands.
-    pub fn say_band(
-        &mut self,
-        step: &Step,
-        opened: &mut OpenStep,
-        b: &Banded,
-        out: &mut Vec<Message>,
-    )
+    pub fn say_band(&mut self, step: &Step, opened: &mut OpenStep, b: &Banded, out: &mut Messages)
         requires unpaused { is_paused self.old.phase ≡ false }
         requires times { is_times b.now.cause ≡ true → option_map (λ last. last.reference) (run_band self.old) ≡ Some b.now.reference }
-        requires room { vec_len out.old + 1 ≤ vec_capacity out.old }
-        ensures says { Says (Message.Band self.old.id b.now.cause b.now.reference b.now.bands.lower b.now.bands.upper ∷ []) step.now (in_step self.old opened.old) (in_step self.new opened.new) out.old.items out.new.items }
-        ensures room { vec_capacity out.old ≤ vec_capacity out.new }
-        ensures len { vec_len out.new ≡ vec_len out.old + 1 }
+        requires room { length out.old + 1 ≤ most_of_symbol }
+        ensures says { Says (Message.Band self.old.id b.now.cause b.now.reference b.now.bands.lower b.now.bands.upper ∷ []) step.now (in_step self.old opened.old) (in_step self.new opened.new) out.old out.new }
+        ensures len { length out.new ≡ length out.old + 1 }
     {
-        push(
-            out,
-            Message::Band {
-                symbol: self.id,
-                cause: b.cause,
-                reference: b.reference,
-                lower: b.bands.lower,
-                upper: b.bands.upper,
-            },
-        );
+        out.push(Message::Band {
+            symbol: self.id,
+            cause: b.cause,
+            reference: b.reference,
+            lower: b.bands.lower,
+            upper: b.bands.upper,
+        });
         self.take_band(step, opened, b);
     }
 }

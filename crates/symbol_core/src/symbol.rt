@@ -1,4 +1,4 @@
-ghost use Rattle.std.specs.Prelude.{◌≡◌, ◌+◌, ◌<◌, ◌≤◌, ℕ, Bool, true, false, None, Some, IfSome, List, [], ◌∷◌, ◌&&◌, not, IsOk, IfOk, OnOk, OnErr, is_some, length, option_to_list, vec_len, vec_capacity};
+ghost use Rattle.std.specs.Prelude.{◌≡◌, ◌+◌, ◌<◌, ◌≤◌, ℕ, Bool, true, false, None, Some, IfSome, List, [], ◌∷◌, ◌&&◌, not, IsOk, IfOk, OnOk, OnErr, is_some, length, option_to_list};
 ghost use Rattle.wire_in.specs.Records.{is_day, is_tick, moment_of};
 ghost use Rattle.window_core.specs.declared.window.Deal.{Deal};
 ghost use Rattle.window_core.specs.Deals.{live};
@@ -15,6 +15,7 @@ ghost use Rattle.symbol_core.specs.Taken.{deal_of};
 
 use crate::due::Due;
 use crate::kept::{Kept, OpenStep, Step};
+use crate::messages::Messages;
 use crate::passing::{add_one, brings_deal_or_time, deal_in, drop_old, reserve_deal};
 use crate::records::{quoted_by, traded_price};
 use crate::taking::{drop_cancelled, keep_deals};
@@ -24,7 +25,6 @@ use std::alloc::Global;
 use std::marker::Model;
 use window_core::{Deal, Window};
 use wire_in::Record;
-use wire_out::Message;
 
 /// What the market is to each symbol: the day, and whether a market-wide halt is in effect.
 #[derive(Clone, Copy, Debug, PartialEq, Eq)]
@@ -32,9 +32,6 @@ pub struct MarketView {
     pub day: Day,
     pub stopped: bool,
 }
-
-/// The most messages of one symbol at a record.
-pub const MOST_OF_SYMBOL: usize = 16;
 
 /// One symbol of the directory, from its first listing on.
 #[derive(Debug, Drop)]
@@ -244,20 +241,15 @@ impl Symbol {
         x: &Record,
         market: &MarketView,
         awaited: &Awaited,
-        out: &mut Vec<Message>,
+        out: &mut Messages,
     ) -> Result<(), NoMemory>
-        requires { IsAwaited self.old.kept market.now x.now awaited.now.deal awaited.now.due }
-        ensures ok { OnOk result (Evaluates market.now x.now self.old self.new out.old.items out.new.items) }
-        ensures err { OnErr result ((self.new ≡ self.old) × (out.new.items ≡ out.old.items)) }
-        ensures room { vec_len out.old + most_of_symbol ≤ vec_capacity out.old → traded_price market.now.day self.old.kept.id x.now ≡ None → IsOk result }
-        ensures few { vec_len out.new ≤ vec_len out.old + most_of_symbol }
-        ensures capacity { vec_capacity out.old ≤ vec_capacity out.new }
+        requires awaited { IsAwaited self.old.kept market.now x.now awaited.now.deal awaited.now.due }
+        requires room { length out.old + 15 ≤ most_of_symbol }
+        ensures ok { OnOk result (Evaluates market.now x.now self.old self.new out.old out.new) }
+        ensures err { OnErr result ((self.new ≡ self.old) × (out.new ≡ out.old)) }
+        ensures succeeds { traded_price market.now.day self.old.kept.id x.now ≡ None → IsOk result }
         ensures recent { OnOk result (live (moment_of x.now) self.new.deals ≡ self.new.deals) }
     {
-        match out.reserve(MOST_OF_SYMBOL) {
-            Ok(()) => {}
-            Err(_) => return Err(NoMemory),
-        }
         reserve_deal(&awaited.deal, &mut self.deals)?;
         drop_old(awaited.due.from, &mut self.deals);
         if self
@@ -273,21 +265,36 @@ impl Symbol {
         Ok(())
     }
 
-    /// Evaluates a record: appends what it announces of the symbol and what the rules then give. It appends nothing at a
-    /// Day record, which begins the day, nor at a clock or an index tick of a day on which the symbol isn't listed. Out of
-    /// memory, it changes nothing; that can't come of room for its messages and a record that is no eligible trade of the
-    /// symbol. Of a listed symbol, no trade that is five minutes old is kept.
+    /// Evaluates a record: leaves what it announces of the symbol and what the rules then give, in place of the messages that
+    /// were there. It leaves none at a Day record, which begins the day, nor at a clock or an index tick of a day on which the
+    /// symbol isn't listed. Out of memory, it leaves none and doesn't change the symbol; that can't come of a record that is no
+    /// eligible trade of the symbol. Of a listed symbol, no trade that is five minutes old is kept.
     pub fn evaluate(
         &mut self,
         x: &Record,
         market: &MarketView,
-        out: &mut Vec<Message>,
+        out: &mut Messages,
     ) -> Result<(), NoMemory>
-        ensures ok { OnOk result (Evaluates market.now x.now self.old self.new out.old.items out.new.items) }
-        ensures err { OnErr result ((self.new ≡ self.old) × (out.new.items ≡ out.old.items)) }
-        ensures room { vec_len out.old + most_of_symbol ≤ vec_capacity out.old → traded_price market.now.day self.old.kept.id x.now ≡ None → IsOk result }
-        ensures few { vec_len out.new ≤ vec_len out.old + most_of_symbol }
-        ensures capacity { vec_capacity out.old ≤ vec_capacity out.new }
+        ensures ok { OnOk result (Evaluates market.now x.now self.old self.new [] out.new) }
+        ensures err { OnErr result ((self.new ≡ self.old) × (out.new ≡ [])) }
+        ensures succeeds { traded_price market.now.day self.old.kept.id x.now ≡ None → IsOk result }
+        ensures recent { is_some self.new.kept.terms ≡ true → OnOk result (live (moment_of x.now) self.new.deals ≡ self.new.deals) }
+    {
+        out.clear();
+        self.evaluate_behind(x, market, out)
+    }
+
+    /// The same behind the messages that there are.
+    fn evaluate_behind(
+        &mut self,
+        x: &Record,
+        market: &MarketView,
+        out: &mut Messages,
+    ) -> Result<(), NoMemory>
+        requires room { length out.old + 15 ≤ most_of_symbol }
+        ensures ok { OnOk result (Evaluates market.now x.now self.old self.new out.old out.new) }
+        ensures err { OnErr result ((self.new ≡ self.old) × (out.new ≡ out.old)) }
+        ensures succeeds { traded_price market.now.day self.old.kept.id x.now ≡ None → IsOk result }
         ensures recent { is_some self.new.kept.terms ≡ true → OnOk result (live (moment_of x.now) self.new.deals ≡ self.new.deals) }
     {
         if x.is_day() {
@@ -314,26 +321,16 @@ impl Symbol {
 
     /// Evaluates a record to which the rules apply. It stays a call of its own, whose large frame the other records don't pay for.
     #[inline(never)]
-    fn obey(
-        &mut self,
-        x: &Record,
-        market: &MarketView,
-        out: &mut Vec<Message>,
-    ) -> Result<(), NoMemory>
+    fn obey(&mut self, x: &Record, market: &MarketView, out: &mut Messages) -> Result<(), NoMemory>
         requires day { is_day x.now ≡ false }
         requires listed { (is_tick x.now && not (is_some self.old.kept.terms)) ≡ false }
-        ensures ok { OnOk result (Evaluates market.now x.now self.old self.new out.old.items out.new.items) }
-        ensures err { OnErr result ((self.new ≡ self.old) × (out.new.items ≡ out.old.items)) }
-        ensures room { vec_len out.old + most_of_symbol ≤ vec_capacity out.old → traded_price market.now.day self.old.kept.id x.now ≡ None → IsOk result }
-        ensures few { vec_len out.new ≤ vec_len out.old + most_of_symbol }
-        ensures capacity { vec_capacity out.old ≤ vec_capacity out.new }
+        requires room { length out.old + 15 ≤ most_of_symbol }
+        ensures ok { OnOk result (Evaluates market.now x.now self.old self.new out.old out.new) }
+        ensures err { OnErr result ((self.new ≡ self.old) × (out.new ≡ out.old)) }
+        ensures succeeds { traded_price market.now.day self.old.kept.id x.now ≡ None → IsOk result }
         ensures recent { OnOk result (live (moment_of x.now) self.new.deals ≡ self.new.deals) }
     {
         let step = step_of(x, market);
-        match out.reserve(MOST_OF_SYMBOL) {
-            Ok(()) => {}
-            Err(_) => return Err(NoMemory),
-        }
         reserve_for(self.kept.id, &step, &mut self.deals)?;
         let waits = self.kept.waits_by(&step, &self.due);
         self.due = take_step(&mut self.kept, &mut self.deals, &step, waits, out);
@@ -349,14 +346,12 @@ fn speak(
     deals: &Window,
     step: &Step,
     waits: Option<u64>,
-    out: &mut Vec<Message>,
+    out: &mut Messages,
 ) -> bool
     requires waits { IfSome waits (λ until. WaitsAt k.old step.now until) }
-    requires out { vec_len out.old + 15 ≤ vec_capacity out.old }
-    ensures speaks { Speaks deals.now.deals step.now (in_step k.old opened.old) (in_step k.new opened.new) out.old.items out.new.items }
+    requires room { length out.old + 15 ≤ most_of_symbol }
+    ensures speaks { Speaks deals.now.deals step.now (in_step k.old opened.old) (in_step k.new opened.new) out.old out.new }
     ensures quiet { result ≡ true → (k.new ≡ k.old) × IsSettled k.old step.now.stopped }
-    ensures few { vec_len out.new ≤ vec_len out.old + 15 }
-    ensures capacity { vec_capacity out.old ≤ vec_capacity out.new }
 {
     if waits.is_some() && k.is_quiet(step, opened, deals) {
         return true;
@@ -390,14 +385,12 @@ fn take_step(
     deals: &mut Window,
     step: &Step,
     waits: Option<u64>,
-    out: &mut Vec<Message>,
+    out: &mut Messages,
 ) -> Option<Due>
     requires waits { IfSome waits (λ until. WaitsAt k.old step.now until) }
     requires deals { length (option_to_list (deal_of step.now.day k.old.id step.now.input)) ≤ deals.old.spare }
-    requires out { vec_len out.old + 15 ≤ vec_capacity out.old }
-    ensures steps { Steps step.now k.old k.new deals.old.deals deals.new.deals out.old.items out.new.items }
-    ensures few { vec_len out.new ≤ vec_len out.old + 15 }
-    ensures capacity { vec_capacity out.old ≤ vec_capacity out.new }
+    requires room { length out.old + 15 ≤ most_of_symbol }
+    ensures steps { Steps step.now k.old k.new deals.old.deals deals.new.deals out.old out.new }
     ensures recent { step.now.moment ≡ moment_of step.now.input → live step.now.moment deals.new.deals ≡ deals.new.deals }
     ensures due { IsDue result k.new deals.new.deals }
 {
@@ -417,14 +410,12 @@ fn take_moved(
     deals: &mut Window,
     step: &Step,
     awaited: &Awaited,
-    out: &mut Vec<Message>,
+    out: &mut Messages,
 ) -> Option<Due>
     requires awaited { IsAwaited k.old (record { day = step.now.day; stopped = step.now.stopped }) step.now.input awaited.now.deal awaited.now.due }
     requires deals { length (option_to_list awaited.now.deal) ≤ deals.old.spare }
-    requires out { vec_len out.old + 15 ≤ vec_capacity out.old }
-    ensures steps { (kept : List Deal) → live step.now.moment kept ≡ deals.old.deals → Steps step.now k.old k.new kept deals.new.deals out.old.items out.new.items }
-    ensures few { vec_len out.new ≤ vec_len out.old + 15 }
-    ensures capacity { vec_capacity out.old ≤ vec_capacity out.new }
+    requires room { length out.old + 15 ≤ most_of_symbol }
+    ensures steps { (kept : List Deal) → live step.now.moment kept ≡ deals.old.deals → Steps step.now k.old k.new kept deals.new.deals out.old out.new }
     ensures recent { step.now.moment ≡ moment_of step.now.input → live step.now.moment deals.new.deals ≡ deals.new.deals }
     ensures due { IsDue result k.new deals.new.deals }
 {

@@ -94,6 +94,19 @@ fn collar(round: u16, lower: u64, upper: u64) -> Result<Message, Fail> {
     })
 }
 
+/// Adds what a symbol says at a record.
+fn say(
+    symbol: &mut Symbol,
+    x: &Record,
+    market: &MarketView,
+    out: &mut Messages,
+    said: &mut Vec<Message>,
+) -> Result<(), Fail> {
+    symbol.evaluate(x, market, out)?;
+    said.extend_from_slice(out.items())?;
+    Ok(())
+}
+
 /// Symbol 0 says exactly these messages at these records, with no market-wide halt.
 fn expect_messages<R: Abort + AllocGlobal>(
     rt: &R,
@@ -101,15 +114,16 @@ fn expect_messages<R: Abort + AllocGlobal>(
     want: &[Message],
 ) -> Result<(), Fail> {
     let mut symbol = Symbol::new(rt.alloc(), 0)?;
-    let mut out = Vec::new(rt.alloc());
+    let mut out = Messages::new(rt.alloc())?;
+    let mut said = Vec::new(rt.alloc());
     let market = MarketView {
         day: day(3)?,
         stopped: false,
     };
     for x in xs {
-        symbol.evaluate(x, &market, &mut out)?;
+        say(&mut symbol, x, &market, &mut out, &mut said)?;
     }
-    assert!(rt; out.as_slice() == want);
+    assert!(rt; said.as_slice() == want);
     Ok(())
 }
 
@@ -230,7 +244,7 @@ fn a_restriction_is_carried_to_the_next_day(rt: HostRuntime) -> Result<(), Fail>
 #[test]
 fn a_symbol_is_listed_from_its_listing_to_the_end_of_the_day(rt: HostRuntime) -> Result<(), Fail> {
     let mut symbol = Symbol::new(rt.alloc(), 0)?;
-    let mut out = Vec::new(rt.alloc());
+    let mut out = Messages::new(rt.alloc())?;
     let market = MarketView {
         day: day(3)?,
         stopped: false,
@@ -255,15 +269,28 @@ fn after_open(nanos: u64) -> Result<Moment, Fail> {
 #[test]
 fn clock_ticks_take_no_time_for_each_of_50_000_trades(rt: HostRuntime) -> Result<(), Fail> {
     let mut symbol = Symbol::new(rt.alloc(), 0)?;
-    let mut out = Vec::new(rt.alloc());
+    let mut out = Messages::new(rt.alloc())?;
+    let mut said = Vec::new(rt.alloc());
     let market = MarketView {
         day: day(3)?,
         stopped: false,
     };
-    symbol.evaluate(&new_day(3)?, &market, &mut out)?;
-    symbol.evaluate(&listing(500_000)?, &market, &mut out)?;
-    symbol.evaluate(&clock(34_200)?, &market, &mut out)?;
-    symbol.evaluate(&trade(34_200, 0, 500_000, 1)?, &market, &mut out)?;
+    say(&mut symbol, &new_day(3)?, &market, &mut out, &mut said)?;
+    say(
+        &mut symbol,
+        &listing(500_000)?,
+        &market,
+        &mut out,
+        &mut said,
+    )?;
+    say(&mut symbol, &clock(34_200)?, &market, &mut out, &mut said)?;
+    say(
+        &mut symbol,
+        &trade(34_200, 0, 500_000, 1)?,
+        &market,
+        &mut out,
+        &mut said,
+    )?;
     for number in 1..50_000_u32 {
         let x = Record::Trade {
             moment: after_open(u64::from(number))?,
@@ -273,12 +300,18 @@ fn clock_ticks_take_no_time_for_each_of_50_000_trades(rt: HostRuntime) -> Result
             size: 100,
             flags: 0,
         };
-        symbol.evaluate(&x, &market, &mut out)?;
+        say(&mut symbol, &x, &market, &mut out, &mut said)?;
     }
     let start = Instant::now(&rt)?;
     for tick in 0..400_000_u64 {
         let moment = after_open(tick.wrapping_add(60_000_000_000))?;
-        symbol.evaluate(&Record::Clock { moment }, &market, &mut out)?;
+        say(
+            &mut symbol,
+            &Record::Clock { moment },
+            &market,
+            &mut out,
+            &mut said,
+        )?;
     }
     // A look at each trade at each tick would be 20,000,000,000 looks.
     assert!(rt; start.elapsed(&rt)? < Duration::from_secs(5));
@@ -287,14 +320,14 @@ fn clock_ticks_take_no_time_for_each_of_50_000_trades(rt: HostRuntime) -> Result
         state(Phase::Trading),
         band(Cause::First, 500_000, 475_000, 525_000)?,
     ];
-    assert!(rt; out.as_slice() == want.as_slice());
+    assert!(rt; said.as_slice() == want.as_slice());
     Ok(())
 }
 
 /// Until when ticks bring nothing after these records, of a market that stands still or not, in seconds of the day.
 fn due_after<R: AllocGlobal>(rt: &R, stopped: bool, xs: &[Record]) -> Result<Option<u64>, Fail> {
     let mut symbol = Symbol::new(rt.alloc(), 0)?;
-    let mut out = Vec::new(rt.alloc());
+    let mut out = Messages::new(rt.alloc())?;
     let market = MarketView {
         day: day(3)?,
         stopped,
@@ -716,23 +749,42 @@ fn trades_that_leave_one_by_one_take_no_time_for_each_of_20_000(
     rt: HostRuntime,
 ) -> Result<(), Fail> {
     let mut symbol = Symbol::new(rt.alloc(), 0)?;
-    let mut out = Vec::new(rt.alloc());
+    let mut out = Messages::new(rt.alloc())?;
+    let mut said = Vec::new(rt.alloc());
     let market = MarketView {
         day: day(3)?,
         stopped: false,
     };
-    symbol.evaluate(&new_day(3)?, &market, &mut out)?;
-    symbol.evaluate(&listing(500_000)?, &market, &mut out)?;
-    symbol.evaluate(&clock(34_200)?, &market, &mut out)?;
-    symbol.evaluate(&trade(34_200, 0, 500_000, 1)?, &market, &mut out)?;
+    say(&mut symbol, &new_day(3)?, &market, &mut out, &mut said)?;
+    say(
+        &mut symbol,
+        &listing(500_000)?,
+        &market,
+        &mut out,
+        &mut said,
+    )?;
+    say(&mut symbol, &clock(34_200)?, &market, &mut out, &mut said)?;
+    say(
+        &mut symbol,
+        &trade(34_200, 0, 500_000, 1)?,
+        &market,
+        &mut out,
+        &mut said,
+    )?;
     for number in 1..20_000_u32 {
         let x = trade_after(u64::from(number), number, 500_000, 0)?;
-        symbol.evaluate(&x, &market, &mut out)?;
+        say(&mut symbol, &x, &market, &mut out, &mut said)?;
     }
     let start = Instant::now(&rt)?;
     for tick in 0..20_000_u64 {
         let moment = after_open(tick.wrapping_add(300_000_000_000))?;
-        symbol.evaluate(&Record::Clock { moment }, &market, &mut out)?;
+        say(
+            &mut symbol,
+            &Record::Clock { moment },
+            &market,
+            &mut out,
+            &mut said,
+        )?;
     }
     // A look at each trade that is left at each tick would be 200,000,000 looks.
     assert!(rt; start.elapsed(&rt)? < Duration::from_secs(5));
@@ -741,6 +793,6 @@ fn trades_that_leave_one_by_one_take_no_time_for_each_of_20_000(
         state(Phase::Trading),
         band(Cause::First, 500_000, 475_000, 525_000)?,
     ];
-    assert!(rt; out.as_slice() == want.as_slice());
+    assert!(rt; said.as_slice() == want.as_slice());
     Ok(())
 }

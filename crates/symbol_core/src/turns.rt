@@ -1,5 +1,5 @@
 // The rules that turn a phase: the close, a market-wide halt, the start, a regulatory halt, and limit and straddle states.
-ghost use Rattle.std.specs.Prelude.{◌≡◌, ◌+◌, ◌≤◌, ◌&&◌, false, List, option_to_list, vec_len, vec_capacity};
+ghost use Rattle.std.specs.Prelude.{◌≡◌, ◌+◌, ◌≤◌, ◌&&◌, false, List, option_to_list, length};
 ghost use Rattle.std.specs.Option.{option_map_or};
 ghost use Rattle.session_core.specs.Times.{is_closed};
 ghost use Rattle.limit_core.specs.Limits.{straddles};
@@ -8,18 +8,19 @@ ghost use Rattle.window_core.specs.declared.window.Deal.{Deal};
 ghost use Rattle.rulebook.specs.Auction.{is_paused};
 ghost use Rattle.rulebook.specs.Rules as rules;
 ghost use Rattle.rulebook.specs.Rules.{at_band, meets};
+ghost use Rattle.symbol_core.specs.Evaluates.{most_of_symbol};
 ghost use Rattle.symbol_core.specs.InStep.{in_step};
 ghost use Rattle.symbol_core.specs.Kept.{brakes, is_straddling_now, states, straddles_at, straddling};
 ghost use Rattle.symbol_core.specs.Runs.{run_band, run_quote};
 ghost use Rattle.symbol_core.specs.Stands.{Obeys, ObeysAll, Says, turning_rules};
 
 use crate::kept::{Kept, OpenStep, Step};
+use crate::messages::Messages;
 use limit_core::{is_at_lower, is_at_upper, straddles};
 use pause_core::{Brakes, is_limit, is_trading, turn};
 use price_core::Quotation;
 use rulebook::Banded;
 use session_core::{Day, Moment, Phase, close_moment, in_session};
-use wire_out::Message;
 
 fn is_closed(t: Moment, day: &Day) -> bool
     ensures { result ≡ is_closed t day.now }
@@ -40,18 +41,11 @@ impl Kept {
     }
 
     /// The phase that a rule brings, where it brings one.
-    fn turn_to(
-        &mut self,
-        step: &Step,
-        opened: &mut OpenStep,
-        to: Option<Phase>,
-        out: &mut Vec<Message>,
-    )
+    fn turn_to(&mut self, step: &Step, opened: &mut OpenStep, to: Option<Phase>, out: &mut Messages)
         requires unpaused { option_map_or is_paused to false ≡ false }
-        requires room { vec_len out.old + 1 ≤ vec_capacity out.old }
-        ensures says { Says (states self.old.id (option_to_list to)) step.now (in_step self.old opened.old) (in_step self.new opened.new) out.old.items out.new.items }
-        ensures room { vec_capacity out.old ≤ vec_capacity out.new }
-        ensures len { vec_len out.new ≤ vec_len out.old + 1 }
+        requires room { length out.old + 1 ≤ most_of_symbol }
+        ensures says { Says (states self.old.id (option_to_list to)) step.now (in_step self.old opened.old) (in_step self.new opened.new) out.old out.new }
+        ensures len { length out.new ≤ length out.old + 1 }
     {
         if let Some(phase) = to {
             self.becomes(step, opened, phase, out);
@@ -60,11 +54,10 @@ impl Kept {
 
     /// The session close, a market-wide halt (NYSE Rule 7.12), the start of trading and a regulatory halt by notice, with its
     /// end.
-    pub fn turn(&mut self, step: &Step, opened: &mut OpenStep, out: &mut Vec<Message>)
-        requires { vec_len out.old + 2 ≤ vec_capacity out.old }
-        ensures obeys { (deals : List Deal) → ObeysAll deals turning_rules step.now (in_step self.old opened.old) (in_step self.new opened.new) out.old.items out.new.items }
-        ensures room { vec_capacity out.old ≤ vec_capacity out.new }
-        ensures len { vec_len out.new ≤ vec_len out.old + 2 }
+    pub fn turn(&mut self, step: &Step, opened: &mut OpenStep, out: &mut Messages)
+        requires { length out.old + 2 ≤ most_of_symbol }
+        ensures obeys { (deals : List Deal) → ObeysAll deals turning_rules step.now (in_step self.old opened.old) (in_step self.new opened.new) out.old out.new }
+        ensures len { length out.new ≤ length out.old + 2 }
     {
         let turned = turn(self.phase, &self.brakes(step));
         self.turn_to(step, opened, turned.first, out);
@@ -126,12 +119,11 @@ impl Kept {
 
 impl Kept {
     /// A limit state is left when the quotation leaves the band (LULD Plan, Section VI).
-    pub fn leave_limit(&mut self, step: &Step, opened: &mut OpenStep, out: &mut Vec<Message>)
+    pub fn leave_limit(&mut self, step: &Step, opened: &mut OpenStep, out: &mut Messages)
         requires goes_on { is_done self.old.phase ≡ false }
-        requires room { vec_len out.old + 1 ≤ vec_capacity out.old }
-        ensures obeys { Obeys rules.leave_limit step.now (in_step self.old opened.old) (in_step self.new opened.new) out.old.items out.new.items }
-        ensures room { vec_capacity out.old ≤ vec_capacity out.new }
-        ensures len { vec_len out.new ≤ vec_len out.old + 1 }
+        requires room { length out.old + 1 ≤ most_of_symbol }
+        ensures obeys { Obeys rules.leave_limit step.now (in_step self.old opened.old) (in_step self.new opened.new) out.old out.new }
+        ensures len { length out.new ≤ length out.old + 1 }
     {
         if is_limit(self.phase) && !self.is_at_band(self.phase) {
             self.becomes(step, opened, Phase::Trading, out);
@@ -139,12 +131,11 @@ impl Kept {
     }
 
     /// A limit state begins where the quotation is at a band (LULD Plan, Section VI).
-    pub fn enter_limit(&mut self, step: &Step, opened: &mut OpenStep, out: &mut Vec<Message>)
+    pub fn enter_limit(&mut self, step: &Step, opened: &mut OpenStep, out: &mut Messages)
         requires goes_on { is_done self.old.phase ≡ false }
-        requires room { vec_len out.old + 1 ≤ vec_capacity out.old }
-        ensures obeys { Obeys rules.enter_limit step.now (in_step self.old opened.old) (in_step self.new opened.new) out.old.items out.new.items }
-        ensures room { vec_capacity out.old ≤ vec_capacity out.new }
-        ensures len { vec_len out.new ≤ vec_len out.old + 1 }
+        requires room { length out.old + 1 ≤ most_of_symbol }
+        ensures obeys { Obeys rules.enter_limit step.now (in_step self.old opened.old) (in_step self.new opened.new) out.old out.new }
+        ensures len { length out.new ≤ length out.old + 1 }
     {
         if !is_trading(self.phase) {
             return;
@@ -169,11 +160,10 @@ impl Kept {
         self.straddles_at(&self.last_quote())
     }
 
-    fn straddling(&mut self, step: &Step, out: &mut Vec<Message>)
-        requires { vec_len out.old + 1 ≤ vec_capacity out.old }
-        ensures says { (opened : OpenStep) → Says (straddling self.old step.now) step.now (in_step self.old opened) (in_step self.new opened) out.old.items out.new.items }
-        ensures room { vec_capacity out.old ≤ vec_capacity out.new }
-        ensures len { vec_len out.new ≤ vec_len out.old + 1 }
+    fn straddling(&mut self, step: &Step, out: &mut Messages)
+        requires { length out.old + 1 ≤ most_of_symbol }
+        ensures says { (opened : OpenStep) → Says (straddling self.old step.now) step.now (in_step self.old opened) (in_step self.new opened) out.old out.new }
+        ensures len { length out.new ≤ length out.old + 1 }
     {
         let is_straddling = self.is_straddling_now();
         if is_straddling && !self.straddling {
@@ -184,12 +174,11 @@ impl Kept {
     }
 
     /// A straddle state begins or ends (LULD Plan, Section VII).
-    pub fn straddle(&mut self, step: &Step, out: &mut Vec<Message>)
+    pub fn straddle(&mut self, step: &Step, out: &mut Messages)
         requires goes_on { is_done self.old.phase ≡ false }
-        requires room { vec_len out.old + 1 ≤ vec_capacity out.old }
-        ensures obeys { (opened : OpenStep) → Obeys rules.straddle step.now (in_step self.old opened) (in_step self.new opened) out.old.items out.new.items }
-        ensures room { vec_capacity out.old ≤ vec_capacity out.new }
-        ensures len { vec_len out.new ≤ vec_len out.old + 1 }
+        requires room { length out.old + 1 ≤ most_of_symbol }
+        ensures obeys { (opened : OpenStep) → Obeys rules.straddle step.now (in_step self.old opened) (in_step self.new opened) out.old out.new }
+        ensures len { length out.new ≤ length out.old + 1 }
     {
         self.straddling(step, out);
     }

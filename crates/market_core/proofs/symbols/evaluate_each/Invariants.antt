@@ -8,7 +8,6 @@ abbrev pub invariant-loop-i : goal.invariant-loop-i
 invariant-loop-i l = record {
   appends : AppendsBelow l.i l.market l.x l.initial.symbols l.symbols l.initial.out.items l.out.items;
   later : (k : ℕ) → l.i ≤ k → slice_get l.symbols k ≡ slice_get l.initial.symbols k;
-  said : most_of_symbol ≤ vec_capacity l.said;
   room : vec_capacity l.initial.out ≤ vec_capacity l.out;
   len : vec_len l.out ≤ vec_len l.initial.out + most_of_symbol * l.i;
 }

@@ -10,8 +10,8 @@ pub returns-clause-steps : goal.returns-clause-steps
 returns-clause-steps c = λ kept gone.
     let step = c.args.step.now in
     let deal = c.args.awaited.now.deal in
-    moved-steps c.args.k.now (in_step c.obey.new.self c.obey.new.opened) step deal c.args.awaited.now.due kept c.args.deals.now.deals c.keep_deals.new.deals.deals c.args.out.now.items c.obey.new.out.items c.requires.awaited gone
-    (subst (λ (opened : OpenStep). ObeysAll c.args.deals.now.deals symbol_rules step (in_step c.args.k.now opened) (in_step c.obey.new.self c.obey.new.opened) c.args.out.now.items c.obey.new.out.items) c.begin-opened.ensures c.obey.ensures.obeys)
+    moved-steps c.args.k.now (in_step c.obey.new.self c.obey.new.opened) step deal c.args.awaited.now.due kept c.args.deals.now.deals c.keep_deals.new.deals.deals c.args.out.now c.obey.new.out c.requires.awaited gone
+    (subst (λ (opened : OpenStep). ObeysAll c.args.deals.now.deals symbol_rules step (in_step c.args.k.now opened) (in_step c.obey.new.self c.obey.new.opened) c.args.out.now c.obey.new.out) c.begin-opened.ensures c.obey.ensures.obeys)
     c.keep_deals.ensures.same
 
 pub returns-clause-recent : goal.returns-clause-recent

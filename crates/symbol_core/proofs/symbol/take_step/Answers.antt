@@ -1,4 +1,4 @@
-use Rattle.std.proofs.Common.{refl, sym, ap, subst, arith, ◌∙◌}
+use Rattle.std.proofs.Common.{refl, sym, ap, subst, ◌∙◌}
 use Rattle.symbol_core.proofs.Live.{live-taken}
 use Rattle.std.specs.Prelude.{IfSome}
 use Rattle.symbol_core.specs.declared.kept.Kept.{Kept}
@@ -30,10 +30,8 @@ returns c =
     let took = in_step c.take-opened.new.self c.take-opened.result in
     let mid = in_step c.speak-is_quiet.new.k c.speak-is_quiet.new.opened in
     record {
-      steps = step-evaluates c.args.step.now c.args.k.now spoken.said mid took c.speak-is_quiet.new.k c.args.deals.now.deals c.drop_cancelled.new.deals.deals c.drop_old.new.deals.deals c.drop_old.new.deals.deals c.keep_deals.new.deals.deals c.args.out.now.items spoken.between c.speak-is_quiet.new.out.items
+      steps = step-evaluates c.args.step.now c.args.k.now spoken.said mid took c.speak-is_quiet.new.k c.args.deals.now.deals c.drop_cancelled.new.deals.deals c.drop_old.new.deals.deals c.drop_old.new.deals.deals c.keep_deals.new.deals.deals c.args.out.now spoken.between c.speak-is_quiet.new.out
           c.drop_cancelled.ensures.items c.drop_old.ensures.deals refl c.take-opened.ensures spoken.announces spoken.obeys c.keep_deals.ensures.same refl;
-      few = omega arith;
-      capacity = omega arith;
       recent = λ now. c.keep_deals.ensures.recent (live-taken c.args.step.now c.args.k.now took c.take-opened.ensures now);
       due = c.due_after.ensures;
     }

@@ -11,7 +11,7 @@ returns-then-is_carried-clause-says c = λ opened.
     let k = c.args.self.now in
     let name = c.args.name in
     let carried : k.short.carried ≡ true = sym c.is_carried.ensures.value ∙ c.if-is_carried.true in
-    subst (λ (b : Bool). Says (if b then out.Listed k.id name ∷ out.Short k.id Carried ∷ [] else out.Listed k.id name ∷ []) c.args.step.now (in_step k opened) (in_step c.announce_carried.new.self opened) c.args.out.now.items c.announce_carried.new.out.items)
+    subst (λ (b : Bool). Says (if b then out.Listed k.id name ∷ out.Short k.id Carried ∷ [] else out.Listed k.id name ∷ []) c.args.step.now (in_step k opened) (in_step c.announce_carried.new.self opened) c.args.out.now c.announce_carried.new.out)
     (sym carried) (c.announce_carried.ensures.says opened)
 
 pub returns-else-is_carried-clause-says : goal.returns-else-is_carried-clause-says
@@ -19,5 +19,5 @@ returns-else-is_carried-clause-says c = λ opened.
     let k = c.args.self.now in
     let name = c.args.name in
     let carried : k.short.carried ≡ false = sym c.is_carried.ensures.value ∙ c.if-is_carried.false in
-    subst (λ (b : Bool). Says (if b then out.Listed k.id name ∷ out.Short k.id Carried ∷ [] else out.Listed k.id name ∷ []) c.args.step.now (in_step k opened) (in_step c.say_listed.new.self opened) c.args.out.now.items c.say_listed.new.out.items)
+    subst (λ (b : Bool). Says (if b then out.Listed k.id name ∷ out.Short k.id Carried ∷ [] else out.Listed k.id name ∷ []) c.args.step.now (in_step k opened) (in_step c.say_listed.new.self opened) c.args.out.now c.say_listed.new.out)
     (sym carried) (c.say_listed.ensures.says opened)

@@ -14,7 +14,7 @@ pub returns-clause-says : goal.returns-clause-says
 returns-clause-says c =
     let k = c.args.self.now in
     let step = c.args.step.now in
-    let before = c.args.out.now.items in
+    let before = c.args.out.now in
     let paused = out.State k.id c.args.phase in
     let begun = auction_begun k step c.args.b.now in
     let said = becoming k c.args.phase ++ collars_of k.id begun in

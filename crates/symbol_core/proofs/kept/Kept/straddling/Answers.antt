@@ -14,7 +14,7 @@ returns-then-not-self-clause-says c = λ opened.
     let was : k.straddling ≡ false = c.if-not-self.true in
     let says : straddling k c.args.step.now ≡ out.Straddle k.id true ∷ [] =
     λ i. if now i && not (was i) then out.Straddle k.id true ∷ [] else if was i && not (now i) then out.Straddle k.id false ∷ [] else [] in
-    subst (λ (ms : List Message). Says ms c.args.step.now (in_step k opened) (in_step c.say_straddle.new.self opened) c.args.out.now.items c.say_straddle.new.out.items) (sym says) (c.say_straddle.ensures.says opened)
+    subst (λ (ms : List Message). Says ms c.args.step.now (in_step k opened) (in_step c.say_straddle.new.self opened) c.args.out.now c.say_straddle.new.out) (sym says) (c.say_straddle.ensures.says opened)
 
 pub returns-then-not-is_straddling-clause-says : goal.returns-then-not-is_straddling-clause-says
 returns-then-not-is_straddling-clause-says c = λ opened.
@@ -24,4 +24,4 @@ returns-then-not-is_straddling-clause-says c = λ opened.
     let says : straddling k c.args.step.now ≡ out.Straddle k.id false ∷ [] =
     λ i. if now i && not (was i) then out.Straddle k.id true ∷ [] else if was i && not (now i) then out.Straddle k.id false ∷ [] else [] in
     let said = c.say_straddle-then-not-is_straddling in
-    subst (λ (ms : List Message). Says ms c.args.step.now (in_step k opened) (in_step said.new.self opened) c.args.out.now.items said.new.out.items) (sym says) (said.ensures.says opened)
+    subst (λ (ms : List Message). Says ms c.args.step.now (in_step k opened) (in_step said.new.self opened) c.args.out.now said.new.out) (sym says) (said.ensures.says opened)

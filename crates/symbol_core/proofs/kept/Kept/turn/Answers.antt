@@ -4,7 +4,7 @@ use Rattle.symbol_core.proofs.kept.Kept.turn.Goals as goal
 
 pub returns-clause-obeys : goal.returns-clause-obeys
 returns-clause-obeys c =
-    turns-obey (in_step c.args.self.now c.args.opened.now) (in_step c.turn_to.new.self c.turn_to.new.opened) (in_step c.turn_to-2.new.self c.turn_to-2.new.opened) c.args.step.now _ _ c.args.out.now.items c.turn_to.new.out.items c.turn_to-2.new.out.items
+    turns-obey (in_step c.args.self.now c.args.opened.now) (in_step c.turn_to.new.self c.turn_to.new.opened) (in_step c.turn_to-2.new.self c.turn_to-2.new.opened) c.args.step.now _ _ c.args.out.now c.turn_to.new.out c.turn_to-2.new.out
     c.brakes.ensures c.turn-turned.ensures.all c.turn_to.ensures.says c.turn_to-2.ensures.says
 
 pub turn_to-requires-clause-unpaused : goal.turn_to-requires-clause-unpaused

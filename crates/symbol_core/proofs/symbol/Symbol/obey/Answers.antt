@@ -1,3 +1,4 @@
+use Rattle.std.proofs.Common.{refl}
 use Rattle.symbol_core.proofs.Evaluated.{step-obeyed}
 use Rattle.symbol_core.proofs.Quiet.{waits-held}
 use Rattle.symbol_core.proofs.symbol.Symbol.obey.Goals as goal
@@ -9,5 +10,5 @@ take_step-self-inside-requires-clause-waits c =
 pub returns-clause-ok : goal.returns-clause-ok
 returns-clause-ok c =
     step-obeyed c.args.market.now c.args.x.now c.args.self.now c.self.inside.kept c.self.inside.deals.deals c.reserve_for.new.deals.deals
-    (record { kept = c.take_step-self-inside.new.k; deals = c.take_step-self-inside.new.deals.deals }) c.args.out.now.items c.reserve.new.self.items c.take_step-self-inside.new.out.items c.step_of-step.result
-    c.self.view_is c.step_of-step.ensures c.reserve_for.ensures.deals c.reserve.ensures.items c.requires.day c.requires.listed c.take_step-self-inside.ensures.steps
+    (record { kept = c.take_step-self-inside.new.k; deals = c.take_step-self-inside.new.deals.deals }) c.args.out.now c.args.out.now c.take_step-self-inside.new.out c.step_of-step.result
+    c.self.view_is c.step_of-step.ensures c.reserve_for.ensures.deals refl c.requires.day c.requires.listed c.take_step-self-inside.ensures.steps

@@ -20,10 +20,10 @@ due_still-requires c =
     let deals = c.self.inside.deals.deals in
     let due = c.args.awaited.now.due in
     let deal = c.args.awaited.now.deal in
-    let at : due.from ≡ moment_of x = c.requires.from in
+    let at : due.from ≡ moment_of x = c.requires.awaited.from in
     let gone : c.drop_old.new.deals.deals ≡ live (moment_of x) deals = c.drop_old.ensures.deals ∙ (λ i. live (at i) (c.reserve_deal.ensures.deals i)) in
     let added : c.add_one.new.deals.deals ≡ live (moment_of x) deals ++ option_to_list deal = c.add_one.ensures ∙ ap (λ (ds : List Deal). ds ++ option_to_list deal) gone in
-    let w = subst (λ (held : Held). IsAwaited held.kept market x deal due) (sym c.self.view_is) c.requires in
+    let w = subst (λ (held : Held). IsAwaited held.kept market x deal due) (sym c.self.view_is) c.requires.awaited in
     subst (λ (ds : List Deal). IsStill k ds due) (sym added)
     (dealt-still market x k deals due deal w (keeps-at k c.drop_old.new.deals.deals (live (moment_of x) deals) deal due.from (moment_of x) c.keeps_price.result at gone c.keeps_price.ensures c.if-keeps_price.true))
 
@@ -35,15 +35,14 @@ returns-then-keeps_price-clause-ok c =
     let deals = c.self.inside.deals.deals in
     let due = c.args.awaited.now.due in
     let deal = c.args.awaited.now.deal in
-    let before = c.args.out.now.items in
-    let at : due.from ≡ moment_of x = c.requires.from in
+    let before = c.args.out.now in
+    let at : due.from ≡ moment_of x = c.requires.awaited.from in
     let gone : c.drop_old.new.deals.deals ≡ live (moment_of x) deals = c.drop_old.ensures.deals ∙ (λ i. live (at i) (c.reserve_deal.ensures.deals i)) in
     let added : c.add_one.new.deals.deals ≡ live (moment_of x) deals ++ option_to_list deal = c.add_one.ensures ∙ ap (λ (ds : List Deal). ds ++ option_to_list deal) gone in
-    let w = subst (λ (held : Held). IsAwaited held.kept market x deal due) (sym c.self.view_is) c.requires in
-    subst (λ (ms : List Message). Evaluates market x c.args.self.now (record { kept = k; deals = c.add_one.new.deals.deals }) before ms) (sym c.reserve.ensures.items)
-    (subst (λ (ds : List Deal). Evaluates market x c.args.self.now (record { kept = k; deals = ds }) before before) (sym added)
+    let w = subst (λ (held : Held). IsAwaited held.kept market x deal due) (sym c.self.view_is) c.requires.awaited in
+    subst (λ (ds : List Deal). Evaluates market x c.args.self.now (record { kept = k; deals = ds }) before before) (sym added)
     (subst (λ (held : Held). Evaluates market x held (record { kept = k; deals = live (moment_of x) deals ++ option_to_list deal }) before before) c.self.view_is
-    (dealt-evaluated market x k deals due deal w (keeps-at k c.drop_old.new.deals.deals (live (moment_of x) deals) deal due.from (moment_of x) c.keeps_price.result at gone c.keeps_price.ensures c.if-keeps_price.true) before)))
+    (dealt-evaluated market x k deals due deal w (keeps-at k c.drop_old.new.deals.deals (live (moment_of x) deals) deal due.from (moment_of x) c.keeps_price.result at gone c.keeps_price.ensures c.if-keeps_price.true) before))
 
 pub returns-then-keeps_price-clause-recent : goal.returns-then-keeps_price-clause-recent
 returns-then-keeps_price-clause-recent c =
@@ -53,10 +52,10 @@ returns-then-keeps_price-clause-recent c =
     let deals = c.self.inside.deals.deals in
     let due = c.args.awaited.now.due in
     let deal = c.args.awaited.now.deal in
-    let at : due.from ≡ moment_of x = c.requires.from in
+    let at : due.from ≡ moment_of x = c.requires.awaited.from in
     let gone : c.drop_old.new.deals.deals ≡ live (moment_of x) deals = c.drop_old.ensures.deals ∙ (λ i. live (at i) (c.reserve_deal.ensures.deals i)) in
     let added : c.add_one.new.deals.deals ≡ live (moment_of x) deals ++ option_to_list deal = c.add_one.ensures ∙ ap (λ (ds : List Deal). ds ++ option_to_list deal) gone in
-    let w = subst (λ (held : Held). IsAwaited held.kept market x deal due) (sym c.self.view_is) c.requires in
+    let w = subst (λ (held : Held). IsAwaited held.kept market x deal due) (sym c.self.view_is) c.requires.awaited in
     ap (live (moment_of x)) added
     ∙ dealt-recent market x k deals due deal w (keeps-at k c.drop_old.new.deals.deals (live (moment_of x) deals) deal due.from (moment_of x) c.keeps_price.result at gone c.keeps_price.ensures c.if-keeps_price.true)
     ∙ sym added
@@ -73,13 +72,13 @@ returns-clause-ok c =
     let moment = ap (λ (s : Step). s.moment) c.step_of-step.ensures in
     let gone : c.drop_old.new.deals.deals ≡ live due.from deals = c.drop_old.ensures.deals ∙ ap (live due.from) c.reserve_deal.ensures.deals in
     step-obeyed market x held c.self.inside.kept deals deals
-    (record { kept = c.take_moved-self-inside.new.k; deals = c.take_moved-self-inside.new.deals.deals }) c.args.out.now.items c.reserve.new.self.items c.take_moved-self-inside.new.out.items step
-    c.self.view_is c.step_of-step.ensures refl c.reserve.ensures.items (awaited-no_day held.kept market x deal due c.requires) (awaited-here held.kept market x deal due c.requires)
-    (c.take_moved-self-inside.ensures.steps deals (sym (gone ∙ ap (λ (t : ℕ). live t deals) (c.requires.from ∙ sym moment))))
+    (record { kept = c.take_moved-self-inside.new.k; deals = c.take_moved-self-inside.new.deals.deals }) c.args.out.now c.args.out.now c.take_moved-self-inside.new.out step
+    c.self.view_is c.step_of-step.ensures refl refl (awaited-no_day held.kept market x deal due c.requires.awaited) (awaited-here held.kept market x deal due c.requires.awaited)
+    (c.take_moved-self-inside.ensures.steps deals (sym (gone ∙ ap (λ (t : ℕ). live t deals) (c.requires.awaited.from ∙ sym moment))))
 
 pub take_moved-self-inside-requires-clause-awaited : goal.take_moved-self-inside-requires-clause-awaited
 take_moved-self-inside-requires-clause-awaited c =
     let due = c.args.awaited.now.due in
     let deal = c.args.awaited.now.deal in
     subst (λ (s : Step). IsAwaited c.self.inside.kept (record { day = s.day; stopped = s.stopped }) s.input deal due) (sym c.step_of-step.ensures)
-    (subst (λ (held : Held). IsAwaited held.kept c.args.market.now c.args.x.now deal due) (sym c.self.view_is) c.requires)
+    (subst (λ (held : Held). IsAwaited held.kept c.args.market.now c.args.x.now deal due) (sym c.self.view_is) c.requires.awaited)
