@@ -1,7 +1,6 @@
 use Rattle.std.proofs.Common.{◌≡◌, ℕ, List, ◌++◌, refl, sym, ap, subst, ◌∙◌}
 use Rattle.std.specs.Prelude.{option_to_list}
 use Rattle.wire_in.specs.Records.{moment_of}
-use Rattle.wire_out.specs.declared.message.Message.{Message}
 use Rattle.window_core.specs.declared.window.Deal.{Deal}
 use Rattle.window_core.specs.Deals.{live}
 use Rattle.symbol_core.specs.declared.kept.Step.{Step}
