@@ -21,7 +21,7 @@ use Rattle.symbol_core.specs.Auctions.{auction_by}
 use Rattle.symbol_core.specs.Stands.{Stands}
 use Rattle.symbol_core.proofs.Deals.{deals_from}
 use Rattle.symbol_core.proofs.Histories.{last-other}
-use Rattle.symbol_core.proofs.Messages.{RunStays, last_adoption, run_stays}
+use Rattle.symbol_core.proofs.OtherMessages.{RunStays, last_adoption, run_stays}
 use Rattle.wire_out.specs.declared.message.Message.TheVariants as out
 use Rattle.price_core.specs.declared.quote.Collars.{Collars}
 use Rattle.rulebook.specs.Auction as auction

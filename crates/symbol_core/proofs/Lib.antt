@@ -3,7 +3,7 @@ pub mod Runs
 pub mod Deals
 pub mod Phases
 pub mod Pauses
-pub mod Messages
+pub mod OtherMessages
 pub mod Chains
 pub mod Gives
 pub mod Turning

@@ -25,7 +25,7 @@ use Rattle.symbol_core.specs.Window.{SameLive, counted_deal}
 use Rattle.symbol_core.specs.Stands.{Stands}
 use Rattle.symbol_core.proofs.Deals.{deals_said, window_begins}
 use Rattle.symbol_core.proofs.Runs.{by_test}
-use Rattle.symbol_core.proofs.Messages.{RunStays, collared-round, run_stays, stands-collared}
+use Rattle.symbol_core.proofs.OtherMessages.{RunStays, collared-round, run_stays, stands-collared}
 use Rattle.rulebook.proofs.Histories.{now-today}
 use Rattle.symbol_core.proofs.Histories.{newest-today, of_run, last-own, state-own, begins-own, pauses-own, record_alone}
 use Rattle.session_core.specs.declared.state.Phase.TheVariants.{Shut}

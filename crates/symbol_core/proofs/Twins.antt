@@ -53,7 +53,7 @@ use Rattle.symbol_core.proofs.Apart.{stands-listed}
 use Rattle.symbol_core.proofs.Evaluated.{away, away-open, evaluated-away, starts, step_for}
 use Rattle.symbol_core.proofs.Finished.{rests-finished}
 use Rattle.symbol_core.proofs.Gives.{announced-gives, banding-gives, enter-gives, entering, leave-gives, leaving, mean-gives, pause-gives, reopen-gives, restrict-gives, restricting, straddle-gives, turned-gives}
-use Rattle.symbol_core.proofs.Messages.{stands-banded, stands-released, stands-short, stands-straddled, stands-with_round}
+use Rattle.symbol_core.proofs.OtherMessages.{stands-banded, stands-released, stands-short, stands-straddled, stands-with_round}
 use Rattle.symbol_core.proofs.Pauses.{Unpaused, alone, close-unpaused, halt-unpaused, priced-adopts, priced-unpaused, start-unpaused, stop-unpaused, trading-unpaused}
 use Rattle.symbol_core.proofs.Phases.{stands-paused, stands-turned}
 use Rattle.symbol_core.proofs.Resting.{rests-renewed}

@@ -25,12 +25,16 @@ straddle-requires-clause-goes_on c = c.enter_limit.ensures.obeys.goes_on
 pub restrict-requires-clause-goes_on : goal.restrict-requires-clause-goes_on
 restrict-requires-clause-goes_on c = (c.straddle.ensures.obeys c.enter_limit.new.opened).goes_on
 
-pub returns-then-is_done-clause-obeys : goal.returns-then-is_done-clause-obeys
-returns-then-is_done-clause-obeys c =
+pub returns-then-is_done : goal.returns-then-is_done
+returns-then-is_done c =
     let deals = c.args.deals.now.deals in
-    then_all (c.turn.ensures.obeys deals) (closed deals later_rules c.args.step.now (in_step c.turn.new.self c.turn.new.opened) c.turn.new.out (sym c.is_done.ensures ∙ c.if-is_done.true))
+    record {
+      obeys = then_all (c.turn.ensures.obeys deals) (closed deals later_rules c.args.step.now (in_step c.turn.new.self c.turn.new.opened) c.turn.new.out (sym c.is_done.ensures ∙ c.if-is_done.true));
+    }
 
-pub returns-clause-obeys : goal.returns-clause-obeys
-returns-clause-obeys c =
+pub returns : goal.returns
+returns c =
     let deals = c.args.deals.now.deals in
-    then_all (c.turn.ensures.obeys deals) (next (with_deals deals c.pause.ensures.obeys) (next (with_deals deals c.reopen.ensures.obeys) (next (with_deals deals c.leave_limit.ensures.obeys) (next c.publish_band.ensures.obeys (next (with_deals deals c.enter_limit.ensures.obeys) (next (with_deals deals (c.straddle.ensures.obeys c.enter_limit.new.opened)) (next (with_deals deals c.restrict.ensures.obeys) (last deals c.args.step.now (in_step c.restrict.new.self c.enter_limit.new.opened) c.restrict.new.out))))))))
+    record {
+      obeys = then_all (c.turn.ensures.obeys deals) (next (with_deals deals c.pause.ensures.obeys) (next (with_deals deals c.reopen.ensures.obeys) (next (with_deals deals c.leave_limit.ensures.obeys) (next c.publish_band.ensures.obeys (next (with_deals deals c.enter_limit.ensures.obeys) (next (with_deals deals (c.straddle.ensures.obeys c.enter_limit.new.opened)) (next (with_deals deals c.restrict.ensures.obeys) (last deals c.args.step.now (in_step c.restrict.new.self c.enter_limit.new.opened) c.restrict.new.out))))))));
+    }

@@ -1,6 +1,6 @@
 use Rattle.std.proofs.Common.{ap}
 use Rattle.symbol_core.specs.InStep.{InStep, in_step}
-use Rattle.symbol_core.proofs.Messages.{stands-banded}
+use Rattle.symbol_core.proofs.OtherMessages.{stands-banded}
 use Rattle.symbol_core.proofs.kept.Kept.say_band.Goals as goal
 
 pub returns-clause-says : goal.returns-clause-says

@@ -1,6 +1,6 @@
 use Rattle.std.proofs.Common.{refl}
 use Rattle.wire_out.specs.declared.message.ShortKind.TheVariants.{Carried}
-use Rattle.symbol_core.proofs.Messages.{stands-short}
+use Rattle.symbol_core.proofs.OtherMessages.{stands-short}
 use Rattle.symbol_core.specs.InStep.{in_step}
 use Rattle.symbol_core.proofs.kept.Kept.say_carried.Goals as goal
 

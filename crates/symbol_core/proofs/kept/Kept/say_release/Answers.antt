@@ -1,5 +1,5 @@
 use Rattle.std.proofs.Common.{refl}
-use Rattle.symbol_core.proofs.Messages.{stands-released}
+use Rattle.symbol_core.proofs.OtherMessages.{stands-released}
 use Rattle.symbol_core.specs.InStep.{in_step}
 use Rattle.symbol_core.proofs.kept.Kept.say_release.Goals as goal
 

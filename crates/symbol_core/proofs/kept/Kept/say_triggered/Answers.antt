@@ -1,6 +1,6 @@
 use Rattle.std.proofs.Common.{refl}
 use Rattle.wire_out.specs.declared.message.ShortKind.TheVariants.{Triggered}
-use Rattle.symbol_core.proofs.Messages.{stands-short}
+use Rattle.symbol_core.proofs.OtherMessages.{stands-short}
 use Rattle.symbol_core.specs.InStep.{in_step}
 use Rattle.symbol_core.proofs.kept.Kept.say_triggered.Goals as goal
 
