@@ -16,6 +16,6 @@ in_step k opened = record { kept = k; opened = opened }
 abbrev pub just_opened : Option Deal → Bool → OpenStep
 just_opened deal restricts = record { left_limit = false; is_fresh = false; restricts = restricts; released = None; deal = deal }
 
--- a step without anything of its own
+-- a stock in a step that has nothing of its own
 abbrev pub at_rest : Kept → InStep
 at_rest k = in_step k (just_opened None false)
