@@ -115,7 +115,9 @@ impl Generator {
         })
     }
 
-    /// The next record; None exactly where all were given.
+    /// The next record; None exactly where all were given. It is joined into the loop that asks, so that a record is made where it
+    /// is used.
+    #[inline(always)]
     pub fn next(&mut self) -> Option<Record>
         ensures first { GivesFirst result self.old self.new }
         ensures range { IfSome result InRange }
