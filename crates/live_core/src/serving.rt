@@ -11,7 +11,7 @@ use engine_core::{Round, serve_input};
 use host_core::{Host, Status};
 use journal_core::{BATCH_MAX, Batch};
 use price_core::NoMemory;
-use recovery_core::Recovery;
+use recovery_core::{Recovery, Waiting};
 use std::alloc::Global;
 use std::thread::Threads;
 use stream_core::{Outbox, PIECE, answer_of};
@@ -43,7 +43,7 @@ fn room(alloc: Global, options: &ServeOptions) -> Result<(Restoring, Vec<u8>), N
     let restoring = Restoring {
         outbox: Outbox::new(alloc)?,
         batch: Batch::new(alloc)?,
-        waiting: Round::new(alloc, Recovery::most_waiting(options.workers))?,
+        waiting: Waiting::new(alloc, Recovery::most_waiting(options.workers))?,
         round: Round::new(alloc, options.batch as usize)?,
     };
     Ok((restoring, vec![in alloc; 0; PIECE]?))

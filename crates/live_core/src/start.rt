@@ -7,7 +7,7 @@ use crate::keeper::JournalKeeper;
 use engine_core::{Round, Session};
 use host_core::{Host, Status};
 use journal_core::{BATCH_MAX, Batch};
-use recovery_core::Recovery;
+use recovery_core::{Recovery, Waiting};
 use std::alloc::Global;
 use std::thread::Threads;
 use stream_core::Outbox;
@@ -42,7 +42,7 @@ fn finish(recovery: Recovery, round: Round, batch: Batch) -> Serving
 pub struct Restoring {
     pub outbox: Outbox,
     pub batch: Batch,
-    pub waiting: Round,
+    pub waiting: Waiting,
     pub round: Round,
 }
 

@@ -33,7 +33,7 @@ use Rattle.stream_core.proofs.Pending.{expects_still}
 use Rattle.stream_core.proofs.Sending.{waits, sends_on, sends_longer}
 use Rattle.engine_core.specs.declared.engine.Engine.{Engine}
 use Rattle.engine_core.specs.EngineState.{Represents}
-use Rattle.engine_core.specs.Rounds.{Outcome, RoundState, records_in}
+use Rattle.recovery_core.specs.Waiting.{WaitingState}
 use Rattle.recovery_core.specs.declared.recovery.Recovery.{Recovery}
 use Rattle.recovery_core.specs.Recoveries.{again, opening, Admits, Refuses, Resumes, IsPart, Covers, SendsAgain, StarvesAgain, Rests, Recovers, Gathers, OnlyRecovers, Hinders}
 use Rattle.recovery_core.specs.Damage.{IsDamagedAt}
@@ -142,18 +142,18 @@ module _ (from : Option ℕ) {begin : Option (List ℕ)} {disk : List ℕ} {reco
   }
 
 -- nothing waits yet
-pub gathers_first : {from : Option ℕ} {begin : Option (List ℕ)} {disk : List ℕ} {recovery : Recovery} {now : Outside} {waiting : RoundState} → Recovers (again from) begin disk recovery now
-    → waiting ≡ record recovery.waiting { outcomes = [] } → Gathers from begin disk (record recovery { waiting = waiting }) now
+pub gathers_first : {from : Option ℕ} {begin : Option (List ℕ)} {disk : List ℕ} {recovery : Recovery} {now : Outside} {waiting : WaitingState} → Recovers (again from) begin disk recovery now
+    → waiting ≡ record recovery.waiting { records = [] } → Gathers from begin disk (record recovery { waiting = waiting }) now
 gathers_first {from} {begin} {disk} {recovery} {now} r none =
-    subst (λ (w : RoundState). Gathers from begin disk (record recovery { waiting = w }) now) (sym none)
+    subst (λ (w : WaitingState). Gathers from begin disk (record recovery { waiting = w }) now) (sym none)
     (record { rests = r.rests; batches = r.batches; read = r.read; resumes = record { held = records_of r.batches; whole = refl; admits = r.admits; ahead = r.idle; pending_is = r.pending_is } })
 
 -- nothing waits any more
 pub gathered : {from : Option ℕ} {begin : Option (List ℕ)} {disk : List ℕ} {recovery : Recovery} {now : Outside} → Gathers from begin disk recovery now
-    → recovery.waiting.outcomes ≡ [] → Recovers (again from) begin disk recovery now
+    → recovery.waiting.records ≡ [] → Recovers (again from) begin disk recovery now
 gathered {from} {begin} {recovery = recovery} {now = now} g none =
     let last : Resumes from recovery.scan.capacity (records_of g.batches) [] [] begin recovery.engine recovery.outbox now =
-    subst (λ (outcomes : List Outcome). Resumes from recovery.scan.capacity (records_of g.batches) (records_in outcomes) [] begin recovery.engine recovery.outbox now) none g.resumes in
+    subst (λ (waiting : List Record). Resumes from recovery.scan.capacity (records_of g.batches) waiting [] begin recovery.engine recovery.outbox now) none g.resumes in
     record {
       rests = g.rests;
       batches = g.batches;
@@ -180,17 +180,17 @@ module _ {from : Option ℕ} {begin : Option (List ℕ)} {disk : List ℕ} {reco
       starved_further (covered all covers) (subst (λ (n : ℕ). StarvedAtRecord n from (records_of g.batches) begin new.sent) same hungry)
 
   -- all of them are evaluated
-  pub resumed : (engine : Engine) (outbox : List ℕ) {after : RoundState} {new : Outside} → after ≡ record recovery.waiting { outcomes = [] } → Rests disk new
+  pub resumed : (engine : Engine) (outbox : List ℕ) {after : WaitingState} {new : Outside} → after ≡ record recovery.waiting { records = [] } → Rests disk new
       → Resumes from recovery.scan.capacity (records_of g.batches) [] [] begin engine outbox new
       → Gathers from begin disk (record { scan = recovery.scan; engine = engine; outbox = outbox; waiting = after }) new
   resumed engine outbox {new = new} none rests resumes =
-      subst (λ (w : RoundState). Gathers from begin disk (record { scan = recovery.scan; engine = engine; outbox = outbox; waiting = w }) new) (sym none)
+      subst (λ (w : WaitingState). Gathers from begin disk (record { scan = recovery.scan; engine = engine; outbox = outbox; waiting = w }) new) (sym none)
       (record { rests = rests; batches = g.batches; read = g.read; resumes = resumes })
 
   -- It is read on.
   module _ {new : Outside} (reads : OnlyReadsDisk now new) (scan : ScanState) (same : scan.capacity ≡ recovery.scan.capacity) where
-    gathers_on : {batches : List (List Record)} → HasRead scan batches disk → (engine : Engine) (waiting : RoundState) → engine ≡ record recovery.engine { admission = engine.admission }
-        → with_batch g.resumes.held (records_in waiting.outcomes) ≡ records_of batches → Admits recovery.scan.capacity (records_of batches) g.resumes.held engine
+    gathers_on : {batches : List (List Record)} → HasRead scan batches disk → (engine : Engine) (waiting : WaitingState) → engine ≡ record recovery.engine { admission = engine.admission }
+        → with_batch g.resumes.held waiting.records ≡ records_of batches → Admits recovery.scan.capacity (records_of batches) g.resumes.held engine
         → Gathers from begin disk (record { scan = scan; engine = engine; outbox = recovery.outbox; waiting = waiting }) new
     gathers_on {batches} read engine waiting rest whole admits = record {
       rests = record { known = reads.disk ∙ g.rests.known; settled = still_settled reads.moments reads.disk g.rests.settled };
@@ -212,13 +212,13 @@ module _ {from : Option ℕ} {begin : Option (List ℕ)} {disk : List ℕ} {reco
     -- a batch
     module _ {list batch : List Record} (is : list ≡ batch) (read : HasRead scan (g.batches ++ batch ∷ []) disk) where
       -- all of it was admitted
-      pub gathers_batch : (engine : Engine) (after : RoundState) → engine ≡ record recovery.engine { admission = engine.admission } → records_in after.outcomes ≡ records_in recovery.waiting.outcomes ++ list
+      pub gathers_batch : (engine : Engine) (after : WaitingState) → engine ≡ record recovery.engine { admission = engine.admission } → after.records ≡ recovery.waiting.records ++ list
           → Admits recovery.scan.capacity (with_batch (records_of g.batches) list) g.resumes.held engine
           → Gathers from begin disk (record { scan = scan; engine = engine; outbox = recovery.outbox; waiting = after }) new
       gathers_batch engine after rest waits admits =
           let more : with_batch (records_of g.batches) list ≡ records_of (g.batches ++ batch ∷ []) = ap (λ (b : List Record). with_batch (records_of g.batches) b) is ∙ sym (records_more g.batches batch) in
           gathers_on read engine after rest
-          (ap (λ (b : List Record). with_batch g.resumes.held b) waits ∙ in_parts g.resumes.held (records_in recovery.waiting.outcomes) list ∙ ap (λ (r : List Record). with_batch r list) g.resumes.whole ∙ more)
+          (ap (λ (b : List Record). with_batch g.resumes.held b) waits ∙ in_parts g.resumes.held recovery.waiting.records list ∙ ap (λ (r : List Record). with_batch r list) g.resumes.whole ∙ more)
           (subst (λ (r : List Record). Admits recovery.scan.capacity r g.resumes.held engine) more admits)
 
       -- a record of it may not follow

@@ -12,7 +12,6 @@ use Rattle.rulebook.specs.Sent.{hello, sent_again, spelled}
 use Rattle.evaluator_core.specs.Evaluating.{IsAhead, IsIdle}
 use Rattle.engine_core.specs.declared.engine.Engine.{Engine}
 use Rattle.engine_core.specs.EngineState.{Represents, IsRoomy}
-use Rattle.engine_core.specs.Rounds.{records_in}
 use Rattle.stream_core.specs.Pending.{Expects, SendsPrefix}
 use Rattle.recovery_core.specs.Damage.{IsDamagedAt}
 use Rattle.recovery_core.specs.Starved.{StarvedAtRecord}
@@ -94,7 +93,7 @@ pub record Gathers (from : Option ℕ) (begin : Option (List ℕ)) (disk : List 
   pub rests : Rests disk now
   pub batches : List (List Record)
   pub read : HasRead recovery.scan batches disk
-  pub resumes : Resumes from recovery.scan.capacity (records_of batches) (records_in recovery.waiting.outcomes) [] begin recovery.engine recovery.outbox now
+  pub resumes : Resumes from recovery.scan.capacity (records_of batches) recovery.waiting.records [] begin recovery.engine recovery.outbox now
 
 -- behind these records, the first of some more are lawful, up to one that may not follow
 pub record Refuses (capacity : ℕ) (accepted records : List Record) : Type 0 where

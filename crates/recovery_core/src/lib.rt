@@ -2,5 +2,7 @@
 #![tactic(auto)]
 
 mod recovery;
+mod waiting;
 
 pub use recovery::Recovery;
+pub use waiting::Waiting;

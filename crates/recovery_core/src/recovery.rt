@@ -11,12 +11,12 @@ ghost use Rattle.rulebook.specs.Sent.{spelled, numbered, hello, passed_over};
 ghost use Rattle.wire_out.specs.Spelling.{spelling};
 ghost use Rattle.evaluator_core.specs.Evaluating.{workers_of};
 ghost use Rattle.engine_core.specs.EngineState as engines;
-ghost use Rattle.engine_core.specs.Rounds.{records_in};
 ghost use Rattle.stream_core.specs.Pending.{Expects, SendsPrefix};
 ghost use Rattle.recovery_core.specs.Starved.{StarvedAtRecord};
 ghost use Rattle.recovery_core.specs.Recoveries.{again, IsSmall, Admits, Refuses, Resumes};
 
-use engine_core::{Engine, ROUND_MAX, Round, append_messages, evaluate, prepare};
+use crate::waiting::Waiting;
+use engine_core::{Engine, ROUND_MAX, append_messages, evaluate, prepare};
 use host_core::{Fault, Host, Status};
 use journal_core::{BATCH_MAX, Batch, Scan};
 use std::alloc::Global;
@@ -66,17 +66,17 @@ fn append_again<H: Host>(
     append_messages(outbox, host, before + skipped as u64, &messages[skipped..])
 }
 
-/// Admits records of the journal, one after the other, behind those that wait in a round. False: one may not follow those
+/// Admits records of the journal, one after the other, behind those that wait. False: one may not follow those
 /// before it, and those from it on are left out.
-fn admit_all(engine: &mut Engine, waiting: &mut Round, records: &[Record]) -> bool
-    requires room { length waiting.old.outcomes + length records.now ≤ waiting.old.most }
+fn admit_all(engine: &mut Engine, waiting: &mut Waiting, records: &[Record]) -> bool
+    requires room { length waiting.old.records + length records.now ≤ waiting.old.most }
     requires ranges { All InRange records.now }
     requires small { IsSmall engine.old }
     ensures admits { (capacity : ℕ) (accepted evaluated : List Record) → Admits capacity accepted evaluated engine.old
         → IsTrue result → Admits capacity (with_batch accepted records.now) evaluated engine.new }
     ensures refuses { (capacity : ℕ) (accepted evaluated : List Record) → Admits capacity accepted evaluated engine.old
         → ¬ IsTrue result → Refuses capacity accepted records.now }
-    ensures waits { IsTrue result → records_in waiting.new.outcomes ≡ records_in waiting.old.outcomes ++ records.now }
+    ensures waits { IsTrue result → waiting.new.records ≡ waiting.old.records ++ records.now }
     ensures rest { engine.new ≡ record engine.old { admission = engine.new.admission } }
     ensures small { IsSmall engine.new }
     ensures count { IsTrue result → engine.new.admission.count ≡ engine.old.admission.count + length records.now }
@@ -88,7 +88,7 @@ fn admit_all(engine: &mut Engine, waiting: &mut Round, records: &[Record]) -> bo
             return false;
         }
         engine.admit(x);
-        waiting.push(&Ok(*x));
+        waiting.push(x);
     }
     true
 }
@@ -164,7 +164,7 @@ pub struct Recovery {
     pub scan: Scan,
     pub engine: Engine,
     pub outbox: Outbox,
-    pub waiting: Round,
+    pub waiting: Waiting,
 }
 
 impl Recovery {
@@ -175,11 +175,11 @@ impl Recovery {
 
     /// Reads the next batch, and admits its records behind those that wait. False: the journal is at its end.
     fn gather<H: Host>(&mut self, host: &mut H, batch: &mut Batch) -> Result<bool, Status>
-        requires reading { IsReading self.old.scan self.old.engine (length (records_in self.old.waiting.outcomes)) (H.outside host.old).disk }
-        requires room { length self.old.waiting.outcomes + BATCH_MAX ≤ self.old.waiting.most }
+        requires reading { IsReading self.old.scan self.old.engine (length self.old.waiting.records) (H.outside host.old).disk }
+        requires room { length self.old.waiting.records + BATCH_MAX ≤ self.old.waiting.most }
         ensures gathers { (from : Option ℕ) (begin : Option (List ℕ)) (disk : List ℕ) → Gathers from begin disk self.old (H.outside host.old)
             → OnOk result (Gathers from begin disk self.new (H.outside host.new)) }
-        ensures reading { OnOk result (IsReading self.new.scan self.new.engine (length (records_in self.new.waiting.outcomes)) (H.outside host.new).disk) }
+        ensures reading { OnOk result (IsReading self.new.scan self.new.engine (length self.new.waiting.records) (H.outside host.new).disk) }
         ensures goes_on { result ≡ Ok true → self.old.scan.gate < self.new.scan.gate }
         ensures within { self.new.scan.gate ≤ self.new.scan.size }
         ensures size { self.new.scan.size ≡ self.old.scan.size }
@@ -212,15 +212,15 @@ impl Recovery {
         from: Option<u64>,
         more: bool,
     ) -> Result<(), Fault>
-        requires reading { IsReading self.old.scan self.old.engine (length (records_in self.old.waiting.outcomes)) (H.outside host.old).disk }
+        requires reading { IsReading self.old.scan self.old.engine (length self.old.waiting.records) (H.outside host.old).disk }
         requires most { BATCH_MAX ≤ self.old.waiting.most }
         ensures settles { (begin : Option (List ℕ)) (disk : List ℕ) → Gathers from begin disk self.old (H.outside host.old)
             → OnOk result (Gathers from begin disk self.new (H.outside host.new)) }
         ensures moments { (begin : Option (List ℕ)) (disk : List ℕ) → Gathers from begin disk self.old (H.outside host.old)
             → SendsAgain from begin disk (H.outside host.old) (H.outside host.new) }
-        ensures reading { OnOk result (IsReading self.new.scan self.new.engine (length (records_in self.new.waiting.outcomes)) (H.outside host.new).disk) }
-        ensures all { ¬ IsTrue more → OnOk result (self.new.waiting.outcomes ≡ []) }
-        ensures room { OnOk result (length self.new.waiting.outcomes + BATCH_MAX ≤ self.new.waiting.most) }
+        ensures reading { OnOk result (IsReading self.new.scan self.new.engine (length self.new.waiting.records) (H.outside host.new).disk) }
+        ensures all { ¬ IsTrue more → OnOk result (self.new.waiting.records ≡ []) }
+        ensures room { OnOk result (length self.new.waiting.records + BATCH_MAX ≤ self.new.waiting.most) }
         ensures scan { self.new.scan ≡ self.old.scan }
         ensures workers { workers_of self.new.engine.evaluator ≡ workers_of self.old.engine.evaluator }
         ensures keeps { OnlySends (H.outside host.old) (H.outside host.new) }
@@ -229,10 +229,10 @@ impl Recovery {
         ensures starved { (begin : Option (List ℕ)) (disk : List ℕ) → Gathers from begin disk self.old (H.outside host.old)
             → result ≡ Err Fault.Memory → StarvesAgain (workers_of self.old.engine.evaluator) from begin disk (H.outside host.new) }
     {
-        if more && self.waiting.len() + BATCH_MAX <= self.waiting.most() {
+        if more && self.waiting.has_room(BATCH_MAX) {
             return Ok(());
         }
-        let waiting = self.waiting.accepted();
+        let waiting = self.waiting.list();
         prepare(rt, &mut self.engine, &mut self.outbox, host, gate, waiting)?;
         resume_all(&mut self.engine, &mut self.outbox, host, from, waiting)?;
         self.waiting.clear();
@@ -319,13 +319,13 @@ impl Recovery {
         }
     }
 
-    /// Begins at the header of a journal, for so many workers, from 1 to 64. The round has room for a batch.
+    /// Begins at the header of a journal, for so many workers, from 1 to 64. What waits has room for a batch.
     pub fn begin<H: Host>(
         alloc: Global,
         host: &mut H,
         workers: u32,
         outbox: Outbox,
-        waiting: Round,
+        waiting: Waiting,
     ) -> Result<Recovery, Status>
         requires workers { (1 ≤ workers) × (workers ≤ 64) }
         requires outbox { outbox ≡ [] }

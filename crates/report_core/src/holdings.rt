@@ -7,12 +7,11 @@ ghost use Rattle.engine_core.specs.EngineState.{Represents};
 ghost use Rattle.report_core.specs.InternalReport.{Tells, IsTold, IsGathered, IsUngathered};
 ghost use Rattle.report_core.specs.Reported.{Reported, line, day_word, report_of};
 
-use engine_core::Round;
 use host_core::{Host, Status, send_all};
 use itoa::Buffer;
 use journal_core::{BATCH_MAX, Batch};
 use price_core::NoMemory;
-use recovery_core::Recovery;
+use recovery_core::{Recovery, Waiting};
 use session_core::{Day, date_text};
 use std::alloc::Global;
 use std::thread::Threads;
@@ -84,7 +83,7 @@ fn tell<H: Host>(alloc: Global, host: &mut H, recovery: &Recovery) -> Status
 struct Room {
     outbox: Outbox,
     batch: Batch,
-    waiting: Round,
+    waiting: Waiting,
 }
 
 impl Room {
@@ -95,7 +94,7 @@ impl Room {
         Ok(Room {
             outbox: Outbox::new(alloc)?,
             batch: Batch::new(alloc)?,
-            waiting: Round::new(alloc, Recovery::most_waiting(1))?,
+            waiting: Waiting::new(alloc, Recovery::most_waiting(1))?,
         })
     }
 }

@@ -3,8 +3,7 @@ use Rattle.std.proofs.lemmas.List.{append-nil, length-append, take_all, take_mor
 use Rattle.wire_in.specs.declared.record.Record.{Record}
 use Rattle.journal_core.specs.Layout.{with_batch}
 use Rattle.rulebook.specs.Admission.{verdict}
-use Rattle.engine_core.specs.Rounds.{RoundState, records_in}
-use Rattle.engine_core.proofs.Rounds.{records-append}
+use Rattle.recovery_core.specs.Waiting.{WaitingState}
 use Rattle.engine_core.proofs.Answering.{drop_one}
 use Rattle.recovery_core.specs.Recoveries.{Admits}
 use Rattle.recovery_core.proofs.Recovering.{with_next}
@@ -13,7 +12,7 @@ use Rattle.recovery_core.proofs.recovery.admit_all.Goals as goal
 pub loop-x-init : goal.loop-x-init
 loop-x-init c = record {
   waits = sym (append-nil _);
-  outcomes = omega arith;
+  len = omega arith;
   admits = λ capacity accepted evaluated first. first;
   rest = refl;
   small = c.requires.small;
@@ -29,10 +28,10 @@ loop-x-preserved c =
     let x = c.x-item.result in
     let none : c.verdict.result ≡ None = search rules in
     record {
-      waits = ap (λ (round : RoundState). records_in round.outcomes) c.push.ensures ∙ records-append c.loop-x.waiting.outcomes (Ok x ∷ []) ∙ ap (λ (l : List Record). l ++ x ∷ []) c.loop-x.invariant.waits
-          ∙ append_assoc (records_in c.args.waiting.now.outcomes) (take i xs) (x ∷ [])
-          ∙ ap (λ (l : List Record). records_in c.args.waiting.now.outcomes ++ l) (sym (take_more xs i x c.loop-x-test.true ∙ ap (λ (y : Record). take i xs ++ y ∷ []) (sym c.x-item.is)));
-      outcomes = omega (arith, ap (λ (round : RoundState). length round.outcomes) c.push.ensures, length-append c.loop-x.waiting.outcomes (Ok x ∷ []), c.loop-x.invariant.outcomes);
+      waits = ap (λ (waiting : WaitingState). waiting.records) c.push.ensures ∙ ap (λ (l : List Record). l ++ x ∷ []) c.loop-x.invariant.waits
+          ∙ append_assoc c.args.waiting.now.records (take i xs) (x ∷ [])
+          ∙ ap (λ (l : List Record). c.args.waiting.now.records ++ l) (sym (take_more xs i x c.loop-x-test.true ∙ ap (λ (y : Record). take i xs ++ y ∷ []) (sym c.x-item.is)));
+      len = omega (arith, ap (λ (waiting : WaitingState). length waiting.records) c.push.ensures, length-append c.loop-x.waiting.records (x ∷ []), c.loop-x.invariant.len);
       admits = λ capacity accepted evaluated first.
           let a = c.loop-x.invariant.admits capacity accepted evaluated first in
           subst (λ (all : List Record). Admits capacity all evaluated c.admit.new.self) (sym (with_next accepted xs i x c.loop-x-test.true c.x-item.is)) (record {
@@ -68,4 +67,4 @@ returns-clause-admits c = λ capacity accepted evaluated first yes.
 
 pub returns-clause-waits : goal.returns-clause-waits
 returns-clause-waits c = λ yes.
-    c.loop-x.invariant.waits ∙ ap (λ (l : List Record). records_in c.args.waiting.now.outcomes ++ l) (take_all c.loop-x.x-index c.args.records.now c.loop-x-test.false)
+    c.loop-x.invariant.waits ∙ ap (λ (l : List Record). c.args.waiting.now.records ++ l) (take_all c.loop-x.x-index c.args.records.now c.loop-x-test.false)

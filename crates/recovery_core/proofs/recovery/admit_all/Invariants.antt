@@ -1,14 +1,13 @@
 use Rattle.std.proofs.Common.{◌≡◌, ◌+◌, ◌++◌, ℕ, List, length, take}
 use Rattle.wire_in.specs.declared.record.Record.{Record}
 use Rattle.journal_core.specs.Layout.{with_batch}
-use Rattle.engine_core.specs.Rounds.{records_in}
 use Rattle.recovery_core.specs.Recoveries.{IsSmall, Admits}
 use Rattle.recovery_core.proofs.recovery.admit_all.Given as goal
 
 abbrev pub invariant-loop-x : goal.invariant-loop-x
 invariant-loop-x l = record {
-  waits : records_in l.waiting.outcomes ≡ records_in l.initial.waiting.outcomes ++ take l.x-index l.records;
-  outcomes : length l.waiting.outcomes ≡ length l.initial.waiting.outcomes + l.x-index;
+  waits : l.waiting.records ≡ l.initial.waiting.records ++ take l.x-index l.records;
+  len : length l.waiting.records ≡ length l.initial.waiting.records + l.x-index;
   admits : (capacity : ℕ) (accepted evaluated : List Record) → Admits capacity accepted evaluated l.initial.engine → Admits capacity (with_batch accepted (take l.x-index l.records)) evaluated l.engine;
   rest : l.engine ≡ record l.initial.engine { admission = l.engine.admission };
   small : IsSmall l.engine;

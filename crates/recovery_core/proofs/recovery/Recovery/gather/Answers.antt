@@ -3,7 +3,6 @@ use Rattle.std.proofs.lemmas.List.{length-append}
 use Rattle.host_core.proofs.Chains.{reads_faultless}
 use Rattle.journal_core.proofs.Places.{scan_reaches}
 use Rattle.engine_core.specs.EngineState.{IsRoomy}
-use Rattle.engine_core.specs.Rounds.{records_in}
 use Rattle.recovery_core.specs.Recoveries.{HasDamage}
 use Rattle.recovery_core.proofs.Recovering.{gathers_end, gathers_batch, bad_record_there, bad_form_there, answered_on, scan_hinders}
 use Rattle.recovery_core.proofs.recovery.Recovery.gather.Goals as goal
@@ -66,7 +65,7 @@ returns-clause-reading g c =
       capacity = c.next.ensures.capacity ∙ c.requires.reading.capacity ∙ sym c.admit_all-all.ensures.capacity;
       count = omega (arith, c.next.ensures.count, c.requires.reading.count, count, ap length c.list.ensures.records);
       small = c.admit_all-all.ensures.small;
-      all = omega (arith, c.requires.reading.all, count, ap (λ (e : _). e.evaluated) c.admit_all-all.ensures.rest, ap length (c.admit_all-all.ensures.waits c.if-not-all.false), length-append (records_in c.args.self.now.waiting.outcomes) c.list.result.now);
+      all = omega (arith, c.requires.reading.all, count, ap (λ (e : _). e.evaluated) c.admit_all-all.ensures.rest, ap length (c.admit_all-all.ensures.waits c.if-not-all.false), length-append c.args.self.now.waiting.records c.list.result.now);
       roomy = subst IsRoomy (sym c.admit_all-all.ensures.rest) c.requires.reading.roomy;
     }
 

@@ -2,15 +2,16 @@ use Rattle.std.proofs.Common.{ℕ, List, Ok, length, refl, sym, ap, subst, ◌�
 use Rattle.std.specs.Prelude.{IsTrue}
 use Rattle.host_core.proofs.Causes.{no_fault, faultless}
 use Rattle.host_core.proofs.Chains.{reads_nothing}
-use Rattle.engine_core.specs.Rounds.{Outcome, RoundState, records_in}
+use Rattle.wire_in.specs.declared.record.Record.{Record}
+use Rattle.recovery_core.specs.Waiting.{WaitingState}
 use Rattle.recovery_core.specs.Recoveries.{StarvesAgain, IsReading}
 use Rattle.recovery_core.proofs.Recovering.{gathers_first, gathered, sends_nothing_read, read_on, again_then, only_read, only_sent, recovers_on, answered_on, fault_hinders, hinders_on}
 use Rattle.recovery_core.proofs.recovery.Recovery.read.Goals as goal
 
 pub batches-init : goal.batches-init
 batches-init g c = record {
-  reading = subst (λ (w : RoundState). IsReading c.args.self.now.scan c.args.self.now.engine (length (records_in w.outcomes)) (g.H.Host.outside c.args.host.now).disk) (sym c.clear.ensures) c.requires.reading;
-  room = omega (arith, c.requires.most, ap (λ (w : RoundState). length w.outcomes) c.clear.ensures, ap (λ (w : RoundState). w.most) c.clear.ensures);
+  reading = subst (λ (w : WaitingState). IsReading c.args.self.now.scan c.args.self.now.engine (length w.records) (g.H.Host.outside c.args.host.now).disk) (sym c.clear.ensures) c.requires.reading;
+  room = omega (arith, c.requires.most, ap (λ (w : WaitingState). length w.records) c.clear.ensures, ap (λ (w : WaitingState). w.most) c.clear.ensures);
   advances = λ begin disk first. (first, sends_nothing_read first (reads_nothing _ (g.met.H.Host.sent_now c.args.host.now)));
   workers = refl;
   keeps = only_read (reads_nothing _ (g.met.H.Host.sent_now c.args.host.now));
@@ -69,7 +70,7 @@ returns-then-not-more-clause-moments g c = λ begin disk first.
 
 pub returns-then-not-more-clause-reading : goal.returns-then-not-more-clause-reading
 returns-then-not-more-clause-reading g c =
-    subst (λ (outcomes : List Outcome). IsReading c.settle.new.self.scan c.settle.new.self.engine (length (records_in outcomes)) (g.H.Host.outside c.settle.new.host).disk)
+    subst (λ (waiting : List Record). IsReading c.settle.new.self.scan c.settle.new.self.engine (length waiting) (g.H.Host.outside c.settle.new.host).disk)
     (c.in_ok-settle.ensures.all (λ yes. cc (c.if-not-more.true, yes))) c.in_ok-settle.ensures.reading
 
 pub returns-then-not-more-clause-closed : goal.returns-then-not-more-clause-closed

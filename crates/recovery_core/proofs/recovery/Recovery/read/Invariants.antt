@@ -2,14 +2,13 @@ use Rattle.std.proofs.Common.{◌≡◌, ◌+◌, ◌-◌, ◌≤◌, ℕ, List,
 use Rattle.std.specs.Prelude.{Option}
 use Rattle.host_core.specs.Outside.{NoFault}
 use Rattle.evaluator_core.specs.Evaluating.{workers_of}
-use Rattle.engine_core.specs.Rounds.{records_in}
 use Rattle.recovery_core.specs.Recoveries.{SendsAgain, IsReading, Gathers, OnlyRecovers}
 use Rattle.recovery_core.proofs.recovery.Recovery.read.Given as goal
 
 abbrev pub invariant-batches : goal.invariant-batches
 invariant-batches g l = record {
-  reading : IsReading l.self.scan l.self.engine (length (records_in l.self.waiting.outcomes)) (g.H.Host.outside l.host).disk;
-  room : length l.self.waiting.outcomes + 64 ≤ l.self.waiting.most;
+  reading : IsReading l.self.scan l.self.engine (length l.self.waiting.records) (g.H.Host.outside l.host).disk;
+  room : length l.self.waiting.records + 64 ≤ l.self.waiting.most;
   advances : (begin : Option (List ℕ)) (disk : List ℕ) → Gathers l.from begin disk l.initial.self (g.H.Host.outside l.initial.host)
       → Gathers l.from begin disk l.self (g.H.Host.outside l.host) × SendsAgain l.from begin disk (g.H.Host.outside l.initial.host) (g.H.Host.outside l.host);
   workers : workers_of l.self.engine.evaluator ≡ workers_of l.initial.self.engine.evaluator;
