@@ -107,6 +107,20 @@ fn say(
     Ok(())
 }
 
+/// The same at each of these records.
+fn say_all(
+    symbol: &mut Symbol,
+    xs: &[Record],
+    market: &MarketView,
+    out: &mut Messages,
+    said: &mut Vec<Message>,
+) -> Result<(), Fail> {
+    for x in xs {
+        say(symbol, x, market, out, said)?;
+    }
+    Ok(())
+}
+
 /// Symbol 0 says exactly these messages at these records, with no market-wide halt.
 fn expect_messages<R: Abort + AllocGlobal>(
     rt: &R,
@@ -120,9 +134,7 @@ fn expect_messages<R: Abort + AllocGlobal>(
         day: day(3)?,
         stopped: false,
     };
-    for x in xs {
-        say(&mut symbol, x, &market, &mut out, &mut said)?;
-    }
+    say_all(&mut symbol, xs, &market, &mut out, &mut said)?;
     assert!(rt; said.as_slice() == want);
     Ok(())
 }
@@ -275,22 +287,13 @@ fn clock_ticks_take_no_time_for_each_of_50_000_trades(rt: HostRuntime) -> Result
         day: day(3)?,
         stopped: false,
     };
-    say(&mut symbol, &new_day(3)?, &market, &mut out, &mut said)?;
-    say(
-        &mut symbol,
-        &listing(500_000)?,
-        &market,
-        &mut out,
-        &mut said,
-    )?;
-    say(&mut symbol, &clock(34_200)?, &market, &mut out, &mut said)?;
-    say(
-        &mut symbol,
-        &trade(34_200, 0, 500_000, 1)?,
-        &market,
-        &mut out,
-        &mut said,
-    )?;
+    let first = [
+        new_day(3)?,
+        listing(500_000)?,
+        clock(34_200)?,
+        trade(34_200, 0, 500_000, 1)?,
+    ];
+    say_all(&mut symbol, &first, &market, &mut out, &mut said)?;
     for number in 1..50_000_u32 {
         let x = Record::Trade {
             moment: after_open(u64::from(number))?,
@@ -305,13 +308,8 @@ fn clock_ticks_take_no_time_for_each_of_50_000_trades(rt: HostRuntime) -> Result
     let start = Instant::now(&rt)?;
     for tick in 0..400_000_u64 {
         let moment = after_open(tick.wrapping_add(60_000_000_000))?;
-        say(
-            &mut symbol,
-            &Record::Clock { moment },
-            &market,
-            &mut out,
-            &mut said,
-        )?;
+        let x = Record::Clock { moment };
+        say(&mut symbol, &x, &market, &mut out, &mut said)?;
     }
     // A look at each trade at each tick would be 20,000,000,000 looks.
     assert!(rt; start.elapsed(&rt)? < Duration::from_secs(5));
@@ -755,22 +753,13 @@ fn trades_that_leave_one_by_one_take_no_time_for_each_of_20_000(
         day: day(3)?,
         stopped: false,
     };
-    say(&mut symbol, &new_day(3)?, &market, &mut out, &mut said)?;
-    say(
-        &mut symbol,
-        &listing(500_000)?,
-        &market,
-        &mut out,
-        &mut said,
-    )?;
-    say(&mut symbol, &clock(34_200)?, &market, &mut out, &mut said)?;
-    say(
-        &mut symbol,
-        &trade(34_200, 0, 500_000, 1)?,
-        &market,
-        &mut out,
-        &mut said,
-    )?;
+    let first = [
+        new_day(3)?,
+        listing(500_000)?,
+        clock(34_200)?,
+        trade(34_200, 0, 500_000, 1)?,
+    ];
+    say_all(&mut symbol, &first, &market, &mut out, &mut said)?;
     for number in 1..20_000_u32 {
         let x = trade_after(u64::from(number), number, 500_000, 0)?;
         say(&mut symbol, &x, &market, &mut out, &mut said)?;
@@ -778,13 +767,8 @@ fn trades_that_leave_one_by_one_take_no_time_for_each_of_20_000(
     let start = Instant::now(&rt)?;
     for tick in 0..20_000_u64 {
         let moment = after_open(tick.wrapping_add(300_000_000_000))?;
-        say(
-            &mut symbol,
-            &Record::Clock { moment },
-            &market,
-            &mut out,
-            &mut said,
-        )?;
+        let x = Record::Clock { moment };
+        say(&mut symbol, &x, &market, &mut out, &mut said)?;
     }
     // A look at each trade that is left at each tick would be 200,000,000 looks.
     assert!(rt; start.elapsed(&rt)? < Duration::from_secs(5));
