@@ -57,6 +57,7 @@ fn start_record(plan: &DayPlan, given: u32, draws: &Draws, flags: &[u16]) -> Rec
 }
 
 /// A record of the session.
+#[inline(always)]
 fn later_record(
     plan: &DayPlan,
     gap: u64,
@@ -76,6 +77,7 @@ fn later_record(
 }
 
 /// The record behind so many others.
+#[inline(always)]
 fn next_record(
     plan: &DayPlan,
     gap: u64,

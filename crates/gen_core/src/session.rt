@@ -52,6 +52,7 @@ fn is_clock(plan: &DayPlan, gap: u64, k: u32) -> bool
 }
 
 /// Draws an index tick.
+#[inline(always)]
 fn index_tick(moment: Moment, draws: &mut Draws) -> Record
     ensures record { result ≡ index_tick moment (draw draws.old.number 1) }
     ensures number { draws.new.number ≡ number_after draws.old.number 1 }
@@ -84,6 +85,7 @@ fn middle(close: u64, draws: &mut Draws) -> u64
 }
 
 /// Draws a quotation.
+#[inline(always)]
 fn quote(moment: Moment, symbols: &Modulus, draws: &mut Draws) -> Record
     requires { symbols.now ≤ 16384 }
     ensures record { result ≡ quote moment (draw draws.old.number 1 % symbols.now) (draw draws.old.number 2) }
@@ -112,6 +114,7 @@ fn traded_price(close: u64, draws: &mut Draws) -> u64
 }
 
 /// Draws a trade. The next trade of its symbol has no flags.
+#[inline(always)]
 fn trade(
     moment: Moment,
     symbols: &Modulus,
@@ -140,6 +143,7 @@ fn trade(
 }
 
 /// Draws the record k of a kind.
+#[inline(always)]
 fn record_of_kind(
     kind: u64,
     moment: Moment,
@@ -164,6 +168,7 @@ fn record_of_kind(
 }
 
 /// The record k: a clock, or one that is drawn.
+#[inline(always)]
 pub fn session_record(
     plan: &DayPlan,
     gap: u64,
