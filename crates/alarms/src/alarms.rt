@@ -1,53 +1,68 @@
-ghost use Rattle.std.specs.Prelude.{ℕ, ◌≡◌, ◌+◌, ◌*◌, ◌<◌, ◌≤◌, ◌++◌, ◌∷◌, [], None, IfOk, IfSome, OnOk, OnErr, length, replicate, slice_get, slice_index, slice_set, vec_len, vec_capacity};
-ghost use Rattle.alarms.specs.Bounds.{AreBounds};
+ghost use Rattle.std.specs.Prelude.{ℕ, List, ◌≡◌, ◌+◌, ◌*◌, ◌<◌, ◌≤◌, ◌++◌, ◌∷◌, [], None, IfOk, IfSome, OnOk, OnErr, length, replicate, slice_get, slice_index, slice_set, vec_len, vec_capacity};
+ghost use Rattle.alarms.specs.Bounds.{AreBounds, AreLevels, IsLeast};
 ghost use Rattle.alarms.specs.Due.{IsFirstDue, NoneDue};
 
 use price_core::NoMemory;
 use std::alloc::Global;
 use std::marker::Model;
 
-/// How many places have one bound.
-const PLACES: usize = 16;
+/// How many places have one bound, and how many such bounds have one bound of a group.
+const PLACES: usize = 8;
 
-/// A moment for each place, in nanoseconds. To find those that are due takes one comparison for 16 places of which none
-/// is.
+/// How many places a group has.
+const GROUP: usize = PLACES * PLACES;
+
+/// A moment for each place, in nanoseconds. To find those that are due takes one comparison for a group of 64 places of
+/// which none is.
 #[derive(Drop)]
 pub struct Alarms {
     moments: Vec<u64>,
-    /// For each 16 places at most the least of their moments.
+    /// For each 8 places at most the least of their moments.
     bounds: Vec<u64>,
+    /// For each 8 bounds at most the least of them.
+    groups: Vec<u64>,
 }
 
 impl Model for Alarms {
     ghost use Rattle.std.specs.Prelude.{ℕ, List};
-    ghost use Rattle.alarms.specs.Bounds.{AreBounds};
+    ghost use Rattle.alarms.specs.Bounds.{AreLevels};
 
     ghost Value = { List ℕ };
 
     ghost view = { λ alarms. alarms.moments.items };
 
-    ghost invariant = { λ alarms. AreBounds alarms.bounds.items alarms.moments.items };
+    ghost invariant = { λ alarms. AreLevels alarms.groups.items alarms.bounds.items alarms.moments.items };
 }
 
-/// The least of some moments. It looks at each, so that the compiler can look at several at a time.
-fn least(moments: &[u64]) -> u64
-    ensures { (place : ℕ) → place < length moments.now → result ≤ slice_index moments.now place }
+/// The least of some numbers. It looks at each, so that the compiler can look at several at a time.
+fn least(numbers: &[u64]) -> u64
+    ensures { IsLeast result 0 (length numbers.now) numbers.now }
 {
     let mut least = u64::MAX;
-    for moment in moments {
-        least = least.min(*moment);
+    for number in numbers {
+        least = least.min(*number);
     }
     least
 }
 
-/// The least of the 16 moments from a place on, or of those that there are.
-fn least_from(moments: &[u64], first: usize) -> u64
-    requires { first ≤ length moments.now }
-    ensures { (place : ℕ) → first ≤ place → place < first + 16 → place < length moments.now → result ≤ slice_index moments.now place }
+/// The least of fewer than 8 numbers. It stays a call of its own: where there are 8, the compiler then knows how many.
+#[inline(never)]
+fn least_of_few(numbers: &[u64]) -> u64
+    ensures { IsLeast result 0 (length numbers.now) numbers.now }
 {
-    let rest = &moments[first..];
-    let count = rest.len().min(PLACES);
-    least(&rest[..count])
+    least(numbers)
+}
+
+/// The least of the 8 numbers from a place on, or of those that there are.
+fn least_from(numbers: &[u64], first: usize) -> u64
+    requires { first ≤ length numbers.now }
+    ensures { IsLeast result first (first + 8) numbers.now }
+{
+    let rest = &numbers[first..];
+    if rest.len() < PLACES {
+        return least_of_few(rest);
+    }
+    least(&rest[..PLACES])
 }
 
 /// The first due place from one on and before another.
@@ -64,9 +79,7 @@ fn first_due(moments: &[u64], from: usize, before: usize, t: u64) -> Option<usiz
     None
 }
 
-/// The first due place of one block from a place of it on. Where none of the block is due, its bound becomes exact. It stays
-/// a call of its own: joined into the loop over blocks, it would have that loop reckon with its places at each block.
-#[inline(never)]
+/// The first due place of one block from a place of it on. Where none of the rest is due, the bound becomes exact.
 fn first_of_block(
     moments: &[u64],
     bounds: &mut [u64],
@@ -76,11 +89,13 @@ fn first_of_block(
 ) -> Option<usize>
     requires block { block < length bounds.old }
     requires bounds { AreBounds bounds.old moments.now }
-    requires from { 16 * block ≤ from }
+    requires come { slice_index bounds.old block ≤ t }
+    requires from { 8 * block ≤ from }
     ensures bounds { AreBounds bounds.new moments.now }
+    ensures groups { (groups : List ℕ) → AreBounds groups bounds.old → AreBounds groups bounds.new }
     ensures len { length bounds.new ≡ length bounds.old }
     ensures some { IfSome result (λ place. IsFirstDue t from place moments.now) }
-    ensures none { result ≡ None → NoneDue t from (16 * block + 16) moments.now }
+    ensures none { result ≡ None → NoneDue t from (8 * block + 8) moments.now }
 {
     let first = PLACES * block;
     let count = (moments.len() - first).min(PLACES);
@@ -92,17 +107,58 @@ fn first_of_block(
     None
 }
 
-/// The first due place from one on.
-fn first_of_all(moments: &[u64], bounds: &mut [u64], from: usize, t: u64) -> Option<usize>
-    requires { AreBounds bounds.old moments.now }
-    ensures bounds { AreBounds bounds.new moments.now }
+/// The first due place of one group from a place of it on. Where none of the rest is due, the group's bound becomes exact. It
+/// stays a call of its own: joined into the loop over groups, it would have that loop reckon with its places at each group.
+#[inline(never)]
+fn first_of_group(
+    moments: &[u64],
+    bounds: &mut [u64],
+    groups: &mut [u64],
+    group: usize,
+    from: usize,
+    t: u64,
+) -> Option<usize>
+    requires group { group < length groups.old }
+    requires levels { AreLevels groups.old bounds.old moments.now }
+    requires from { 64 * group ≤ from }
+    ensures levels { AreLevels groups.new bounds.new moments.now }
+    ensures len { length groups.new ≡ length groups.old }
     ensures some { IfSome result (λ place. IsFirstDue t from place moments.now) }
-    ensures none { result ≡ None → NoneDue t from (length moments.now) moments.now }
+    ensures none { result ≡ None → NoneDue t from (64 * group + 64) moments.now }
 {
-    for block in from / PLACES..bounds.len() {
+    let first = PLACES * group;
+    let count = (bounds.len() - first).min(PLACES);
+    for block in from / PLACES..first + count {
         if bounds[block] <= t {
             let start = from.max(PLACES * block);
             let found = first_of_block(moments, bounds, block, start, t);
+            if found.is_some() {
+                return found;
+            }
+        }
+    }
+    let least = least_from(bounds, first);
+    groups[group] = least;
+    None
+}
+
+/// The first due place from one on.
+fn first_of_all(
+    moments: &[u64],
+    bounds: &mut [u64],
+    groups: &mut [u64],
+    from: usize,
+    t: u64,
+) -> Option<usize>
+    requires { AreLevels groups.old bounds.old moments.now }
+    ensures levels { AreLevels groups.new bounds.new moments.now }
+    ensures some { IfSome result (λ place. IsFirstDue t from place moments.now) }
+    ensures none { result ≡ None → NoneDue t from (length moments.now) moments.now }
+{
+    for group in from / GROUP..groups.len() {
+        if groups[group] <= t {
+            let start = from.max(GROUP * group);
+            let found = first_of_group(moments, bounds, groups, group, start, t);
             if found.is_some() {
                 return found;
             }
@@ -118,6 +174,37 @@ fn push(moments: &mut Vec<u64>, moment: u64)
     moments.push(moment).unwrap();
 }
 
+/// Gives a moment that comes behind the others a bound: that of the last ones, or, where those are 8, one more.
+fn bound_next(bounds: &mut Vec<u64>, place: usize, moment: u64)
+    requires { vec_len bounds.old + 1 ≤ vec_capacity bounds.old }
+    ensures { (moments : List ℕ) → length moments ≡ place → AreBounds bounds.old.items moments → AreBounds bounds.new.items (moments ++ moment ∷ []) }
+{
+    let block = place / PLACES;
+    if block < bounds.len() {
+        bounds[block] = bounds[block].min(moment);
+    } else {
+        push(bounds, moment);
+    }
+}
+
+/// Gives a moment that comes behind the others its bounds.
+fn bound_both(bounds: &mut Vec<u64>, groups: &mut Vec<u64>, place: usize, moment: u64)
+    requires bounds { vec_len bounds.old + 1 ≤ vec_capacity bounds.old }
+    requires groups { vec_len groups.old + 1 ≤ vec_capacity groups.old }
+    requires enough { length bounds.old.items ≤ 8 * length groups.old.items }
+    ensures { (moments : List ℕ) → length moments ≡ place → AreLevels groups.old.items bounds.old.items moments → AreLevels groups.new.items bounds.new.items (moments ++ moment ∷ []) }
+{
+    let block = place / PLACES;
+    if block < bounds.len() {
+        let group = block / PLACES;
+        bounds[block] = bounds[block].min(moment);
+        groups[group] = groups[group].min(moment);
+    } else {
+        bound_next(groups, block, moment);
+        push(bounds, moment);
+    }
+}
+
 impl Alarms {
     /// No places. It takes no memory yet.
     pub fn new(alloc: Global) -> Alarms
@@ -126,6 +213,7 @@ impl Alarms {
         Alarms {
             moments: Vec::new(alloc),
             bounds: Vec::new(alloc),
+            groups: Vec::new(alloc),
         }
     }
 
@@ -149,12 +237,10 @@ impl Alarms {
         ensures err { OnErr result (self.new ≡ self.old) }
     {
         self.moments.reserve(1)?;
-        let block = self.moments.len() / PLACES;
-        if block < self.bounds.len() {
-            self.bounds[block] = self.bounds[block].min(moment);
-        } else {
-            self.bounds.push(moment)?;
-        }
+        self.bounds.reserve(1)?;
+        self.groups.reserve(1)?;
+        let place = self.moments.len();
+        bound_both(&mut self.bounds, &mut self.groups, place, moment);
         push(&mut self.moments, moment);
         Ok(())
     }
@@ -167,7 +253,9 @@ impl Alarms {
         let block = place / PLACES;
         self.moments[place] = moment;
         if moment < self.bounds[block] {
+            let group = block / PLACES;
             self.bounds[block] = moment;
+            self.groups[group] = self.groups[group].min(moment);
         }
     }
 
@@ -177,6 +265,7 @@ impl Alarms {
     {
         self.moments.fill(moment);
         self.bounds.fill(moment);
+        self.groups.fill(moment);
     }
 
     /// The first place from one on whose moment is not after t; None exactly where there is none.
@@ -185,6 +274,6 @@ impl Alarms {
         ensures none { result ≡ None → NoneDue t from (length self.old) self.old }
         ensures same { self.new ≡ self.old }
     {
-        first_of_all(&self.moments, &mut self.bounds, from, t)
+        first_of_all(&self.moments, &mut self.bounds, &mut self.groups, from, t)
     }
 }

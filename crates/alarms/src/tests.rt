@@ -32,7 +32,7 @@ fn expect_due<R: Abort + AllocGlobal>(
 
 #[test]
 fn a_place_is_due_from_its_moment_on(rt: HostRuntime) -> Result<(), Fail> {
-    for places in [1, 15, 16, 17, 16_384] {
+    for places in [1, 7, 8, 9, 63, 64, 65, 16_384] {
         let mut alarms = all_at(rt.alloc(), places, 10)?;
         let last = places - 1;
         assert_eq!(rt; alarms.len(), places);
@@ -50,7 +50,7 @@ fn a_place_is_due_from_its_moment_on(rt: HostRuntime) -> Result<(), Fail> {
 
 #[test]
 fn the_last_place_alone_is_due(rt: HostRuntime) -> Result<(), Fail> {
-    for places in [1, 15, 16, 17, 16_384] {
+    for places in [1, 7, 8, 9, 63, 64, 65, 16_384] {
         let mut alarms = all_at(rt.alloc(), places, 10)?;
         let last = places - 1;
         set(&mut alarms, last, 5);
@@ -66,9 +66,9 @@ fn the_last_place_alone_is_due(rt: HostRuntime) -> Result<(), Fail> {
 }
 
 #[test]
-fn each_of_16_places_may_have_the_lowest_moment(rt: HostRuntime) -> Result<(), Fail> {
-    let mut alarms = all_at(rt.alloc(), 16, 100)?;
-    for place in 0..16 {
+fn each_of_64_places_may_have_the_lowest_moment(rt: HostRuntime) -> Result<(), Fail> {
+    let mut alarms = all_at(rt.alloc(), 64, 100)?;
+    for place in 0..64 {
         set(&mut alarms, place, 50);
         expect_due(&rt, &mut alarms, 49, &[(0, None)]);
         expect_due(&rt, &mut alarms, 50, &[(0, Some(place)), (place + 1, None)]);
@@ -90,7 +90,12 @@ fn no_place_without_a_moment_is_due(rt: HostRuntime) -> Result<(), Fail> {
 #[test]
 fn all_places_are_due_after_all_were_set(rt: HostRuntime) -> Result<(), Fail> {
     let mut alarms = all_at(rt.alloc(), 130, 7)?;
-    expect_due(&rt, &mut alarms, 6, &[(0, None), (16, None), (128, None)]);
+    expect_due(
+        &rt,
+        &mut alarms,
+        6,
+        &[(0, None), (8, None), (64, None), (128, None)],
+    );
     alarms.fill(0);
     for place in 0..130 {
         expect_due(&rt, &mut alarms, 0, &[(place, Some(place))]);

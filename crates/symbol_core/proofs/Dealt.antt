@@ -1,6 +1,6 @@
 -- A trade or a tick at which no rule says anything, where time could bring a new reference price.
 use Rattle.std.proofs.Common.{arith, ◌≡◌, ℕ, ◌<◌, ◌≤◌, Bool, true, false, List, [], ◌++◌, refl, sym, ap, ◌∙◌, subst}
-use Rattle.std.specs.Prelude.{Option, Some, None, if◌then◌else◌, ◌&&◌, ◌||◌, not, filter, is_some, option_map, option_to_list}
+use Rattle.std.specs.Prelude.{Option, Some, None, IfSome, if◌then◌else◌, ◌&&◌, ◌||◌, not, filter, is_some, option_map, option_to_list}
 use Rattle.std.specs.Option.{option_map_or}
 use Rattle.price_core.specs.Moves.{moved_one_percent}
 use Rattle.price_core.specs.declared.quote.Cause.TheVariants.{Moved}
@@ -26,11 +26,11 @@ use Rattle.symbol_core.specs.Kept.{heard, quoted_by, requoted}
 use Rattle.symbol_core.specs.Pricing.{later_price, offered, priced_by, reference}
 use Rattle.symbol_core.specs.Runs.{run_reference}
 use Rattle.symbol_core.specs.Stands.{ObeysAll}
-use Rattle.symbol_core.specs.Steps.{Steps}
+use Rattle.symbol_core.specs.Steps.{Steps, step_for}
 use Rattle.symbol_core.specs.Taken.{cancelled_by, deal_of, halted_by, leaves, listed_by, prior_close_by, taken, triggers_by}
 use Rattle.symbol_core.specs.Window.{SameLive, window}
 use Rattle.symbol_core.proofs.Cancels.{leaves-all}
-use Rattle.symbol_core.proofs.Evaluated.{away, step-evaluated, step_for}
+use Rattle.symbol_core.proofs.Evaluated.{away, step-evaluated}
 use Rattle.symbol_core.proofs.Live.{live-added, live-own}
 use Rattle.symbol_core.proofs.Runs.{same_run}
 use Rattle.symbol_core.proofs.Quiet.{announces-none, speaks-quiet, waits-taken}
@@ -105,27 +105,28 @@ is_here k x inside = by (is_tick x) (is_done k.phase) (is_some k.terms) inside w
   by false false true e = refl
 
 -- before time brings anything but a new reference price
-pub awaited : (market : MarketView) (x : Record) (k : Kept) (deals : List Deal) (due : Due) (t : ℕ) (deal : Option Deal) → t ≡ moment_of x → IsDue (Some due) k deals → brings_deal_or_time x ≡ true → due.from ≤ t → t < due.waits → market ≡ due.market
+pub awaited : (market : MarketView) (x : Record) (k : Kept) (deals : List Deal) (due : Due) (deal : Option Deal) → IsDue (Some due) k deals → brings_deal_or_time x ≡ true → due.from ≤ moment_of x → moment_of x < due.waits → market ≡ due.market
     → deal ≡ deal_of market.day k.id x → is_out k ≡ false → (if is_some k.run then option_to_list deal else []) ≡ option_to_list deal → (triggers_by k.short.prior_close deal && not k.short.triggered) ≡ false
-    → IsAwaited k market x deal (record due { from = t })
-awaited market x k deals due t deal at is kind from until same own inside counts restricts = by (is inside) where
-  by : IsIdle k deals due → IsAwaited k market x deal (record due { from = t })
+    → IsAwaited k market x deal
+awaited market x k deals due deal is kind from later same own inside counts restricts = by (is inside) where
+  from_now : Waits k due.market.day due.market.stopped due.from due.waits → Waits k due.market.day due.market.stopped (moment_of x) due.waits
+  from_now w = record { closes = w.closes; starts = w.starts; pauses = w.pauses; reopens = w.reopens; bands = λ u day le lt. w.bands u day (omega (arith, le, from)) lt }
+
+  by : IsIdle k deals due → IsAwaited k market x deal
   by idle =
-      let w = idle.waits in
       record {
         kind = kind;
         inside = inside;
-        settled = idle.settled;
-        waits = record { closes = w.closes; starts = w.starts; pauses = w.pauses; reopens = w.reopens; bands = λ u day le lt. w.bands u day (omega arith) lt };
-        from = at;
-        until = subst (λ (u : ℕ). u < due.waits) at until;
-        same = sym same;
+        settled = subst (λ (m : MarketView). IsSettled k m.stopped) (sym same) idle.settled;
+        until = due.waits;
+        later = later;
+        waits = subst (λ (m : MarketView). Waits k m.day m.stopped (moment_of x) due.waits) (sym same) (from_now idle.waits);
         own = own;
         counts = counts;
         restricts = restricts;
       }
 
-module _ (market : MarketView) (x : Record) (k : Kept) (due : Due) (deal : Option Deal) (w : IsAwaited k market x deal due) where
+module _ (market : MarketView) (x : Record) (k : Kept) (deal : Option Deal) (w : IsAwaited k market x deal) where
   abbrev stepped : Step
   stepped = step_for market x
 
@@ -151,8 +152,8 @@ module _ (market : MarketView) (x : Record) (k : Kept) (due : Due) (deal : Optio
       })
       (just_opened deal (w.restricts j)))
 
-module _ (market : MarketView) (x : Record) (k : Kept) (deals : List Deal) (due : Due) (deal : Option Deal)
-    (w : IsAwaited k market x deal due) (keeps : keeps_price k (moment_of x) (mean_of (live (moment_of x) (live (moment_of x) deals ++ option_to_list deal))) ≡ true) where
+module _ (market : MarketView) (x : Record) (k : Kept) (deals : List Deal) (deal : Option Deal)
+    (w : IsAwaited k market x deal) (keeps : keeps_price k (moment_of x) (mean_of (live (moment_of x) (live (moment_of x) deals ++ option_to_list deal))) ≡ true) where
   abbrev t : ℕ
   t = moment_of x
 
@@ -166,10 +167,10 @@ module _ (market : MarketView) (x : Record) (k : Kept) (deals : List Deal) (due 
   with_deal = in_step k (just_opened deal false)
 
   taken_in : taken k step ≡ with_deal
-  taken_in = took market x k due deal w
+  taken_in = took market x k deal w
 
   plainly : IsPlain k x
-  plainly = of_plain market x k due deal w
+  plainly = of_plain market x k deal w
 
   -- and once its step is over
   over : k ≡ (taken k step).kept
@@ -181,15 +182,11 @@ module _ (market : MarketView) (x : Record) (k : Kept) (deals : List Deal) (due 
   all : stayed ≡ live t deals
   all = ap (live t) (leaves-all k.id x deals plainly.cancels)
 
-  waits : WaitsAt k step due.waits
-  waits = record {
-    often = plainly.often;
-    later = w.until;
-    waits = subst (λ (u : ℕ). Waits k market.day market.stopped u due.waits) w.from (subst (λ (m : MarketView). Waits k m.day m.stopped due.from due.waits) w.same w.waits);
-  }
+  waits : WaitsAt k step w.until
+  waits = record { often = plainly.often; later = w.later; waits = w.waits }
 
   settled : IsSettled (taken k step).kept market.stopped
-  settled = subst (λ (kept : Kept). IsSettled kept market.stopped) over (subst (λ (m : MarketView). IsSettled k m.stopped) w.same w.settled)
+  settled = subst (λ (kept : Kept). IsSettled kept market.stopped) over w.settled
 
   -- the window with the deal
   dealt_in : (stayed ++ (if is_some k.run then option_to_list deal else [])) ≡ left
@@ -207,7 +204,7 @@ module _ (market : MarketView) (x : Record) (k : Kept) (deals : List Deal) (due 
 
   deal-steps : (before : List Message) → Steps step k k deals left before before
   deal-steps before =
-      let spoken = speaks-quiet (taken k step) stayed step before (Some due.waits) refl (waits-taken k step (Some due.waits) waits) settled no_price (ap (λ (l : InStep). l.opened.restricts) taken_in) in
+      let spoken = speaks-quiet (taken k step) stayed step before (Some w.until) refl (waits-taken k step (Some w.until) waits) settled no_price (ap (λ (l : InStep). l.opened.restricts) taken_in) in
       step-evaluates step k spoken.said (taken k step) (taken k step) k deals (filter (leaves k.id x) deals) stayed stayed left before spoken.between before
       refl refl refl refl spoken.announces spoken.obeys keeps_deals over
 
@@ -219,18 +216,17 @@ module _ (market : MarketView) (x : Record) (k : Kept) (deals : List Deal) (due 
   pub dealt-recent : live t left ≡ left
   dealt-recent = live-added t deals (option_to_list deal) (subst (λ (o : Option Deal). live t (option_to_list o) ≡ option_to_list o) (sym w.own) (live-own market.day k.id x))
 
-  pub dealt-still : IsStill k left due
-  dealt-still = record {
-    settled = w.settled;
-    waits = w.waits;
-  }
-
 -- a stock that is listed is evaluated at ticks too
-pub awaited-here : (k : Kept) (market : MarketView) (x : Record) (deal : Option Deal) (due : Due) → IsAwaited k market x deal due → away x k.terms ≡ false
-awaited-here k market x deal due w = is_here k x w.inside
+pub awaited-here : (k : Kept) (market : MarketView) (x : Record) (deal : Option Deal) → IsAwaited k market x deal → away x k.terms ≡ false
+awaited-here k market x deal w = is_here k x w.inside
 
-pub awaited-no_day : (k : Kept) (market : MarketView) (x : Record) (deal : Option Deal) (due : Due) → IsAwaited k market x deal due → is_day x ≡ false
-awaited-no_day k market x deal due w = let of_plain = plain k x w.kind in of_plain.no_day
+pub awaited-no_day : (k : Kept) (market : MarketView) (x : Record) (deal : Option Deal) → IsAwaited k market x deal → is_day x ≡ false
+awaited-no_day k market x deal w = let of_plain = plain k x w.kind in of_plain.no_day
+
+-- while the stock is due, only a new reference price can come until then
+pub due-still : (o : Option Due) (k : Kept) (deals : List Deal) → IsDue o k deals → is_out k ≡ false → IfSome o (λ due. IsStill k due)
+due-still None k deals is inside = tt
+due-still (Some due) k deals is inside = let idle = is inside in record { settled = idle.settled; waits = idle.waits }
 
 -- what the code asks once the old deals are gone
 pub keeps-at : (k : Kept) (gone deals : List Deal) (deal : Option Deal) (t u : ℕ) (answer : Bool) → t ≡ u → gone ≡ deals → answer ≡ keeps_price k t (mean_of (live t (gone ++ option_to_list deal))) → answer ≡ true
@@ -238,18 +234,20 @@ pub keeps-at : (k : Kept) (gone deals : List Deal) (deal : Option Deal) (t u : �
 keeps-at k gone deals deal t u answer at same is passes = (λ i. keeps_price k (sym at i) (mean_of (live (sym at i) (sym same i ++ option_to_list deal)))) ∙ sym is ∙ passes
 
 -- a record that brings a new reference price, whose deal is all that it leaves for the rules
-pub moved-steps : (k : Kept) (mid : InStep) (step : Step) (deal : Option Deal) (due : Due) (kept lent left : List Deal) (before after : List Message) → IsAwaited k (record { day = step.day; stopped = step.stopped }) step.input deal due → live step.moment kept ≡ lent
-    → ObeysAll lent symbol_rules step (in_step k (just_opened deal false)) mid before after
-    → SameLive step.moment left ((if mid.opened.is_fresh then [] else lent) ++ (if is_some mid.kept.run then option_to_list deal else []))
-    → Steps step k mid.kept kept left before after
-moved-steps k mid step deal due kept lent left before after w gone obeys keeps =
-    let of_plain = plain k step.input w.kind in
+pub moved-steps : (k : Kept) (mid : InStep) (market : MarketView) (x : Record) (s : Step) (deal : Option Deal) (kept lent left : List Deal) (before after : List Message) → s ≡ step_for market x → IsAwaited k market x deal → live (moment_of x) kept ≡ lent
+    → ObeysAll lent symbol_rules s (in_step k (just_opened deal false)) mid before after
+    → SameLive s.moment left ((if mid.opened.is_fresh then [] else lent) ++ (if is_some mid.kept.run then option_to_list deal else []))
+    → Steps (step_for market x) k mid.kept kept left before after
+moved-steps k mid market x s deal kept lent left before after is w gone obeys keeps =
+    let of_plain = plain k x w.kind in
     let opened = in_step k (just_opened deal false) in
-    step-evaluates step k opened mid opened mid.kept kept (filter (leaves k.id step.input) kept) lent lent left before before after
-    refl (sym gone ∙ ap (live step.moment) (sym (leaves-all k.id step.input kept of_plain.cancels))) refl (sym (took (record { day = step.day; stopped = step.stopped }) step.input k due deal w))
-    (announces-none opened step before of_plain.often) obeys keeps refl
+    step-evaluates (step_for market x) k opened mid opened mid.kept kept (filter (leaves k.id x) kept) lent lent left before before after
+    refl (sym gone ∙ ap (live (moment_of x)) (sym (leaves-all k.id x kept of_plain.cancels))) refl (sym (took market x k deal w))
+    (announces-none opened (step_for market x) before of_plain.often)
+    (subst (λ (u : Step). ObeysAll lent symbol_rules u opened mid before after) is obeys)
+    (subst (λ (u : Step). SameLive u.moment left ((if mid.opened.is_fresh then [] else lent) ++ (if is_some mid.kept.run then option_to_list deal else []))) is keeps) refl
 
-pub moved-recent : (k : Kept) (market : MarketView) (x : Record) (deal : Option Deal) (due : Due) (t : ℕ) → IsAwaited k market x deal due → t ≡ moment_of x → live t (option_to_list deal) ≡ option_to_list deal
-moved-recent k market x deal due t w at =
+pub moved-recent : (k : Kept) (market : MarketView) (x : Record) (deal : Option Deal) (t : ℕ) → IsAwaited k market x deal → t ≡ moment_of x → live t (option_to_list deal) ≡ option_to_list deal
+moved-recent k market x deal t w at =
     subst (λ (u : ℕ). live u (option_to_list deal) ≡ option_to_list deal) (sym at)
     (subst (λ (o : Option Deal). live (moment_of x) (option_to_list o) ≡ option_to_list o) (sym w.own) (live-own market.day k.id x))

@@ -3,7 +3,7 @@ use Rattle.std.proofs.Common.{◌≡◌, ℕ, Bool, true, false, List, [], ◌�
 use Rattle.std.specs.Prelude.{Option, if◌then◌else◌, ◌&&◌, ◌==◌, not, is_some}
 use Rattle.std.specs.Option.{option_map_or}
 use Rattle.wire_in.specs.declared.record.Record.{Record}
-use Rattle.wire_in.specs.Records.{is_day, is_tick, moment_of}
+use Rattle.wire_in.specs.Records.{is_day, is_tick}
 use Rattle.wire_out.specs.declared.message.Message.{Message}
 use Rattle.window_core.specs.declared.window.Deal.{Deal}
 use Rattle.wire_in.proofs.RecordKinds.{by_listing, tick}
@@ -21,7 +21,7 @@ use Rattle.symbol_core.specs.Evaluates.{Evaluates, Opens, open_history, part_of,
 use Rattle.symbol_core.specs.Rests.{Held, Rests}
 use Rattle.symbol_core.specs.Silent.{IsOfOthers}
 use Rattle.symbol_core.specs.Stands.{named}
-use Rattle.symbol_core.specs.Steps.{Starts, Steps}
+use Rattle.symbol_core.specs.Steps.{Starts, Steps, step_for}
 use Rattle.symbol_core.proofs.Resting.{rests-apart}
 
 -- a clock or an index tick, while this listing isn't there
@@ -39,10 +39,6 @@ away-open mine held x others h r =
     ap (λ (e : List Record). away x (terms_in mine e)) (records-publish others (Accepted x ∷ h))
     ∙ away-record mine x (records h)
     ∙ ap (λ (o : Option Terms). away x o) (sym r.terms)
-
--- the step of a record
-abbrev pub step_for : MarketView → Record → Step
-step_for market x = record { moment = moment_of x; day = market.day; stopped = market.stopped; input = x }
 
 pub starts : (mine : List ℕ → Bool) (held : Held) (market : MarketView) (x : Record) (others : List Message) (h : List Event) → Opens mine held market x others h
     → Starts mine held.kept held.deals (step_for market x) others h

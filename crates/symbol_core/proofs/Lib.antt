@@ -19,6 +19,7 @@ pub mod Resting
 pub mod Evaluated
 pub mod Twins
 pub mod Waiting
+pub mod Banding
 pub mod Unmoved
 pub mod Quiet
 pub mod Quoted

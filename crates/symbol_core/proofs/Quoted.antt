@@ -15,15 +15,16 @@ use Rattle.symbol_core.specs.declared.kept.Run.{Run}
 use Rattle.symbol_core.specs.declared.kept.Step.{Step}
 use Rattle.symbol_core.specs.declared.symbol.MarketView.{MarketView}
 use Rattle.symbol_core.specs.Evaluates.{Evaluates}
-use Rattle.symbol_core.specs.Idle.{IsDue, IsIdle, IsSettled, IsSettledAt, WaitsAt, changes_bands, is_out, quoted}
+use Rattle.symbol_core.specs.Idle.{IsDue, IsIdle, IsSettled, IsSettledAt, WaitsAt, changes_bands, is_out}
 use Rattle.symbol_core.specs.InStep.{at_rest}
 use Rattle.symbol_core.specs.Kept.{quoted_by, requoted, with_quote}
 use Rattle.symbol_core.specs.Pricing.{reference}
-use Rattle.symbol_core.specs.Steps.{Steps}
+use Rattle.symbol_core.specs.Rests.{Held}
+use Rattle.symbol_core.specs.Steps.{Steps, step_for}
 use Rattle.symbol_core.specs.Taken.{leaves, taken}
 use Rattle.symbol_core.specs.Window.{SameLive, window}
 use Rattle.symbol_core.proofs.Cancels.{leaves-all}
-use Rattle.symbol_core.proofs.Evaluated.{step-evaluated, step_for}
+use Rattle.symbol_core.proofs.Evaluated.{step-evaluated}
 use Rattle.symbol_core.proofs.Quiet.{speaks-quiet, waits-due, waits-taken}
 use Rattle.symbol_core.proofs.Runs.{run_keeps}
 use Rattle.symbol_core.proofs.Steps.{step-evaluates}
@@ -32,6 +33,10 @@ use Rattle.symbol_core.proofs.Unmoved.{window_rested}
 -- a stock that is due is settled over the same market
 pub settled-market : (k : Kept) (deals : List Deal) (due : Due) (market : MarketView) → IsDue (Some due) k deals → is_out k ≡ false → market ≡ due.market → IsSettled k market.stopped
 settled-market k deals due market is inside same = let idle = is inside in subst (λ (m : MarketView). IsSettled k m.stopped) (sym same) idle.settled
+
+-- the symbol once a quotation of its run is taken in at a moment, and nothing else
+abbrev pub quoted : Held → ℕ → Quotation → Held
+quoted held t quote = record { kept = with_quote held.kept quote; deals = live t held.deals }
 
 -- what a quotation leaves
 kept_quoted : {X : Type 0} (value : Kept → X) (k : Kept) (quote : Quotation) → ((run : Run) (other : Option Quotation) → value (record k { run = Some (requoted other run) }) ≡ value (record k { run = Some run })) → value (with_quote k quote) ≡ value k

@@ -46,11 +46,11 @@ use Rattle.symbol_core.specs.InStep.{InStep}
 use Rattle.symbol_core.specs.Rests.{Held, Rests}
 use Rattle.symbol_core.specs.Runs.{run_band, run_quote}
 use Rattle.symbol_core.specs.Stands.{named, Stands}
-use Rattle.symbol_core.specs.Steps.{Starts}
+use Rattle.symbol_core.specs.Steps.{Starts, step_for}
 use Rattle.symbol_core.specs.Taken.{leaves, renewed, taken}
 use Rattle.symbol_core.specs.Window.{window}
 use Rattle.symbol_core.proofs.Apart.{stands-listed}
-use Rattle.symbol_core.proofs.Evaluated.{away, away-open, evaluated-away, starts, step_for}
+use Rattle.symbol_core.proofs.Evaluated.{away, away-open, evaluated-away, starts}
 use Rattle.symbol_core.proofs.Finished.{rests-finished}
 use Rattle.symbol_core.proofs.Gives.{announced-gives, banding-gives, enter-gives, entering, leave-gives, leaving, mean-gives, pause-gives, reopen-gives, restrict-gives, restricting, straddle-gives, turned-gives}
 use Rattle.symbol_core.proofs.OtherMessages.{stands-banded, stands-released, stands-short, stands-straddled, stands-with_round}

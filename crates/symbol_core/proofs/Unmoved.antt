@@ -46,10 +46,11 @@ use Rattle.symbol_core.specs.Rests.{Held}
 use Rattle.symbol_core.specs.Runs.{run_band, run_quote}
 use Rattle.symbol_core.specs.Silent.{IsOfOthers}
 use Rattle.symbol_core.specs.Stands.{named, Stands}
+use Rattle.symbol_core.specs.Steps.{step_for}
 use Rattle.symbol_core.specs.Taken.{cancelled_by, leaves, taken}
 use Rattle.symbol_core.specs.Window.{SameLive, window}
 use Rattle.symbol_core.proofs.Cancels.{leaves-all}
-use Rattle.symbol_core.proofs.Evaluated.{evaluated-away, starts, step_for}
+use Rattle.symbol_core.proofs.Evaluated.{evaluated-away, starts}
 use Rattle.symbol_core.proofs.Gives.{banding-gives, enter-gives, leave-gives, mean-gives, pause-gives, reopen-gives, restrict-gives, straddle-gives, turned-gives}
 use Rattle.symbol_core.proofs.Live.{same-live}
 use Rattle.symbol_core.proofs.Resting.{rests-apart, rests-same}
@@ -329,6 +330,25 @@ due-live k deals due t from is = λ inside. by (is inside) where
         };
         within = idle.within;
         prices = λ step tick le lt. ap (λ (ds : List Deal). reference (at_rest k) step (mean_of ds)) (live-live t step.moment le deals) ∙ idle.prices step tick (omega arith) lt;
+      }
+
+-- nor does it from a later moment on
+pub due-later : (k : Kept) (deals : List Deal) (due : Due) (t : ℕ) → due.from ≤ t → IsDue (Some due) k deals → IsDue (Some (record due { from = t })) k deals
+due-later k deals due t from is = λ inside. by (is inside) where
+  by : IsIdle k deals due → IsIdle k deals (record due { from = t })
+  by idle =
+      let waits = idle.waits in
+      record {
+        settled = idle.settled;
+        waits = record {
+          closes = waits.closes;
+          starts = waits.starts;
+          pauses = waits.pauses;
+          reopens = waits.reopens;
+          bands = λ step day le lt. waits.bands step day (omega arith) lt;
+        };
+        within = idle.within;
+        prices = λ step tick le lt. idle.prices step tick (omega arith) lt;
       }
 
 -- of a symbol that is due, if ever

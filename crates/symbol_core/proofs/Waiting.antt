@@ -37,7 +37,7 @@ use Rattle.symbol_core.specs.InStep.{at_rest}
 use Rattle.symbol_core.specs.Pricing.{later_price, offered, priced_by, reference, time_changes}
 use Rattle.symbol_core.specs.Runs.{run_band, run_reference}
 
-nothing_and : (b : Bool) → (b && false) ≡ false
+pub nothing_and : (b : Bool) → (b && false) ≡ false
 nothing_and true = refl
 nothing_and false = refl
 

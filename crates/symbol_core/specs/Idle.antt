@@ -20,9 +20,8 @@ use Rattle.symbol_core.specs.declared.kept.Kept.{Kept}
 use Rattle.symbol_core.specs.declared.kept.Step.{Step}
 use Rattle.symbol_core.specs.declared.symbol.MarketView.{MarketView}
 use Rattle.symbol_core.specs.InStep.{InStep, at_rest}
-use Rattle.symbol_core.specs.Kept.{straddles_at, with_quote}
+use Rattle.symbol_core.specs.Kept.{straddles_at}
 use Rattle.symbol_core.specs.Pricing.{reference, time_changes}
-use Rattle.symbol_core.specs.Rests.{Held}
 use Rattle.symbol_core.specs.Runs.{run_band, run_quote, run_reference}
 use Rattle.symbol_core.specs.Taken.{deal_of, triggers_by}
 use Rattle.symbol_core.specs.Window.{window}
@@ -127,10 +126,6 @@ abbrev pub IsDue : Option Due → Kept → List Deal → Type 0
 IsDue None k deals = Unit {0}
 IsDue (Some due) k deals = is_out k ≡ false → IsIdle k deals due
 
--- the symbol once a quotation of its run is taken in at a moment, and nothing else
-abbrev pub quoted : Held → ℕ → Quotation → Held
-quoted held t quote = record { kept = with_quote held.kept quote; deals = live t held.deals }
-
 -- a trade, a clock or an index tick
 abbrev pub brings_deal_or_time : Record → Bool
 brings_deal_or_time (in_.Trade t symbol number price size flags) = true
@@ -143,20 +138,19 @@ abbrev pub keeps_price : Kept → ℕ → Option ℕ → Bool
 keeps_price k t mean = not (is_trading k.phase) || option_map_or (λ last. not (is_some (moved_price last t mean))) (run_reference k).last false
 
 -- no rule says anything at a moment, and from then on until another only a new reference price can come
-pub record IsStill (k : Kept) (deals : List Deal) (due : Due) : Type 0 where
+pub record IsStill (k : Kept) (due : Due) : Type 0 where
   pub settled : IsSettled k due.market.stopped
   pub waits : Waits k due.market.day due.market.stopped due.from due.waits
 
 -- at a trade or a tick only a new reference price can come, and a deal that counts and isn't the first of the day to trigger the
 -- short sale restriction
-pub record IsAwaited (k : Kept) (market : MarketView) (x : Record) (deal : Option Deal) (due : Due) : Type 0 where
+pub record IsAwaited (k : Kept) (market : MarketView) (x : Record) (deal : Option Deal) : Type 0 where
   pub kind : brings_deal_or_time x ≡ true
   pub inside : is_out k ≡ false
-  pub settled : IsSettled k due.market.stopped
-  pub waits : Waits k due.market.day due.market.stopped due.from due.waits
-  pub from : due.from ≡ moment_of x
-  pub until : moment_of x < due.waits
-  pub same : due.market ≡ market
+  pub settled : IsSettled k market.stopped
+  pub until : ℕ
+  pub later : moment_of x < until
+  pub waits : Waits k market.day market.stopped (moment_of x) until
   pub own : deal ≡ deal_of market.day k.id x
   pub counts : (if is_some k.run then option_to_list deal else []) ≡ option_to_list deal
   pub restricts : (triggers_by k.short.prior_close deal && not k.short.triggered) ≡ false

@@ -1,6 +1,7 @@
 -- What the code does at a record that is evaluated. Private words: no public clause cites them.
 use Rattle.std.specs.Prelude.{◌≡◌, ◌++◌, ◌≤◌, ℕ, Bool, true, false, Some, List}
 use Rattle.std.specs.Option.{option_map_or}
+use Rattle.wire_in.specs.declared.record.Record.{Record}
 use Rattle.wire_in.specs.Records.{is_day, moment_of, name_of}
 use Rattle.wire_out.specs.declared.message.Message.{Message}
 use Rattle.window_core.specs.declared.window.Deal.{Deal}
@@ -9,10 +10,15 @@ use Rattle.rulebook.specs.History.{now, publish, records}
 use Rattle.rulebook.specs.Market.{day_record, is_market_halted}
 use Rattle.symbol_core.specs.declared.kept.Kept.{Kept}
 use Rattle.symbol_core.specs.declared.kept.Step.{Step}
+use Rattle.symbol_core.specs.declared.symbol.MarketView.{MarketView}
 use Rattle.symbol_core.specs.Evaluates.{open_history, step_of}
 use Rattle.symbol_core.specs.Rests.{Rests}
 use Rattle.symbol_core.specs.Silent.{AllSilent}
 use Rattle.symbol_core.specs.Stands.{named}
+
+-- the step of a record
+abbrev pub step_for : MarketView → Record → Step
+step_for market x = record { moment = moment_of x; day = market.day; stopped = market.stopped; input = x }
 
 -- the step is that of a record of the day, other than the day record, on a history that the symbol rests on
 pub record Starts (own : List ℕ → Bool) (k : Kept) (kept : List Deal) (step : Step) (others : List Message) (h : List Event) : Type 0 where

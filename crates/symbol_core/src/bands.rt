@@ -9,6 +9,7 @@ ghost use Rattle.rulebook.specs.Auction.{is_paused};
 ghost use Rattle.rulebook.specs.Rules as rules;
 ghost use Rattle.rulebook.specs.Symbol.{bands_of, is_times, prior_close_of};
 ghost use Rattle.symbol_core.specs.Evaluates.{most_of_symbol};
+ghost use Rattle.symbol_core.specs.Idle.{changes_bands};
 ghost use Rattle.symbol_core.specs.InStep.{in_step};
 ghost use Rattle.symbol_core.specs.Pricing as pricing;
 ghost use Rattle.symbol_core.specs.Runs.{run_band, run_reference};
@@ -204,6 +205,7 @@ impl Kept {
         requires times { is_times cause ≡ true → option_map (λ last. last.reference) (run_band self.old) ≡ Some price }
         requires room { length out.old + 1 ≤ most_of_symbol }
         ensures says { Says (pricing.band self.old step.now cause price) step.now (in_step self.old opened.old) (in_step self.new opened.new) out.old out.new }
+        ensures bands { changes_bands self.new step.now ≡ false }
         ensures len { length out.new ≤ length out.old + 1 }
     {
         if let Some(listed) = self.terms {
@@ -237,6 +239,7 @@ impl Kept {
     fn band_by_time(&mut self, step: &Step, opened: &mut OpenStep, out: &mut Messages)
         requires { length out.old + 1 ≤ most_of_symbol }
         ensures says { Says (option_map_or (pricing.band_by_time self.old step.now) (run_band self.old) []) step.now (in_step self.old opened.old) (in_step self.new opened.new) out.old out.new }
+        ensures bands { changes_bands self.new step.now ≡ false }
         ensures len { length out.new ≤ length out.old + 1 }
     {
         if let Some(last) = self.last_band() {
@@ -249,6 +252,7 @@ impl Kept {
     fn banding(&mut self, step: &Step, opened: &mut OpenStep, deals: &Window, out: &mut Messages)
         requires { length out.old + 1 ≤ most_of_symbol }
         ensures says { Says (pricing.banding (mean_of (live step.now.moment (window (in_step self.old opened.old) deals.now.deals))) (in_step self.old opened.old) step.now) step.now (in_step self.old opened.old) (in_step self.new opened.new) out.old out.new }
+        ensures bands { changes_bands self.new step.now ≡ false }
         ensures len { length out.new ≤ length out.old + 1 }
     {
         match self.reference(step, opened, deals) {
@@ -268,6 +272,7 @@ impl Kept {
         requires goes_on { is_done self.old.phase ≡ false }
         requires room { length out.old + 1 ≤ most_of_symbol }
         ensures obeys { ObeysWith deals.now.deals rules.publish_band step.now (in_step self.old opened.old) (in_step self.new opened.new) out.old out.new }
+        ensures bands { changes_bands self.new step.now ≡ false }
         ensures len { length out.new ≤ length out.old + 1 }
     {
         self.banding(step, opened, deals, out);

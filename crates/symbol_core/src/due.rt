@@ -1,16 +1,15 @@
 // When a symbol is next due: before that, clocks and index ticks bring nothing of it.
 ghost use Rattle.std.specs.Prelude.{◌≡◌, ◌<◌, ◌≤◌, ◌&&◌, ◌||◌, ℕ, true, false, None, Some, IfSome, List, is_some, not};
-ghost use Rattle.std.specs.Option.{option_map_or};
 ghost use Rattle.session_core.specs.declared.day.Day.{Day};
 ghost use Rattle.session_core.specs.Times.{is_closed};
 ghost use Rattle.pause_core.specs.Phases.{can_start, is_trading};
 ghost use Rattle.percent_core.specs.Percentages.{span};
 ghost use Rattle.window_core.specs.declared.window.Deal.{Deal};
 ghost use Rattle.rulebook.specs.Rules.{at_band};
-ghost use Rattle.symbol_core.specs.Idle.{ChangesBandsFrom, IsDue, IsSettled, IsSettledAt, PausesFrom, PricesFrom, ReopensFrom, StartsFrom, Waits, WaitsAt, is_out, leaves_limit};
+ghost use Rattle.symbol_core.specs.Idle.{ChangesBandsFrom, IsDue, IsSettled, IsSettledAt, PausesFrom, PricesFrom, ReopensFrom, StartsFrom, Waits, WaitsAt, changes_bands, is_out, leaves_limit};
 ghost use Rattle.window_core.specs.Deals.{live, mean_of};
 ghost use Rattle.symbol_core.specs.InStep.{in_step};
-ghost use Rattle.symbol_core.specs.Pricing.{reference, time_changes};
+ghost use Rattle.symbol_core.specs.Pricing.{reference};
 ghost use Rattle.symbol_core.specs.Runs.{run_band, run_reference};
 ghost use Rattle.symbol_core.specs.Window.{window};
 
@@ -69,18 +68,6 @@ impl Due {
             until: u64::MAX,
             waits: u64::MAX,
             market: *market,
-        }
-    }
-
-    /// The same from a later moment on.
-    pub(crate) fn since(&self, t: Moment) -> Due
-        ensures { result ≡ record self.now { from = t } }
-    {
-        Due {
-            from: t,
-            until: self.until,
-            waits: self.waits,
-            market: self.market,
         }
     }
 
@@ -220,25 +207,15 @@ impl Kept {
         }
     }
 
-    fn time_brings_bands(&self, step: &Step) -> bool
-        ensures { result ≡ option_map_or (time_changes self.now step.now) (run_band self.now) false }
-    {
-        match &self.last_band() {
-            Some(last) => self.time_changes(step, last),
-            None => false,
-        }
-    }
-
     /// When the percentages change next (LULD Plan, Appendix A).
     fn changes_bands_from(&self, step: &Step) -> u64
+        requires { changes_bands self.now step.now ≡ false }
         ensures { ChangesBandsFrom self.now step.now.day step.now.moment result }
     {
-        if !is_trading(self.phase) {
-            u64::MAX
-        } else if self.time_brings_bands(step) {
-            0
-        } else {
+        if is_trading(self.phase) {
             next_change(step.moment, &step.day)
+        } else {
+            u64::MAX
         }
     }
 }
@@ -276,6 +253,7 @@ impl Kept {
 impl Kept {
     /// Until when time brings nothing but perhaps a new reference price, in nanoseconds of the day.
     fn waits(&self, step: &Step) -> u64
+        requires { changes_bands self.now step.now ≡ false }
         ensures { Waits self.now step.now.day step.now.stopped step.now.moment result }
     {
         let close = close_of(&step.day);
@@ -326,8 +304,10 @@ impl Kept {
         Due::of(step, waits, earlier(waits, prices))
     }
 
-    /// When the symbol is next due after a step. None where a rule says something at the next tick, whenever that comes.
+    /// When the symbol is next due after a step, at which time gives no other bands. None where a rule says something at the
+    /// next tick, whenever that comes.
     pub fn due(&self, step: &Step, deals: &Window) -> Option<Due>
+        requires bands { changes_bands self.now step.now ≡ false }
         ensures { IsDue result self.now deals.now.deals }
     {
         if self.is_out() {

@@ -1,5 +1,5 @@
 // Quotations that bring nothing but themselves, and trades and ticks that bring nothing but perhaps a new reference price.
-ghost use Rattle.std.specs.Prelude.{◌≡◌, ◌<◌, ◌≤◌, ◌++◌, ◌&&◌, [], Bool, None, Some, if◌then◌else◌, true, false, is_some, length, nat_le, nat_lt, not, option_to_list, IsOk, OnOk};
+ghost use Rattle.std.specs.Prelude.{◌≡◌, ◌<◌, ◌≤◌, ◌++◌, ◌&&◌, [], Bool, None, Some, IfSome, if◌then◌else◌, true, false, is_some, length, nat_le, nat_lt, not, option_to_list, IsOk, OnOk};
 ghost use Rattle.window_core.specs.Deals.{live, mean_of};
 ghost use Rattle.limit_core.specs.Limits.{straddles};
 ghost use Rattle.rulebook.specs.Rules.{at_band, meets};
@@ -194,16 +194,13 @@ impl Kept {
         has_price && !self.is_out() && self.counts(deal) && !self.is_restricted_by(deal)
     }
 
-    /// When the stock is next due, where no rule says anything.
-    pub fn due_still(&self, due: &Due, deals: &Window) -> Due
-        requires { IsStill self.now deals.now.deals due.now }
-        ensures { IsDue (Some result) self.now deals.now.deals }
+    /// Sets when the stock is next due once other deals are kept, where no rule says anything.
+    pub fn stay_due(&self, due: &mut Option<Due>, deals: &Window)
+        requires { IfSome due.old (λ due. IsStill self.now due) }
+        ensures { IsDue due.new self.now deals.now.deals }
     {
-        Due {
-            from: due.from,
-            until: earlier(due.waits, self.prices_from(due.from, deals)),
-            waits: due.waits,
-            market: due.market,
+        if let Some(due) = due {
+            due.until = earlier(due.waits, self.prices_from(due.from, deals));
         }
     }
 }

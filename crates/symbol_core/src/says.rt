@@ -3,6 +3,7 @@ ghost use Rattle.std.specs.Prelude.{true, false, None, Some, ◌≡◌, ◌+◌,
 ghost use Rattle.rulebook.specs.Auction.{is_paused, origin_of};
 ghost use Rattle.rulebook.specs.Symbol.{is_times};
 ghost use Rattle.symbol_core.specs.Evaluates.{most_of_symbol};
+ghost use Rattle.symbol_core.specs.Idle.{changes_bands};
 ghost use Rattle.symbol_core.specs.InStep.{in_step};
 ghost use Rattle.symbol_core.specs.Kept.{auction_begun, becoming, begins_auction, in_round, collars_of, run_banded, run_of, turned};
 ghost use Rattle.symbol_core.specs.Runs.{run_band};
@@ -161,6 +162,7 @@ impl Kept {
     pub fn say_straddle(&mut self, step: &Step, on: bool, out: &mut Messages)
         requires { length out.old + 1 ≤ most_of_symbol }
         ensures says { (opened : OpenStep) → Says (Message.Straddle self.old.id on ∷ []) step.now (in_step self.old opened) (in_step self.new opened) out.old out.new }
+        ensures bands { changes_bands self.new step.now ≡ changes_bands self.old step.now }
         ensures len { length out.new ≡ length out.old + 1 }
     {
         out.push(Message::Straddle {
@@ -253,6 +255,7 @@ impl Kept {
     pub fn say_triggered(&mut self, step: &Step, out: &mut Messages)
         requires { length out.old + 1 ≤ most_of_symbol }
         ensures says { (opened : OpenStep) → Says (Message.Short self.old.id ShortKind.Triggered ∷ []) step.now (in_step self.old opened) (in_step self.new opened) out.old out.new }
+        ensures bands { changes_bands self.new step.now ≡ changes_bands self.old step.now }
         ensures len { length out.new ≡ length out.old + 1 }
     {
         out.push(Message::Short {
@@ -278,6 +281,7 @@ impl Kept {
         requires times { is_times b.now.cause ≡ true → option_map (λ last. last.reference) (run_band self.old) ≡ Some b.now.reference }
         requires room { length out.old + 1 ≤ most_of_symbol }
         ensures says { Says (Message.Band self.old.id b.now.cause b.now.reference b.now.bands.lower b.now.bands.upper ∷ []) step.now (in_step self.old opened.old) (in_step self.new opened.new) out.old out.new }
+        ensures banded { in_step self.new opened.new ≡ banded (in_step self.old opened.old) step.now b.now }
         ensures len { length out.new ≡ length out.old + 1 }
     {
         out.push(Message::Band {

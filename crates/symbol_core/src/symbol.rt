@@ -7,10 +7,10 @@ ghost use Rattle.rulebook.specs.declared.event.Event.{Event};
 ghost use Rattle.rulebook.specs.Symbol as of;
 ghost use Rattle.rulebook.specs.Symbol.{traded_price};
 ghost use Rattle.symbol_core.specs.Evaluates.{most_of_symbol};
-ghost use Rattle.symbol_core.specs.Idle.{IsAwaited, IsDue, IsSettled, Waits, WaitsAt, quoted};
+ghost use Rattle.symbol_core.specs.Idle.{IsAwaited, IsDue, IsSettled, Waits, WaitsAt, brings_deal_or_time, changes_bands};
 ghost use Rattle.symbol_core.specs.InStep.{in_step};
 ghost use Rattle.symbol_core.specs.Stands.{Speaks};
-ghost use Rattle.symbol_core.specs.Steps.{Steps};
+ghost use Rattle.symbol_core.specs.Steps.{Steps, step_for};
 ghost use Rattle.symbol_core.specs.Taken.{deal_of};
 
 use crate::due::Due;
@@ -19,7 +19,7 @@ use crate::messages::Messages;
 use crate::passing::{add_one, brings_deal_or_time, deal_in, drop_old, reserve_deal};
 use crate::records::{quoted_by, traded_price};
 use crate::taking::{drop_cancelled, keep_deals};
-use price_core::{NoMemory, Quotation};
+use price_core::NoMemory;
 use session_core::{Day, Moment, Phase};
 use std::alloc::Global;
 use std::marker::Model;
@@ -52,24 +52,9 @@ impl Model for Symbol {
     ghost invariant = { λ s. IsDue s.due s.kept s.deals.deals };
 }
 
-/// A quotation at which no rule says anything, and when the stock is due after it.
-#[derive(Clone, Copy, Debug)]
-struct Passed {
-    quote: Quotation,
-    due: Due,
-}
-
-/// What a trade or a tick brings that may bring a new reference price and nothing else, and until when that is all that time
-/// brings.
-#[derive(Clone, Copy, Debug)]
-struct Awaited {
-    deal: Option<Deal>,
-    due: Due,
-}
-
 /// The step of a record.
 fn step_of(x: &Record, market: &MarketView) -> Step
-    ensures { result ≡ record { moment = moment_of x.now; day = market.now.day; stopped = market.now.stopped; input = x.now } }
+    ensures { result ≡ step_for market.now x.now }
 {
     Step {
         moment: x.moment(),
@@ -160,78 +145,64 @@ impl Symbol {
         self.due = Some(Due::without_end(t, market));
     }
 
-    /// When the symbol is due after a clock or an index tick that brings nothing.
-    fn passes(&self, x: &Record, market: &MarketView) -> Option<Due>
-        ensures nothing { IfSome result (λ due. (before : List Said) → Evaluates market.now x.now self.now self.now before before) }
-        ensures tick { IfSome result (λ due. is_tick x.now ≡ true) }
-        ensures due { IfSome result (λ due. IsDue (Some due) self.now.kept (live (moment_of x.now) self.now.deals)) }
+    /// Passes over a clock or an index tick that brings nothing, but removes the trades that are five minutes old. False: the
+    /// record is no such tick, and all is as it was.
+    fn pass(&mut self, x: &Record, market: &MarketView) -> bool
+        ensures nothing { result ≡ true → (before : List Said) → Evaluates market.now x.now self.old self.new before before }
+        ensures recent { result ≡ true → live (moment_of x.now) self.new.deals ≡ self.new.deals }
+        ensures others { result ≡ false → self.new ≡ self.old }
     {
-        match &self.due {
-            Some(due) if x.is_tick() && due.holds(x.moment(), market) => Some(due.since(
-                x.moment(),
-            )),
-            _ => None,
-        }
-    }
-
-    /// Passes over a tick, but removes the trades that are five minutes old.
-    fn pass(&mut self, t: Moment, due: Due)
-        requires { IsDue (Some due) self.old.kept (live t self.old.deals) }
-        ensures kept { self.new.kept ≡ self.old.kept }
-        ensures deals { self.new.deals ≡ live t self.old.deals }
-    {
-        drop_old(t, &mut self.deals);
-        self.due = Some(due);
-    }
-
-    /// The quotation that a record brings to the run, where it and its moment bring nothing else.
-    fn passes_quote(&self, x: &Record, market: &MarketView) -> Option<Passed>
-        ensures nothing { IfSome result (λ passed. (before : List Said) → Evaluates market.now x.now self.now (quoted self.now (moment_of x.now) passed.quote) before before) }
-        ensures due { IfSome result (λ passed. IsDue (Some passed.due) (quoted self.now (moment_of x.now) passed.quote).kept (quoted self.now (moment_of x.now) passed.quote).deals) }
-    {
-        let quote = quoted_by(self.kept.id, x)?;
-        match &self.due {
-            Some(due)
-                if due.holds(x.moment(), market)
-                    && self.kept.stays_settled(&quote, market.stopped) => {
-                Some(Passed {
-                    quote,
-                    due: due.since(x.moment()),
-                })
+        let t = x.moment();
+        match &mut self.due {
+            Some(due) if x.is_tick() && due.holds(t, market) => {
+                due.from = t;
+                drop_old(t, &mut self.deals);
+                true
             }
-            _ => None,
+            _ => false,
         }
     }
 
-    /// Takes a quotation in that brings nothing else, and removes the trades that are five minutes old.
-    fn pass_quote(&mut self, t: Moment, passed: &Passed)
-        requires { IsDue (Some passed.now.due) (quoted self.old t passed.now.quote).kept (quoted self.old t passed.now.quote).deals }
-        ensures { self.new ≡ quoted self.old t passed.now.quote }
+    /// Takes a quotation in, where it and its moment bring the run nothing else, and removes the trades that are five minutes
+    /// old. False: the record is no such quotation, and all is as it was.
+    fn pass_quote(&mut self, x: &Record, market: &MarketView) -> bool
+        ensures nothing { result ≡ true → (before : List Said) → Evaluates market.now x.now self.old self.new before before }
+        ensures recent { result ≡ true → live (moment_of x.now) self.new.deals ≡ self.new.deals }
+        ensures others { result ≡ false → self.new ≡ self.old }
     {
-        if let Some(run) = &mut self.kept.run {
-            run.take_quote(Some(passed.quote));
+        let Some(quote) = quoted_by(self.kept.id, x) else {
+            return false;
+        };
+        let t = x.moment();
+        match &mut self.due {
+            Some(due) if due.holds(t, market) && self.kept.stays_settled(&quote, market.stopped) =>
+                {
+                    due.from = t;
+                    self.kept.take_quote(quote);
+                    drop_old(t, &mut self.deals);
+                    true
+                }
+            _ => false,
         }
-        drop_old(t, &mut self.deals);
-        self.due = Some(passed.due);
     }
 
-    /// What a trade or a tick brings, where it and its moment bring nothing else but perhaps a new reference price.
-    fn awaits(&self, x: &Record, market: &MarketView) -> Option<Awaited>
-        ensures { IfSome result (λ awaited. IsAwaited self.now.kept market.now x.now awaited.deal awaited.due) }
+    /// Whether a trade or a tick brings nothing but its deal and perhaps a new reference price. When the stock is due is then
+    /// known from its moment on.
+    fn awaits(&mut self, x: &Record, market: &MarketView, deal: &Option<Deal>) -> bool
+        requires kind { brings_deal_or_time x.now ≡ true }
+        requires own { deal.now ≡ deal_of market.now.day self.old.kept.id x.now }
+        ensures awaited { result ≡ true → IsAwaited self.new.kept market.now x.now deal.now }
+        ensures same { self.new ≡ self.old }
     {
-        let deal = deal_in(self.kept.id, x, &market.day);
-        match &self.due {
-            Some(due)
-                if brings_deal_or_time(x)
-                    && due.waits_for(x.moment(), market)
-                    && self.kept.awaits_price(&deal) => {
-                Some(Awaited {
-                    deal,
-                    due: due.since(x.moment()),
-                })
-            }
-            _ => None,
+        let t = x.moment();
+        let Some(due) = &mut self.due else {
+            return false;
+        };
+        if due.waits_for(t, market) && self.kept.awaits_price(deal) {
+            due.from = t;
+            return true;
         }
+        false
     }
 
     /// Evaluates a trade or a tick that may bring a new reference price and nothing else: where it brings none, no rule is
@@ -240,29 +211,49 @@ impl Symbol {
         &mut self,
         x: &Record,
         market: &MarketView,
-        awaited: &Awaited,
+        deal: &Option<Deal>,
         out: &mut Messages,
     ) -> Result<(), NoMemory>
-        requires awaited { IsAwaited self.old.kept market.now x.now awaited.now.deal awaited.now.due }
+        requires awaited { IsAwaited self.old.kept market.now x.now deal.now }
         requires room { length out.old + 15 ≤ most_of_symbol }
         ensures ok { OnOk result (Evaluates market.now x.now self.old self.new out.old out.new) }
         ensures err { OnErr result ((self.new ≡ self.old) × (out.new ≡ out.old)) }
         ensures succeeds { traded_price market.now.day self.old.kept.id x.now ≡ None → IsOk result }
         ensures recent { OnOk result (live (moment_of x.now) self.new.deals ≡ self.new.deals) }
     {
-        reserve_deal(&awaited.deal, &mut self.deals)?;
-        drop_old(awaited.due.from, &mut self.deals);
-        if self
-            .kept
-            .keeps_price(awaited.due.from, &awaited.deal, &self.deals)
-        {
-            add_one(&awaited.deal, &mut self.deals);
-            self.due = Some(self.kept.due_still(&awaited.due, &self.deals));
+        let t = x.moment();
+        reserve_deal(deal, &mut self.deals)?;
+        drop_old(t, &mut self.deals);
+        if self.kept.keeps_price(t, deal, &self.deals) {
+            add_one(deal, &mut self.deals);
+            self.kept.stay_due(&mut self.due, &self.deals);
             return Ok(());
         }
-        let step = step_of(x, market);
-        self.due = take_moved(&mut self.kept, &mut self.deals, &step, awaited, out);
+        self.due = take_moved(&mut self.kept, &mut self.deals, x, market, deal, out);
         Ok(())
+    }
+
+    /// Evaluates a trade or a tick that isn't passed over.
+    fn take_deal_or_time(
+        &mut self,
+        x: &Record,
+        market: &MarketView,
+        out: &mut Messages,
+    ) -> Result<(), NoMemory>
+        requires kind { brings_deal_or_time x.now ≡ true }
+        requires listed { (is_tick x.now && not (is_some self.old.kept.terms)) ≡ false }
+        requires room { length out.old + 15 ≤ most_of_symbol }
+        ensures ok { OnOk result (Evaluates market.now x.now self.old self.new out.old out.new) }
+        ensures err { OnErr result ((self.new ≡ self.old) × (out.new ≡ out.old)) }
+        ensures succeeds { traded_price market.now.day self.old.kept.id x.now ≡ None → IsOk result }
+        ensures recent { OnOk result (live (moment_of x.now) self.new.deals ≡ self.new.deals) }
+    {
+        let deal = deal_in(self.kept.id, x, &market.day);
+        if self.awaits(x, market, &deal) {
+            self.take_awaited(x, market, &deal, out)
+        } else {
+            self.obey(x, market, out)
+        }
     }
 
     /// Evaluates a record: leaves what it announces of the symbol and what the rules then give, in place of the messages that
@@ -305,16 +296,11 @@ impl Symbol {
             self.stay_away(x.moment(), market);
             return Ok(());
         }
-        if let Some(due) = self.passes(x, market) {
-            self.pass(x.moment(), due);
+        if self.pass(x, market) || self.pass_quote(x, market) {
             return Ok(());
         }
-        if let Some(passed) = self.passes_quote(x, market) {
-            self.pass_quote(x.moment(), &passed);
-            return Ok(());
-        }
-        if let Some(awaited) = self.awaits(x, market) {
-            return self.take_awaited(x, market, &awaited, out);
+        if brings_deal_or_time(x) {
+            return self.take_deal_or_time(x, market, out);
         }
         self.obey(x, market, out)
     }
@@ -352,6 +338,7 @@ fn speak(
     requires room { length out.old + 15 ≤ most_of_symbol }
     ensures speaks { Speaks deals.now.deals step.now (in_step k.old opened.old) (in_step k.new opened.new) out.old out.new }
     ensures quiet { result ≡ true → (k.new ≡ k.old) × IsSettled k.old step.now.stopped }
+    ensures bands { changes_bands k.new step.now ≡ false }
 {
     if waits.is_some() && k.is_quiet(step, opened, deals) {
         return true;
@@ -369,6 +356,7 @@ fn due_after(
     waits: Option<u64>,
     is_quiet: bool,
 ) -> Option<Due>
+    requires bands { changes_bands k.now step.now ≡ false }
     requires quiet { is_quiet ≡ true → IsSettled k.now step.now.stopped }
     requires waits { is_quiet ≡ true → IfSome waits (λ until. Waits k.now step.now.day step.now.stopped step.now.moment until) }
     ensures { IsDue result k.now deals.now.deals }
@@ -404,23 +392,26 @@ fn take_step(
 }
 
 /// Takes a trade or a tick in that brings a new reference price, and obeys the rules. The answer is when the stock is next
-/// due.
+/// due. It stays a call of its own, whose large frame the other records don't pay for.
+#[inline(never)]
 fn take_moved(
     k: &mut Kept,
     deals: &mut Window,
-    step: &Step,
-    awaited: &Awaited,
+    x: &Record,
+    market: &MarketView,
+    deal: &Option<Deal>,
     out: &mut Messages,
 ) -> Option<Due>
-    requires awaited { IsAwaited k.old (record { day = step.now.day; stopped = step.now.stopped }) step.now.input awaited.now.deal awaited.now.due }
-    requires deals { length (option_to_list awaited.now.deal) ≤ deals.old.spare }
+    requires awaited { IsAwaited k.old market.now x.now deal.now }
+    requires deals { length (option_to_list deal.now) ≤ deals.old.spare }
     requires room { length out.old + 15 ≤ most_of_symbol }
-    ensures steps { (kept : List Deal) → live step.now.moment kept ≡ deals.old.deals → Steps step.now k.old k.new kept deals.new.deals out.old out.new }
-    ensures recent { step.now.moment ≡ moment_of step.now.input → live step.now.moment deals.new.deals ≡ deals.new.deals }
+    ensures steps { (kept : List Deal) → live (moment_of x.now) kept ≡ deals.old.deals → Steps (step_for market.now x.now) k.old k.new kept deals.new.deals out.old out.new }
+    ensures recent { live (moment_of x.now) deals.new.deals ≡ deals.new.deals }
     ensures due { IsDue result k.new deals.new.deals }
 {
-    let mut opened = OpenStep::begin(awaited.deal, false);
-    k.obey(step, &mut opened, deals, out);
-    keep_deals(k, opened.is_fresh, step.moment, &awaited.deal, deals);
-    k.due(step, deals)
+    let step = step_of(x, market);
+    let mut opened = OpenStep::begin(*deal, false);
+    k.obey(&step, &mut opened, deals, out);
+    keep_deals(k, opened.is_fresh, step.moment, deal, deals);
+    k.due(&step, deals)
 }

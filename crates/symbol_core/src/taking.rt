@@ -2,7 +2,7 @@
 ghost use Rattle.std.specs.Prelude.{◌≡◌, ◌≤◌, ◌++◌, [], is_some, if◌then◌else◌, filter, length, option_to_list};
 ghost use Rattle.window_core.specs.Deals.{live};
 ghost use Rattle.symbol_core.specs.InStep.{in_step, just_opened};
-ghost use Rattle.symbol_core.specs.Kept.{heard, requoted};
+ghost use Rattle.symbol_core.specs.Kept.{heard, requoted, with_quote};
 ghost use Rattle.symbol_core.specs.Taken.{leaves, renewed, restricts, shorted, taken};
 ghost use Rattle.symbol_core.specs.Window.{SameLive};
 
@@ -57,6 +57,15 @@ impl Kept {
             halted: false,
             auction: None,
             short: Short::listed(None, carried),
+        }
+    }
+
+    /// Takes a quotation in, where there is a run.
+    pub fn take_quote(&mut self, quote: Quotation)
+        ensures { self.new ≡ with_quote self.old quote }
+    {
+        if let Some(run) = &mut self.run {
+            run.take_quote(Some(quote));
         }
     }
 

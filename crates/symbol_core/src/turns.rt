@@ -9,6 +9,7 @@ ghost use Rattle.rulebook.specs.Auction.{is_paused};
 ghost use Rattle.rulebook.specs.Rules as rules;
 ghost use Rattle.rulebook.specs.Rules.{at_band, meets};
 ghost use Rattle.symbol_core.specs.Evaluates.{most_of_symbol};
+ghost use Rattle.symbol_core.specs.Idle.{changes_bands};
 ghost use Rattle.symbol_core.specs.InStep.{in_step};
 ghost use Rattle.symbol_core.specs.Kept.{brakes, is_straddling_now, states, straddles_at, straddling};
 ghost use Rattle.symbol_core.specs.Runs.{run_band, run_quote};
@@ -135,6 +136,7 @@ impl Kept {
         requires goes_on { is_done self.old.phase ≡ false }
         requires room { length out.old + 1 ≤ most_of_symbol }
         ensures obeys { Obeys rules.enter_limit step.now (in_step self.old opened.old) (in_step self.new opened.new) out.old out.new }
+        ensures bands { changes_bands self.old step.now ≡ false → changes_bands self.new step.now ≡ false }
         ensures len { length out.new ≤ length out.old + 1 }
     {
         if !is_trading(self.phase) {
@@ -163,6 +165,7 @@ impl Kept {
     fn straddling(&mut self, step: &Step, out: &mut Messages)
         requires { length out.old + 1 ≤ most_of_symbol }
         ensures says { (opened : OpenStep) → Says (straddling self.old step.now) step.now (in_step self.old opened) (in_step self.new opened) out.old out.new }
+        ensures bands { changes_bands self.new step.now ≡ changes_bands self.old step.now }
         ensures len { length out.new ≤ length out.old + 1 }
     {
         let is_straddling = self.is_straddling_now();
@@ -178,6 +181,7 @@ impl Kept {
         requires goes_on { is_done self.old.phase ≡ false }
         requires room { length out.old + 1 ≤ most_of_symbol }
         ensures obeys { (opened : OpenStep) → Obeys rules.straddle step.now (in_step self.old opened) (in_step self.new opened) out.old out.new }
+        ensures bands { changes_bands self.new step.now ≡ changes_bands self.old step.now }
         ensures len { length out.new ≤ length out.old + 1 }
     {
         self.straddling(step, out);

@@ -1,5 +1,5 @@
-use Rattle.std.proofs.Common.{ℕ, ◌<◌, ◌≤◌, slice_index}
+use Rattle.alarms.specs.Bounds.{IsLeast}
 use Rattle.alarms.proofs.alarms.least.Given as goal
 
-abbrev pub invariant-loop-moment : goal.invariant-loop-moment
-invariant-loop-moment l = (place : ℕ) → place < l.moment-index → l.least ≤ slice_index l.moments place
+abbrev pub invariant-loop-number : goal.invariant-loop-number
+invariant-loop-number l = IsLeast l.least 0 l.number-index l.numbers

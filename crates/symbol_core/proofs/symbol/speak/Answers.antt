@@ -1,6 +1,7 @@
 use Rattle.std.proofs.Common.{sym, ◌∙◌}
 use Rattle.symbol_core.proofs.Quiet.{speaks-quiet}
 use Rattle.symbol_core.specs.InStep.{in_step}
+use Rattle.symbol_core.proofs.Banding.{bands-waited}
 use Rattle.symbol_core.proofs.symbol.speak.Goals as goal
 
 pub returns-then-is_quiet-clause-speaks : goal.returns-then-is_quiet-clause-speaks
@@ -16,3 +17,6 @@ returns-clause-speaks c =
       announces = c.announce.ensures.says c.args.opened.now;
       obeys = c.obey.ensures.obeys;
     }
+
+pub returns-then-is_quiet-clause-bands : goal.returns-then-is_quiet-clause-bands
+returns-then-is_quiet-clause-bands c = bands-waited c.args.k.now c.args.step.now c.args.waits (sym c.is_some.ensures ∙ c.if-is_some.true) c.requires.waits

@@ -9,6 +9,7 @@ use Rattle.symbol_core.specs.Runs.{run_band, run_quote}
 use Rattle.symbol_core.proofs.Chains.{obeys}
 use Rattle.symbol_core.proofs.Gives.{enter-gives}
 use Rattle.symbol_core.specs.InStep.{in_step}
+use Rattle.symbol_core.proofs.Banding.{bands-turned}
 use Rattle.symbol_core.proofs.kept.Kept.enter_limit.Goals as goal
 
 pub returns-then-is_at_band-clause-obeys : goal.returns-then-is_at_band-clause-obeys
@@ -29,3 +30,9 @@ returns-then-is_at_band-2-clause-obeys c =
     obeys rules.enter_limit c.requires.goes_on refl c.becomes-then-is_at_band-2.ensures.says
     (λ mine deals h s. enter-gives (in_step k c.args.opened.now) c.args.step.now mine deals h s
     ∙ (λ i. if trading i then [] else if low i then becoming k LimitLow else if high i then becoming k LimitHigh else []))
+
+pub returns-then-is_at_band-clause-bands : goal.returns-then-is_at_band-clause-bands
+returns-then-is_at_band-clause-bands c = λ none. bands-turned c.becomes.new.self c.args.step.now LimitLow c.becomes.ensures.says.phase refl
+
+pub returns-then-is_at_band-2-clause-bands : goal.returns-then-is_at_band-2-clause-bands
+returns-then-is_at_band-2-clause-bands c = λ none. bands-turned c.becomes-then-is_at_band-2.new.self c.args.step.now LimitHigh c.becomes-then-is_at_band-2.ensures.says.phase refl

@@ -2,6 +2,7 @@ use Rattle.std.proofs.Common.{sym, ◌∙◌}
 use Rattle.symbol_core.specs.Stands.{later_rules}
 use Rattle.symbol_core.proofs.Chains.{closed, last, next, then_all, with_deals}
 use Rattle.symbol_core.specs.InStep.{in_step}
+use Rattle.symbol_core.proofs.Banding.{bands-done}
 use Rattle.symbol_core.proofs.kept.Kept.obey.Goals as goal
 
 pub pause-requires-clause-goes_on : goal.pause-requires-clause-goes_on
@@ -30,6 +31,7 @@ returns-then-is_done c =
     let deals = c.args.deals.now.deals in
     record {
       obeys = then_all (c.turn.ensures.obeys deals) (closed deals later_rules c.args.step.now (in_step c.turn.new.self c.turn.new.opened) c.turn.new.out (sym c.is_done.ensures ∙ c.if-is_done.true));
+      bands = bands-done c.turn.new.self c.args.step.now (sym c.is_done.ensures ∙ c.if-is_done.true);
     }
 
 pub returns : goal.returns
@@ -37,4 +39,5 @@ returns c =
     let deals = c.args.deals.now.deals in
     record {
       obeys = then_all (c.turn.ensures.obeys deals) (next (with_deals deals c.pause.ensures.obeys) (next (with_deals deals c.reopen.ensures.obeys) (next (with_deals deals c.leave_limit.ensures.obeys) (next c.publish_band.ensures.obeys (next (with_deals deals c.enter_limit.ensures.obeys) (next (with_deals deals (c.straddle.ensures.obeys c.enter_limit.new.opened)) (next (with_deals deals c.restrict.ensures.obeys) (last deals c.args.step.now (in_step c.restrict.new.self c.enter_limit.new.opened) c.restrict.new.out))))))));
+      bands = c.restrict.ensures.bands ∙ c.straddle.ensures.bands ∙ c.enter_limit.ensures.bands c.publish_band.ensures.bands;
     }

@@ -1,30 +1,20 @@
-use Rattle.std.proofs.Common.{◌≡◌, ℕ, List, ◌++◌, refl, sym, ap, subst, ◌∙◌}
+use Rattle.std.proofs.Common.{◌≡◌, List, ◌++◌, refl, sym, ap, subst, ◌∙◌}
 use Rattle.std.specs.Prelude.{option_to_list}
 use Rattle.wire_in.specs.Records.{moment_of}
 use Rattle.window_core.specs.declared.window.Deal.{Deal}
 use Rattle.window_core.specs.Deals.{live}
-use Rattle.symbol_core.specs.declared.kept.Step.{Step}
 use Rattle.symbol_core.specs.Evaluates.{Evaluates}
-use Rattle.symbol_core.specs.Idle.{IsAwaited, IsStill}
+use Rattle.symbol_core.specs.Idle.{IsAwaited}
 use Rattle.symbol_core.specs.Rests.{Held}
-use Rattle.symbol_core.proofs.Dealt.{awaited-here, awaited-no_day, dealt-evaluated, dealt-recent, dealt-still, keeps-at}
+use Rattle.symbol_core.specs.Steps.{step_for}
+use Rattle.symbol_core.proofs.Dealt.{awaited-here, awaited-no_day, dealt-evaluated, dealt-recent, due-still, keeps-at}
 use Rattle.symbol_core.proofs.Evaluated.{step-obeyed}
 use Rattle.symbol_core.proofs.symbol.Symbol.take_awaited.Goals as goal
 
-pub due_still-requires : goal.due_still-requires
-due_still-requires c =
-    let x = c.args.x.now in
-    let market = c.args.market.now in
-    let k = c.self.inside.kept in
-    let deals = c.self.inside.deals.deals in
-    let due = c.args.awaited.now.due in
-    let deal = c.args.awaited.now.deal in
-    let at : due.from ≡ moment_of x = c.requires.awaited.from in
-    let gone : c.drop_old.new.deals.deals ≡ live (moment_of x) deals = c.drop_old.ensures.deals ∙ (λ i. live (at i) (c.reserve_deal.ensures.deals i)) in
-    let added : c.add_one.new.deals.deals ≡ live (moment_of x) deals ++ option_to_list deal = c.add_one.ensures ∙ ap (λ (ds : List Deal). ds ++ option_to_list deal) gone in
-    let w = subst (λ (held : Held). IsAwaited held.kept market x deal due) (sym c.self.view_is) c.requires.awaited in
-    subst (λ (ds : List Deal). IsStill k ds due) (sym added)
-    (dealt-still market x k deals due deal w (keeps-at k c.drop_old.new.deals.deals (live (moment_of x) deals) deal due.from (moment_of x) c.keeps_price.result at gone c.keeps_price.ensures c.if-keeps_price.true))
+pub stay_due-requires : goal.stay_due-requires
+stay_due-requires c =
+    let w = subst (λ (held : Held). IsAwaited held.kept c.args.market.now c.args.x.now c.args.deal.now) (sym c.self.view_is) c.requires.awaited in
+    due-still c.self.inside.due c.self.inside.kept c.self.inside.deals.deals c.self.invariant w.inside
 
 pub returns-then-keeps_price-clause-ok : goal.returns-then-keeps_price-clause-ok
 returns-then-keeps_price-clause-ok c =
@@ -32,16 +22,14 @@ returns-then-keeps_price-clause-ok c =
     let market = c.args.market.now in
     let k = c.self.inside.kept in
     let deals = c.self.inside.deals.deals in
-    let due = c.args.awaited.now.due in
-    let deal = c.args.awaited.now.deal in
+    let deal = c.args.deal.now in
     let before = c.args.out.now in
-    let at : due.from ≡ moment_of x = c.requires.awaited.from in
-    let gone : c.drop_old.new.deals.deals ≡ live (moment_of x) deals = c.drop_old.ensures.deals ∙ (λ i. live (at i) (c.reserve_deal.ensures.deals i)) in
+    let gone : c.drop_old.new.deals.deals ≡ live (moment_of x) deals = c.drop_old.ensures.deals ∙ (λ i. live (c.moment-t.ensures i) (c.reserve_deal.ensures.deals i)) in
     let added : c.add_one.new.deals.deals ≡ live (moment_of x) deals ++ option_to_list deal = c.add_one.ensures ∙ ap (λ (ds : List Deal). ds ++ option_to_list deal) gone in
-    let w = subst (λ (held : Held). IsAwaited held.kept market x deal due) (sym c.self.view_is) c.requires.awaited in
+    let w = subst (λ (held : Held). IsAwaited held.kept market x deal) (sym c.self.view_is) c.requires.awaited in
     subst (λ (ds : List Deal). Evaluates market x c.args.self.now (record { kept = k; deals = ds }) before before) (sym added)
     (subst (λ (held : Held). Evaluates market x held (record { kept = k; deals = live (moment_of x) deals ++ option_to_list deal }) before before) c.self.view_is
-    (dealt-evaluated market x k deals due deal w (keeps-at k c.drop_old.new.deals.deals (live (moment_of x) deals) deal due.from (moment_of x) c.keeps_price.result at gone c.keeps_price.ensures c.if-keeps_price.true) before))
+    (dealt-evaluated market x k deals deal w (keeps-at k c.drop_old.new.deals.deals (live (moment_of x) deals) deal c.moment-t.result (moment_of x) c.keeps_price.result c.moment-t.ensures gone c.keeps_price.ensures c.if-keeps_price.true) before))
 
 pub returns-then-keeps_price-clause-recent : goal.returns-then-keeps_price-clause-recent
 returns-then-keeps_price-clause-recent c =
@@ -49,14 +37,12 @@ returns-then-keeps_price-clause-recent c =
     let market = c.args.market.now in
     let k = c.self.inside.kept in
     let deals = c.self.inside.deals.deals in
-    let due = c.args.awaited.now.due in
-    let deal = c.args.awaited.now.deal in
-    let at : due.from ≡ moment_of x = c.requires.awaited.from in
-    let gone : c.drop_old.new.deals.deals ≡ live (moment_of x) deals = c.drop_old.ensures.deals ∙ (λ i. live (at i) (c.reserve_deal.ensures.deals i)) in
+    let deal = c.args.deal.now in
+    let gone : c.drop_old.new.deals.deals ≡ live (moment_of x) deals = c.drop_old.ensures.deals ∙ (λ i. live (c.moment-t.ensures i) (c.reserve_deal.ensures.deals i)) in
     let added : c.add_one.new.deals.deals ≡ live (moment_of x) deals ++ option_to_list deal = c.add_one.ensures ∙ ap (λ (ds : List Deal). ds ++ option_to_list deal) gone in
-    let w = subst (λ (held : Held). IsAwaited held.kept market x deal due) (sym c.self.view_is) c.requires.awaited in
+    let w = subst (λ (held : Held). IsAwaited held.kept market x deal) (sym c.self.view_is) c.requires.awaited in
     ap (live (moment_of x)) added
-    ∙ dealt-recent market x k deals due deal w (keeps-at k c.drop_old.new.deals.deals (live (moment_of x) deals) deal due.from (moment_of x) c.keeps_price.result at gone c.keeps_price.ensures c.if-keeps_price.true)
+    ∙ dealt-recent market x k deals deal w (keeps-at k c.drop_old.new.deals.deals (live (moment_of x) deals) deal c.moment-t.result (moment_of x) c.keeps_price.result c.moment-t.ensures gone c.keeps_price.ensures c.if-keeps_price.true)
     ∙ sym added
 
 pub returns-clause-ok : goal.returns-clause-ok
@@ -65,19 +51,13 @@ returns-clause-ok c =
     let market = c.args.market.now in
     let held = c.args.self.now in
     let deals = c.self.inside.deals.deals in
-    let due = c.args.awaited.now.due in
-    let deal = c.args.awaited.now.deal in
-    let step = c.step_of-step.result in
-    let moment = ap (λ (s : Step). s.moment) c.step_of-step.ensures in
-    let gone : c.drop_old.new.deals.deals ≡ live due.from deals = c.drop_old.ensures.deals ∙ ap (live due.from) c.reserve_deal.ensures.deals in
+    let deal = c.args.deal.now in
+    let gone : c.drop_old.new.deals.deals ≡ live (moment_of x) deals = c.drop_old.ensures.deals ∙ (λ i. live (c.moment-t.ensures i) (c.reserve_deal.ensures.deals i)) in
     step-obeyed market x held c.self.inside.kept deals deals
-    (record { kept = c.take_moved-self-inside.new.k; deals = c.take_moved-self-inside.new.deals.deals }) c.args.out.now c.args.out.now c.take_moved-self-inside.new.out step
-    c.self.view_is c.step_of-step.ensures refl refl (awaited-no_day held.kept market x deal due c.requires.awaited) (awaited-here held.kept market x deal due c.requires.awaited)
-    (c.take_moved-self-inside.ensures.steps deals (sym (gone ∙ ap (λ (t : ℕ). live t deals) (c.requires.awaited.from ∙ sym moment))))
+    (record { kept = c.take_moved-self-inside.new.k; deals = c.take_moved-self-inside.new.deals.deals }) c.args.out.now c.args.out.now c.take_moved-self-inside.new.out (step_for market x)
+    c.self.view_is refl refl refl (awaited-no_day held.kept market x deal c.requires.awaited) (awaited-here held.kept market x deal c.requires.awaited)
+    (c.take_moved-self-inside.ensures.steps deals (sym gone))
 
 pub take_moved-self-inside-requires-clause-awaited : goal.take_moved-self-inside-requires-clause-awaited
 take_moved-self-inside-requires-clause-awaited c =
-    let due = c.args.awaited.now.due in
-    let deal = c.args.awaited.now.deal in
-    subst (λ (s : Step). IsAwaited c.self.inside.kept (record { day = s.day; stopped = s.stopped }) s.input deal due) (sym c.step_of-step.ensures)
-    (subst (λ (held : Held). IsAwaited held.kept c.args.market.now c.args.x.now deal due) (sym c.self.view_is) c.requires.awaited)
+    subst (λ (held : Held). IsAwaited held.kept c.args.market.now c.args.x.now c.args.deal.now) (sym c.self.view_is) c.requires.awaited

@@ -1,0 +1,56 @@
+use Rattle.std.proofs.Common.{ℕ, ◌<◌, ◌≤◌, ◌≡◌, sym, ap, subst, ◌∙◌, arith}
+use Rattle.std.specs.Prelude.{Option, Some}
+use Rattle.wire_in.specs.Records.{moment_of}
+use Rattle.window_core.specs.Deals.{live}
+use Rattle.window_core.proofs.Deals.{live-live}
+use Rattle.symbol_core.specs.declared.due.Due.{Due}
+use Rattle.symbol_core.specs.Evaluates.{Evaluates}
+use Rattle.symbol_core.specs.Idle.{IsDue}
+use Rattle.symbol_core.specs.Rests.{Held}
+use Rattle.symbol_core.proofs.Quoted.{quoted, quoted-due, quoted-evaluated, settled-market}
+use Rattle.symbol_core.proofs.symbol.Symbol.pass_quote.Goals as goal
+
+pub invariant_of-self : goal.invariant_of-self
+invariant_of-self c =
+    let k = c.self.inside.kept in
+    let deals = c.self.inside.deals.deals in
+    let due = c.in-Some-due.due in
+    let quote = c.in-Some.quote in
+    let t = c.moment-t.result in
+    let is = subst (λ (o : Option Due). IsDue o k deals) c.in-Some-due.is c.self.invariant in
+    let same = c.holds.ensures.market c.if-holds.true in
+    let by = c.stays_settled.ensures in
+    let yes = c.if-stays_settled.true in
+    let settled = by.settled yes (settled-market k deals due c.args.market.now is (by.listed yes) same) in
+    let left : record { kept = c.take_quote.new.self; deals = c.drop_old.new.deals.deals } ≡ quoted (record { kept = k; deals = deals }) t quote = λ i. record { kept = c.take_quote.ensures i; deals = c.drop_old.ensures.deals i } in
+    subst (λ (held : Held). IsDue (Some (record due { from = t })) held.kept held.deals) (sym left)
+    (quoted-due k deals due t quote c.args.market.now is (c.holds.ensures.from c.if-holds.true) same (by.run yes) settled)
+
+pub returns-in-Some-due-clause-nothing : goal.returns-in-Some-due-clause-nothing
+returns-in-Some-due-clause-nothing c = λ passed before.
+    let x = c.args.x.now in
+    let market = c.args.market.now in
+    let k = c.self.inside.kept in
+    let deals = c.self.inside.deals.deals in
+    let due = c.in-Some-due.due in
+    let quote = c.in-Some.quote in
+    let from = subst (λ (t : ℕ). due.from ≤ t) c.moment-t.ensures (c.holds.ensures.from c.if-holds.true) in
+    let until = subst (λ (t : ℕ). t < due.until) c.moment-t.ensures (c.holds.ensures.until c.if-holds.true) in
+    let is = subst (λ (o : Option Due). IsDue o k deals) c.in-Some-due.is c.self.invariant in
+    let same = c.holds.ensures.market c.if-holds.true in
+    let by = c.stays_settled.ensures in
+    let yes = c.if-stays_settled.true in
+    let settled = by.settled yes (settled-market k deals due market is (by.listed yes) same) in
+    let left : record { kept = c.take_quote.new.self; deals = c.drop_old.new.deals.deals } ≡ quoted (record { kept = k; deals = deals }) (moment_of x) quote =
+    (λ i. record { kept = c.take_quote.ensures i; deals = c.drop_old.ensures.deals i }) ∙ ap (λ (t : ℕ). quoted (record { kept = k; deals = deals }) t quote) c.moment-t.ensures in
+    subst (λ (held : Held). Evaluates market x held (record { kept = c.take_quote.new.self; deals = c.drop_old.new.deals.deals }) before before) c.self.view_is
+    (subst (λ (held : Held). Evaluates market x (record { kept = k; deals = deals }) held before before) (sym left)
+    (quoted-evaluated market x k deals due quote before is (by.listed yes) from until same (by.run yes) settled
+    (sym c.quoted_by.ensures ∙ c.in-Some.is)))
+
+pub returns-in-Some-due-clause-recent : goal.returns-in-Some-due-clause-recent
+returns-in-Some-due-clause-recent c = λ passed.
+    let t = moment_of c.args.x.now in
+    let deals = c.self.inside.deals.deals in
+    let gone : c.drop_old.new.deals.deals ≡ live t deals = c.drop_old.ensures.deals ∙ ap (λ (u : ℕ). live u deals) c.moment-t.ensures in
+    ap (live t) gone ∙ live-live t t (omega arith) deals ∙ sym gone
