@@ -245,7 +245,7 @@ impl Alarms {
         Ok(())
     }
 
-    /// Sets the moment of a place. It takes two stores and a comparison.
+    /// Sets the moment of a place. It takes one store and one comparison where the moment isn't before the bound of its places.
     pub fn set(&mut self, place: usize, moment: u64)
         requires { place < length self.old }
         ensures { self.new ≡ slice_set self.old place moment }

@@ -1,4 +1,4 @@
-ghost use Rattle.std.specs.Prelude.{◌≡◌, ◌≢◌, ◌↔◌, ◌+◌, ◌<◌, ◌≤◌, ◌^◌, None, false, List, [], ◌∷◌, OnOk, OnErr, IfOk, IsOk, IsTrue, IsNone, unwrap_or, length, position, map, nat_le, ◌==◌, vec_len};
+ghost use Rattle.std.specs.Prelude.{◌≡◌, ◌≢◌, ◌↔◌, ◌+◌, ◌<◌, ◌≤◌, ◌^◌, None, false, List, [], ◌∷◌, OnOk, OnErr, IfOk, IsOk, IsTrue, IsNone, unwrap_or, length, position, map, nat_le, ◌==◌, ◌&&◌, vec_len};
 ghost use Rattle.std.specs.Str.{bytes_eq};
 ghost use Rattle.session_core.specs.Dates.{Civil};
 ghost use Rattle.wire_in.specs.declared.record.Record.{Record};
@@ -45,12 +45,19 @@ impl Model for Admission {
     ghost invariant = { λ a. (vec_len a.listed_on ≡ length a.directory) × (most_names ≤ vec_capacity a.listed_on) };
 }
 
+/// Whether two dates are the same. Both come as values, so that they are compared as one number and not field by field.
+fn is_same(a: Date, b: Date) -> bool
+    ensures { result ≡ ((a.year == b.year) && (a.month == b.month) && (a.day == b.day)) }
+{
+    a == b
+}
+
 /// Whether a date is that of the day.
 fn is_on(day: Option<Day>, date: Date) -> bool
     ensures { result ≡ is_on day date }
 {
     match day {
-        Some(day) => date == day.date,
+        Some(day) => is_same(date, day.date),
         None => false,
     }
 }

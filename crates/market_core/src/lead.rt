@@ -32,14 +32,20 @@ pub struct Today {
 pub struct Lead {
     directory: Directory,
     today: Option<Today>,
+    /// What the market is to its symbols, for which each record asks.
+    view: Option<MarketView>,
 }
 
 impl Model for Lead {
+    ghost use Rattle.std.specs.Prelude.{◌≡◌, option_map};
     ghost use Rattle.market_core.specs.Leads.{LeadState};
+    ghost use Rattle.market_core.specs.Ruled.{view_of};
 
     ghost Value = { LeadState };
 
     ghost view = { λ lead. record { directory = lead.directory; today = lead.today } };
+
+    ghost invariant = { λ lead. lead.view ≡ option_map view_of lead.today };
 }
 
 impl Today {
@@ -119,6 +125,7 @@ impl Lead {
         Ok(Lead {
             directory: Directory::new(alloc)?,
             today: None,
+            view: None,
         })
     }
 
@@ -141,7 +148,7 @@ impl Lead {
     pub fn view(&self) -> Option<MarketView>
         ensures { result ≡ option_map view_of self.now.today }
     {
-        self.today.as_ref().map(|today| today.view())
+        self.view
     }
 
     /// Lists a new name, and answers its id.
@@ -160,6 +167,7 @@ impl Lead {
         ensures view { result ≡ view_of today }
     {
         let view = today.view();
+        self.view = Some(today.view());
         self.today = Some(today);
         view
     }
@@ -174,6 +182,8 @@ impl Lead {
     {
         if let Some(today) = &mut self.today {
             today.rule(x, out);
+            let seen = today.view();
+            self.view = Some(seen);
         }
     }
 

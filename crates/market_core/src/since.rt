@@ -17,17 +17,11 @@ pub struct Since {
 /// The alarm of a stock of which nothing is known: each tick may bring it something.
 pub(crate) const ALWAYS_DUE: u64 = 0;
 
-fn is_same(a: &MarketView, b: &MarketView) -> bool
-    ensures { result ≡ true → a.now ≡ b.now }
-{
-    a == b
-}
-
 /// Whether what holds from a moment on over a market holds since another.
 fn includes(from: Moment, market: &MarketView, since: &Since) -> bool
     ensures { result ≡ true → (alarm : ℕ) (held : Held) → Idles market.now from alarm held → IdlesUntil (Some since.now) alarm held }
 {
-    from.nanos() <= since.from.nanos() && is_same(market, &since.market)
+    from.nanos() <= since.from.nanos() && market.is_same(since.market)
 }
 
 /// Whether the alarms that held hold from now on.

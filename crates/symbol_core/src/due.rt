@@ -39,12 +39,6 @@ pub struct Due {
     pub market: MarketView,
 }
 
-pub fn is_same(a: &MarketView, b: &MarketView) -> bool
-    ensures { result ≡ true → a.now ≡ b.now }
-{
-    a == b
-}
-
 impl Due {
     /// From a step on, over its market.
     fn of(step: &Step, waits: u64, until: u64) -> Due
@@ -81,7 +75,7 @@ impl Due {
             stopped: step.stopped,
         };
         let waits = self.from.nanos() <= step.moment.nanos() && step.moment.nanos() < self.waits;
-        if comes_often(&step.input) && waits && is_same(&market, &self.market) {
+        if comes_often(&step.input) && waits && market.is_same(self.market) {
             Some(self.waits)
         } else {
             None
@@ -94,7 +88,7 @@ impl Due {
         ensures until { result ≡ true → t < self.now.until }
         ensures market { result ≡ true → market.now ≡ self.now.market }
     {
-        self.from.nanos() <= t.nanos() && t.nanos() < self.until && is_same(market, &self.market)
+        self.from.nanos() <= t.nanos() && t.nanos() < self.until && market.is_same(self.market)
     }
 }
 

@@ -8,7 +8,7 @@ ghost use Rattle.symbol_core.specs.Idle.{IsDue, IsSettled, IsSettledAt, IsStill,
 ghost use Rattle.symbol_core.specs.Runs.{run_band, run_reference};
 ghost use Rattle.symbol_core.specs.Taken.{deal_of, triggers_by};
 
-use crate::due::{Due, earlier, is_same};
+use crate::due::{Due, earlier};
 use crate::kept::Kept;
 use crate::symbol::MarketView;
 use eligible_core::eligible;
@@ -116,7 +116,7 @@ impl Due {
         ensures until { result ≡ true → t < self.now.waits }
         ensures market { result ≡ true → market.now ≡ self.now.market }
     {
-        self.from.nanos() <= t.nanos() && t.nanos() < self.waits && is_same(market, &self.market)
+        self.from.nanos() <= t.nanos() && t.nanos() < self.waits && market.is_same(self.market)
     }
 }
 

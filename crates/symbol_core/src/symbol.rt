@@ -33,6 +33,19 @@ pub struct MarketView {
     pub stopped: bool,
 }
 
+impl MarketView {
+    /// Whether it is the same as another. Both come as values, so that they are compared as one number and not field by field.
+    pub fn is_same(self, other: MarketView) -> bool
+        ensures same { result ≡ true → self ≡ other }
+        ensures other { self ≡ other → result ≡ true }
+    {
+        (self.day.date == other.day.date)
+            & (self.day.close == other.day.close)
+            & (self.day.profile == other.day.profile)
+            & (self.stopped == other.stopped)
+    }
+}
+
 /// One symbol of the directory, from its first listing on.
 #[derive(Debug, Drop)]
 pub struct Symbol {
