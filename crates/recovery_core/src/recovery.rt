@@ -66,29 +66,24 @@ fn append_again<H: Host>(
     append_messages(outbox, host, before + skipped as u64, &messages[skipped..])
 }
 
-/// Admits records of the journal, one after the other, behind those that wait. False: one may not follow those
-/// before it, and those from it on are left out.
-fn admit_all(engine: &mut Engine, waiting: &mut Waiting, records: &[Record]) -> bool
-    requires room { length waiting.old.records + length records.now ≤ waiting.old.most }
-    requires ranges { All InRange records.now }
+/// Admits records of the journal, one after the other. False: one may not follow those before it, and those from it on are
+/// left out.
+fn admit_all(engine: &mut Engine, records: &[Record]) -> bool
     requires small { IsSmall engine.old }
     ensures admits { (capacity : ℕ) (accepted evaluated : List Record) → Admits capacity accepted evaluated engine.old
         → IsTrue result → Admits capacity (with_batch accepted records.now) evaluated engine.new }
     ensures refuses { (capacity : ℕ) (accepted evaluated : List Record) → Admits capacity accepted evaluated engine.old
         → ¬ IsTrue result → Refuses capacity accepted records.now }
-    ensures waits { IsTrue result → waiting.new.records ≡ waiting.old.records ++ records.now }
     ensures rest { engine.new ≡ record engine.old { admission = engine.new.admission } }
     ensures small { IsSmall engine.new }
     ensures count { IsTrue result → engine.new.admission.count ≡ engine.old.admission.count + length records.now }
     ensures capacity { engine.new.admission.capacity ≡ engine.old.admission.capacity }
-    ensures most { waiting.new.most ≡ waiting.old.most }
 {
     for x in records {
         if engine.admission.verdict(x).is_some() {
             return false;
         }
         engine.admit(x);
-        waiting.push(x);
     }
     true
 }
@@ -195,10 +190,12 @@ impl Recovery {
         if !more {
             return Ok(false);
         }
-        let all = admit_all(&mut self.engine, &mut self.waiting, batch.list());
+        let records = batch.list();
+        let all = admit_all(&mut self.engine, records);
         if !all {
             return Err(Status::Damaged { at: self.scan.at() });
         }
+        self.waiting.append(records);
         Ok(true)
     }
 

@@ -7,7 +7,6 @@ use engine_core::ROUND_MAX;
 use price_core::NoMemory;
 use std::alloc::Global;
 use std::marker::Model;
-use std::slice;
 use wire_in::Record;
 
 /// Up to so many accepted records, the oldest first. Their room is taken when it is made.
@@ -41,14 +40,14 @@ impl Waiting {
         })
     }
 
-    /// Adds a record behind the others.
-    pub(crate) fn push(&mut self, x: &Record)
-        requires room { length self.old.records < self.old.most }
-        requires range { InRange x.now }
-        ensures { self.new ≡ record self.old { records = self.old.records ++ x.now ∷ [] } }
+    /// Adds records behind the others.
+    pub(crate) fn append(&mut self, records: &[Record])
+        requires room { length self.old.records + length records.now ≤ self.old.most }
+        requires ranges { All InRange records.now }
+        ensures { self.new ≡ record self.old { records = self.old.records ++ records.now } }
     {
         // It has room for them all.
-        self.records.extend_from_slice(slice::from_ref(x)).unwrap();
+        self.records.extend_from_slice(records).unwrap();
     }
 
     /// The records, the oldest first.

@@ -1,9 +1,8 @@
-use Rattle.std.proofs.Common.{◌≡◌, ◌≢◌, ℕ, ◌+◌, List, [], ◌∷◌, ◌++◌, Ok, None, length, take, drop, refl, sym, ap, subst, ◌∙◌, append_assoc, arith, rules}
-use Rattle.std.proofs.lemmas.List.{append-nil, length-append, take_all, take_more, take-append-drop}
+use Rattle.std.proofs.Common.{◌≡◌, ◌≢◌, ℕ, ◌+◌, List, ◌++◌, None, take, drop, refl, sym, ap, subst, ◌∙◌, arith, rules}
+use Rattle.std.proofs.lemmas.List.{take_all, take-append-drop}
 use Rattle.wire_in.specs.declared.record.Record.{Record}
 use Rattle.journal_core.specs.Layout.{with_batch}
 use Rattle.rulebook.specs.Admission.{verdict}
-use Rattle.recovery_core.specs.Waiting.{WaitingState}
 use Rattle.engine_core.proofs.Answering.{drop_one}
 use Rattle.recovery_core.specs.Recoveries.{Admits}
 use Rattle.recovery_core.proofs.Recovering.{with_next}
@@ -11,14 +10,11 @@ use Rattle.recovery_core.proofs.recovery.admit_all.Goals as goal
 
 pub loop-x-init : goal.loop-x-init
 loop-x-init c = record {
-  waits = sym (append-nil _);
-  len = omega arith;
   admits = λ capacity accepted evaluated first. first;
   rest = refl;
   small = c.requires.small;
   count = omega arith;
   capacity = refl;
-  most = refl;
 }
 
 pub loop-x-preserved : goal.loop-x-preserved
@@ -28,10 +24,6 @@ loop-x-preserved c =
     let x = c.x-item.result in
     let none : c.verdict.result ≡ None = search rules in
     record {
-      waits = ap (λ (waiting : WaitingState). waiting.records) c.push.ensures ∙ ap (λ (l : List Record). l ++ x ∷ []) c.loop-x.invariant.waits
-          ∙ append_assoc c.args.waiting.now.records (take i xs) (x ∷ [])
-          ∙ ap (λ (l : List Record). c.args.waiting.now.records ++ l) (sym (take_more xs i x c.loop-x-test.true ∙ ap (λ (y : Record). take i xs ++ y ∷ []) (sym c.x-item.is)));
-      len = omega (arith, ap (λ (waiting : WaitingState). length waiting.records) c.push.ensures, length-append c.loop-x.waiting.records (x ∷ []), c.loop-x.invariant.len);
       admits = λ capacity accepted evaluated first.
           let a = c.loop-x.invariant.admits capacity accepted evaluated first in
           subst (λ (all : List Record). Admits capacity all evaluated c.admit.new.self) (sym (with_next accepted xs i x c.loop-x-test.true c.x-item.is)) (record {
@@ -42,7 +34,6 @@ loop-x-preserved c =
       small = search rules;
       count = search rules;
       capacity = c.admit.ensures.capacity ∙ c.loop-x.invariant.capacity;
-      most = search rules;
     }
 
 pub returns-then-is_some-clause-refuses : goal.returns-then-is_some-clause-refuses
@@ -64,7 +55,3 @@ returns-then-is_some-clause-refuses c = λ capacity accepted evaluated first ref
 pub returns-clause-admits : goal.returns-clause-admits
 returns-clause-admits c = λ capacity accepted evaluated first yes.
     subst (λ (b : List Record). Admits capacity (with_batch accepted b) evaluated c.loop-x.engine) (take_all c.loop-x.x-index c.args.records.now c.loop-x-test.false) (c.loop-x.invariant.admits capacity accepted evaluated first)
-
-pub returns-clause-waits : goal.returns-clause-waits
-returns-clause-waits c = λ yes.
-    c.loop-x.invariant.waits ∙ ap (λ (l : List Record). c.args.waiting.now.records ++ l) (take_all c.loop-x.x-index c.args.records.now c.loop-x-test.false)

@@ -1,4 +1,4 @@
-use Rattle.std.proofs.Common.{◌≡◌, ◌+◌, ◌++◌, ℕ, List, length, take}
+use Rattle.std.proofs.Common.{◌≡◌, ◌+◌, ℕ, List, take}
 use Rattle.wire_in.specs.declared.record.Record.{Record}
 use Rattle.journal_core.specs.Layout.{with_batch}
 use Rattle.recovery_core.specs.Recoveries.{IsSmall, Admits}
@@ -6,12 +6,9 @@ use Rattle.recovery_core.proofs.recovery.admit_all.Given as goal
 
 abbrev pub invariant-loop-x : goal.invariant-loop-x
 invariant-loop-x l = record {
-  waits : l.waiting.records ≡ l.initial.waiting.records ++ take l.x-index l.records;
-  len : length l.waiting.records ≡ length l.initial.waiting.records + l.x-index;
   admits : (capacity : ℕ) (accepted evaluated : List Record) → Admits capacity accepted evaluated l.initial.engine → Admits capacity (with_batch accepted (take l.x-index l.records)) evaluated l.engine;
   rest : l.engine ≡ record l.initial.engine { admission = l.engine.admission };
   small : IsSmall l.engine;
   count : l.engine.admission.count ≡ l.initial.engine.admission.count + l.x-index;
   capacity : l.engine.admission.capacity ≡ l.initial.engine.admission.capacity;
-  most : l.waiting.most ≡ l.initial.waiting.most;
 }

@@ -1,9 +1,10 @@
-use Rattle.std.proofs.Common.{◌≡◌, ℕ, true, Ok, length, sym, ap, subst, ◌∙◌, arith}
+use Rattle.std.proofs.Common.{◌≡◌, ℕ, List, true, Ok, length, sym, ap, subst, ◌∙◌, arith}
 use Rattle.std.proofs.lemmas.List.{length-append}
 use Rattle.host_core.proofs.Chains.{reads_faultless}
 use Rattle.journal_core.proofs.Places.{scan_reaches}
 use Rattle.engine_core.specs.EngineState.{IsRoomy}
 use Rattle.recovery_core.specs.Recoveries.{HasDamage}
+use Rattle.recovery_core.specs.Waiting.{WaitingState}
 use Rattle.recovery_core.proofs.Recovering.{gathers_end, gathers_batch, bad_record_there, bad_form_there, answered_on, scan_hinders}
 use Rattle.recovery_core.proofs.recovery.Recovery.gather.Goals as goal
 
@@ -45,7 +46,7 @@ returns-then-not-all-clause-hindered g c = (
       subst (λ (at : ℕ). HasDamage at disk) (sym c.at.ensures) (
         _,
         _,
-        bad_record_there first c.next.ensures.keeps c.next.new.self c.next.ensures.capacity c.list.ensures.records (c.next.ensures.batch there first.batches disk first.rests.known first.read)
+        bad_record_there first c.next.ensures.keeps c.next.new.self c.next.ensures.capacity c.list-records.ensures.records (c.next.ensures.batch there first.batches disk first.rests.known first.read)
             (c.next.ensures.at_batch there) (c.admit_all-all.ensures.refuses _ _ _ first.resumes.admits (λ yes. cc (c.if-not-all.true, yes))),
       ),
 )
@@ -54,8 +55,8 @@ returns-then-not-all-clause-hindered g c = (
 pub returns-clause-gathers : goal.returns-clause-gathers
 returns-clause-gathers g c = λ from begin disk first.
     let there : c.next.result ≡ Ok true = c.in_ok-more.was ∙ ap Ok c.if-not-more.false in
-    gathers_batch first c.next.ensures.keeps c.next.new.self c.next.ensures.capacity c.list.ensures.records (c.next.ensures.batch there first.batches disk first.rests.known first.read)
-    c.admit_all-all.new.engine c.admit_all-all.new.waiting c.admit_all-all.ensures.rest (c.admit_all-all.ensures.waits c.if-not-all.false) (c.admit_all-all.ensures.admits _ _ _ first.resumes.admits c.if-not-all.false)
+    gathers_batch first c.next.ensures.keeps c.next.new.self c.next.ensures.capacity c.list-records.ensures.records (c.next.ensures.batch there first.batches disk first.rests.known first.read)
+    c.admit_all-all.new.engine c.append.new.self c.admit_all-all.ensures.rest (ap (λ (w : WaitingState). w.records) c.append.ensures) (c.admit_all-all.ensures.admits _ _ _ first.resumes.admits c.if-not-all.false)
 
 pub returns-clause-reading : goal.returns-clause-reading
 returns-clause-reading g c =
@@ -63,9 +64,9 @@ returns-clause-reading g c =
     record {
       of_disk = c.next.ensures.of_disk c.requires.reading.of_disk;
       capacity = c.next.ensures.capacity ∙ c.requires.reading.capacity ∙ sym c.admit_all-all.ensures.capacity;
-      count = omega (arith, c.next.ensures.count, c.requires.reading.count, count, ap length c.list.ensures.records);
+      count = omega (arith, c.next.ensures.count, c.requires.reading.count, count, ap length c.list-records.ensures.records);
       small = c.admit_all-all.ensures.small;
-      all = omega (arith, c.requires.reading.all, count, ap (λ (e : _). e.evaluated) c.admit_all-all.ensures.rest, ap length (c.admit_all-all.ensures.waits c.if-not-all.false), length-append c.args.self.now.waiting.records c.list.result.now);
+      all = omega (arith, c.requires.reading.all, count, ap (λ (e : _). e.evaluated) c.admit_all-all.ensures.rest, ap (λ (w : WaitingState). length w.records) c.append.ensures, length-append c.args.self.now.waiting.records c.list-records.result.now);
       roomy = subst IsRoomy (sym c.admit_all-all.ensures.rest) c.requires.reading.roomy;
     }
 
