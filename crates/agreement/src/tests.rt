@@ -1,4 +1,5 @@
 mod drawn;
+mod drifts;
 mod lines;
 mod worked;
 
