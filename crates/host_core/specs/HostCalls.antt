@@ -4,7 +4,7 @@ use Rattle.host_core.specs.declared.failed.Failed.{Failed}
 use Rattle.host_core.specs.Outside.{Outside, Agrees, Elapses, Changes, Sends, IsSettled, written, Torn, Takes, Grows, Rose, Asks}
 use Rattle.host_core.specs.Frames.{OnlyReadsInput, OnlyReadsDisk, OnlySends, OnlyWrites}
 
--- bytes are taken from the front of the input, none only at its end
+-- a prefix of the input is taken, none of it only at its end
 pub record ReadsInput (result : Result ℕ Failed) (into : List ℕ) (old new : Outside) : Type 0 where
   pub read : MatchResult result (λ n. Takes old.input new.input into n) (λ _. new.input ≡ old.input)
   pub asks : MatchResult result (λ _. Asks old new) (λ _. new.asks ≡ old.asks)

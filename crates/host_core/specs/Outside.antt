@@ -77,7 +77,7 @@ pub record Sends (piece : List ℕ) (old : Outside) (image bytes : List ℕ) : T
 pub record IsSettled (now : Outside) : Type 0 where
   pub only : (image : List ℕ) → MayLeave now image → now.disk ≡ Some image
 
--- the bytes with a piece in its place
+-- the bytes with a piece from an offset on
 abbrev pub written : ℕ → List ℕ → List ℕ → List ℕ
 written at piece old = take at old ++ piece ++ drop (at + length piece) old
 
@@ -90,7 +90,7 @@ pub record Torn (at n : ℕ) (old new : List ℕ) : Type 0 where
   pub after : drop (at + n) new ≡ drop (at + n) old ++ more
   pub no_shorter : length old ≤ length new
 
--- n bytes were taken from the front of the input, none only at its end
+-- a prefix of n bytes of the input was taken, none only at its end
 pub record Takes (old new : Option (List ℕ)) (into : List ℕ) (n : ℕ) : Type 0 where
   pub bound : n ≤ length into
   pub left : new ≡ option_map (λ input. drop n input) old

@@ -23,13 +23,13 @@ pub trait Disk {
         ensures same { bytes self.new ≡ bytes self.old }
         ensures same_synced { synced self.new ≡ synced self.old };
 
-    /// Reads the bytes from a place on. It is an error where there are fewer.
+    /// Reads the bytes from an offset on. It is an error where there are fewer.
     fn read(&mut self, at: u64, into: &mut [u8]) -> io::Result<()>
         ensures given { OnOk result ((content : List ℕ) → bytes self.old ≡ Some content → into.new ≡ take (length into.old) (drop at content)) }
         ensures same { bytes self.new ≡ bytes self.old }
         ensures same_synced { synced self.new ≡ synced self.old };
 
-    /// Writes a piece from a place on.
+    /// Writes a piece from an offset on.
     fn write(&mut self, at: u64, piece: &[u8]) -> io::Result<()>
         ensures written { OnOk result ((content : List ℕ) → bytes self.old ≡ Some content → at ≤ length content
             → bytes self.new ≡ Some (written at piece.now content)) }

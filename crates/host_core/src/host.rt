@@ -11,12 +11,12 @@ pub trait Host {
     /// What it exposes of the outside now.
     ghost outside: { Self → Outside };
 
-    /// Takes bytes from the front of the input, and answers how many: 0 only where none is left.
+    /// Takes a prefix of the input, and answers how many bytes: 0 only where none is left.
     fn read_input(&mut self, into: &mut [u8]) -> Result<usize, Failed>
         requires { 0 < length into.old }
         ensures reads { ReadsInput result into.new (outside self.old) (outside self.new) };
 
-    /// Sends bytes from the front of the piece, and answers how many. A call that failed may have sent some too.
+    /// Sends a prefix of the piece, and answers how many bytes. A call that failed may have sent some too.
     fn send(&mut self, piece: &[u8]) -> Result<usize, Failed>
         requires { 0 < length piece.now }
         ensures sends { SendsPiece result piece.now (outside self.old) (outside self.new) };

@@ -84,16 +84,16 @@ fn a_real_host_reads_and_sends_until_one_fails(rt: HostRuntime) -> Result<(), Fa
     Ok(())
 }
 
-/// The byte that a test writes at a place.
-fn pattern(place: usize) -> u8 {
-    (place % 251) as u8
+/// The byte that a test writes at an offset.
+fn pattern(offset: usize) -> u8 {
+    (offset % 251) as u8
 }
 
-/// The bytes of the pattern at these places.
-fn patterned(alloc: Global, places: Range<usize>) -> Result<Vec<u8>, Fail> {
+/// The bytes of the pattern at these offsets.
+fn patterned(alloc: Global, offsets: Range<usize>) -> Result<Vec<u8>, Fail> {
     let mut bytes = Vec::new(alloc);
-    for place in places {
-        bytes.push(pattern(place))?;
+    for offset in offsets {
+        bytes.push(pattern(offset))?;
     }
     Ok(bytes)
 }
@@ -107,12 +107,12 @@ fn has_pattern<D: Disk>(
 ) -> Result<bool, Fail> {
     let mut bytes = vec![in alloc; 0_u8; len]?;
     disk.read(0, &mut bytes)?;
-    let same = bytes.iter().enumerate().all(|(place, byte)| {
+    let same = bytes.iter().enumerate().all(|(offset, byte)| {
         *byte
-            == if run.contains(&place) {
+            == if run.contains(&offset) {
                 b'#'
             } else {
-                pattern(place)
+                pattern(offset)
             }
     });
     Ok(same && disk.len()? == len as u64)
