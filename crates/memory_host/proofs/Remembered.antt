@@ -88,9 +88,9 @@ module _ (input sent disk start : List ℕ) (effects : List Effect) (asks : List
         → (sent' : List ℕ) (asks' : List Ask) (a' b' c' : ℕ) → Elapses old (remembered input sent' disk start later asks' a' b' c') (Sends piece old)
     replied v piece n same le later is sent' asks' a' b' c' =
         pushed input sent disk start effects asks a b c sent_is disk_is (Sent v) (Sends piece old)
-        (λ image bytes left step. front image bytes left 0 (omega arith) (step ∙ sym (append-nil sent)))
-        (λ image bytes step. front image bytes step.0 step.1.0 (omega (arith, step.1.1, size)) (step.1.2 ∙ ap (λ l. sent ++ l) (within step.1.0 step.1.1)))
-        (λ image bytes left step. front image bytes left n le (step ∙ ap (λ l. sent ++ l) same)) later input sent' disk asks' a' b' c' is
+        (λ image bytes left step. prefix image bytes left 0 (omega arith) (step ∙ sym (append-nil sent)))
+        (λ image bytes step. prefix image bytes step.0 step.1.0 (omega (arith, step.1.1, size)) (step.1.2 ∙ ap (λ l. sent ++ l) (within step.1.0 step.1.1)))
+        (λ image bytes left step. prefix image bytes left n le (step ∙ ap (λ l. sent ++ l) same)) later input sent' disk asks' a' b' c' is
       where
         size : length v.items ≤ n
         size = omega (arith, ap length same, length-take n piece)
@@ -101,8 +101,8 @@ module _ (input sent disk start : List ℕ) (effects : List Effect) (asks : List
         within : (m : ℕ) → m ≤ length v.items → take m v.items ≡ take m piece
         within m below = ap (take m) same ∙ take-take m n piece (omega (arith, below, size))
 
-        front : (image bytes : List ℕ) → may_of (λ image. image ≡ start) start effects image → (m : ℕ) → m ≤ length piece → bytes ≡ sent ++ take m piece → Sends piece old image bytes
-        front image bytes left m below is = record { was = may image left; count = m; within = below; sent = agrees (sent ++ take m piece) bytes is }
+        prefix : (image bytes : List ℕ) → may_of (λ image. image ≡ start) start effects image → (m : ℕ) → m ≤ length piece → bytes ≡ sent ++ take m piece → Sends piece old image bytes
+        prefix image bytes left m below is = record { was = may image left; count = m; within = below; sent = agrees (sent ++ take m piece) bytes is }
 
     -- after a sync
     pub settled : (v : List Effect) (input' : List ℕ) (asks' : List Ask) (a' b' c' : ℕ) → v ≡ effects ++ Synced ∷ [] → IsSettled (remembered input' sent disk start v asks' a' b' c')

@@ -10,7 +10,7 @@ use Rattle.host_core.specs.Outside.{written, Torn}
 use Rattle.memory_host.specs.Effects.{disk_after, may_after, disk_of, may_of, filled, image_after, image_of}
 use Rattle.memory_host.proofs.Pushed.{disk_of-push, torn_whole, torn_none}
 
--- the picked bytes in the place of a piece
+-- the picked bytes in the range of a piece
 torn_filled : (pick : Pick) (at : ℕ) (piece image : List ℕ) → Torn at (length piece) image (filled pick at piece image)
 torn_filled Old at piece image = torn_none at (length piece) image
 torn_filled New at piece image = torn_whole at piece image

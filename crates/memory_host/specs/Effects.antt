@@ -82,13 +82,13 @@ remembered input sent disk start effects asks read_faults send_faults disk_fault
   disk_faults = disk_faults;
 }
 
--- an image with the picked bytes in the place of a piece
+-- an image with the picked bytes in the range of a piece
 abbrev pub filled : Pick → ℕ → List ℕ → List ℕ → List ℕ
 filled Old at piece image = image
 filled New at piece image = written at piece image
 filled (Bytes byte) at piece image = written at (replicate (length piece) byte) image
 
--- an image after an effect, where the picked bytes stand in each place that was written; a sync keeps what a read gave
+-- an image after an effect, where the picked bytes stand in each range that was written; a sync keeps what a read gave
 abbrev pub image_after : Pick → List ℕ → List ℕ → Effect → List ℕ
 image_after pick disk image (Wrote at piece) = filled pick at piece.items image
 image_after pick disk image (Tore at piece) = filled pick at piece.items image

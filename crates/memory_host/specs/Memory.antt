@@ -24,6 +24,6 @@ known host = remembered (input_left host) host.sent.items host.disk.items host.s
 abbrev pub ledger_of : MemoryHost → Ledger
 ledger_of host = host.ledger
 
--- the disk that a crash leaves, with the picked bytes in each place that was written and not synced
+-- the disk that a crash leaves, with the picked bytes in each range that was written and not synced
 abbrev pub left_by : Pick → MemoryHost → List ℕ
 left_by pick host = image_of pick host.start.items host.start.items host.effects.items

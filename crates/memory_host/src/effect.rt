@@ -1,6 +1,6 @@
 // What was done to a disk and a sink in memory.
 
-/// A call that changed the disk or the sink, or what a stop may leave: a write of a piece at a place, a write that
+/// A call that changed the disk or the sink, or what a stop may leave: a write of a piece at an offset, a write that
 /// failed and may have torn what stood there, a sync, or a send of a piece.
 #[derive(Debug, Drop)]
 pub enum Effect {
@@ -17,7 +17,7 @@ pub struct Request {
     pub sent: usize,
 }
 
-/// What stands after a crash in each place that was written since the last sync: the old bytes, the new ones, or
+/// What stands after a crash in each range that was written since the last sync: the old bytes, the new ones, or
 /// one byte.
 #[derive(Clone, Copy, Debug, PartialEq, Eq)]
 pub enum Pick {

@@ -8,7 +8,7 @@ use crate::replay::overwritten;
 use price_core::NoMemory;
 use std::alloc::Global;
 
-// Writes a piece in its place.
+// Writes a piece from its offset on.
 pub fn wrote_at(
     alloc: Global,
     effects: &mut Vec<Effect>,
@@ -52,7 +52,7 @@ pub fn sent_on(
     )
 }
 
-// A write failed, and may have torn what stood in the place of its piece.
+// A write failed, and may have torn what stood in the range of its piece.
 pub fn tore_at(
     alloc: Global,
     effects: &mut Vec<Effect>,

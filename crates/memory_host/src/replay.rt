@@ -7,7 +7,7 @@ use crate::effect::{Effect, Pick};
 use price_core::NoMemory;
 use std::alloc::Global;
 
-// The image after these effects on a disk, with the picked bytes in each place that was not synced.
+// The image after these effects on a disk, with the picked bytes in each range that was not synced.
 pub fn replayed(
     alloc: Global,
     start: &[u8],
@@ -54,7 +54,7 @@ fn image_left(
     }
 }
 
-// The image with the picked bytes in the place of a piece.
+// The image with the picked bytes in the range of a piece.
 fn fill(
     alloc: Global,
     image: &[u8],
@@ -74,7 +74,7 @@ fn fill(
     }
 }
 
-// The bytes with a piece in its place.
+// The bytes with a piece from its offset on.
 pub fn overwritten(alloc: Global, old: &[u8], at: usize, piece: &[u8]) -> Result<Vec<u8>, NoMemory>
     ensures { IfOk result (λ new. new.items ≡ written at piece.now old.now) }
 {
