@@ -8,7 +8,7 @@ use Rattle.host_core.proofs.Moments.{further}
 use Rattle.host_core.proofs.Chains.{stays_left}
 use Rattle.stream_core.specs.Taking.{TakesPiece, OnlyExchanges}
 
--- the bytes that were read stand at the front of the whole buffer
+-- the bytes that were read are a prefix of the whole buffer
 pub takes_piece : (old mid new : Option (List ℕ)) (buffer : List ℕ) (most n : ℕ) → mid ≡ old → Takes mid new (take most buffer) n → TakesPiece most old new buffer n
 takes_piece old mid new buffer most n same takes = record {
   within = omega (arith, takes.bound, length-take most buffer);

@@ -2,13 +2,13 @@
 use Rattle.std.specs.Prelude.{◌≡◌, ◌⊎◌, ℕ, ◌≤◌, List, [], length, take, drop, Option, Some, option_map}
 use Rattle.host_core.specs.Outside.{Outside, MayLeave, Continues}
 
--- at most so many bytes were taken from the front of the input
+-- a prefix of at most so many bytes of the input was taken
 pub record ReadsAtMost (most : ℕ) (old new : Option (List ℕ)) : Type 0 where
   pub count : ℕ
   pub within : count ≤ most
   pub left : new ≡ option_map (λ input. drop count input) old
 
--- at most so many bytes were taken from the front of the input, none only at its end or where none may be
+-- a prefix of at most so many bytes of the input was taken, none only at its end or where none may be
 pub record TakesPiece (most : ℕ) (old new : Option (List ℕ)) (into : List ℕ) (n : ℕ) : Type 0 where
   pub within : n ≤ most
   pub left : new ≡ option_map (λ input. drop n input) old

@@ -15,7 +15,7 @@ use host_core::{Failed, Fault, Host};
 /// How many bytes one read asks for.
 pub const PIECE: usize = 65_536;
 
-/// Reads at most so many bytes to the front of a buffer.
+/// Reads at most so many bytes into a prefix of a buffer.
 fn read_piece<H: Host>(host: &mut H, buffer: &mut [u8], most: usize) -> Result<usize, Failed>
     requires some { 0 < most }
     requires room { most ≤ length buffer.old }
@@ -24,7 +24,7 @@ fn read_piece<H: Host>(host: &mut H, buffer: &mut [u8], most: usize) -> Result<u
     host.read_input(&mut buffer[..most])
 }
 
-/// Sends all that waits, and then reads the next piece of at most so many bytes to the front of a buffer. It answers how
+/// Sends all that waits, and then reads the next piece of at most so many bytes into a prefix of a buffer. It answers how
 /// many were read: 0 at the input's end, and where none may be read. After an error the outbox is of no further use.
 #[tactic(auto, using(crate::proofs::Reading::exchanges_on, crate::proofs::Asking::no_ask))]
 pub fn exchange<H: Host>(
