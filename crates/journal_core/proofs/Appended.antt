@@ -121,8 +121,8 @@ module _ (old : Outside) (capacity gate : ℕ) (records batch : List Record) (va
   pending : All IsBatch (batch ∷ [])
   pending = All-cons IsBatch batch [] valid (All-nil IsBatch)
 
-  place : (n : ℕ) → n + length (opened_batches (batch ∷ []) ++ 0 ∷ []) ≡ n + length (stored_batch batch)
-  place n = ap (λ (l : List ℕ). n + length l) (sym (stored_is batch))
+  offset : (n : ℕ) → n + length (opened_batches (batch ∷ []) ++ 0 ∷ []) ≡ n + length (stored_batch batch)
+  offset n = ap (λ (l : List ℕ). n + length l) (sym (stored_is batch))
 
   pub first_step : (image bytes : List ℕ) → Changes (Torn (gate + 1) (length (body batch))) old image bytes → Appends capacity gate records batch old image bytes
   first_step image bytes step =
@@ -132,7 +132,7 @@ module _ (old : Outside) (capacity gate : ℕ) (records batch : List Record) (va
         holds = closed before.same (torn_behind before.leads (length (body batch)) image step.changed);
         behind = omega arith;
         valid = pending;
-        torn = torn_within gate (gate - gate + length (opened_batches (batch ∷ []) ++ 0 ∷ [])) (gate + 1) (length (body batch)) (omega arith) (omega (arith, place 0)) step.changed;
+        torn = torn_within gate (gate - gate + length (opened_batches (batch ∷ []) ++ 0 ∷ [])) (gate + 1) (length (body batch)) (omega arith) (omega (arith, offset 0)) step.changed;
       }))) step.sent
 
   module _ (mid : Outside) (first : mid.disk ≡ option_map (written (gate + 1) (body batch)) old.disk) (settled : IsSettled mid) (same : mid.sent ≡ old.sent)
@@ -166,7 +166,7 @@ module _ (old : Outside) (capacity gate : ℕ) (records batch : List Record) (va
           holds = holds;
           behind = omega arith;
           valid = pending;
-          torn = within (gate - gate + length (opened_batches (batch ∷ []) ++ 0 ∷ [])) (omega (arith, place 0));
+          torn = within (gate - gate + length (opened_batches (batch ∷ []) ++ 0 ∷ [])) (omega (arith, offset 0));
         }))
         by (inr holds) = inr (inr (record {
           next = next_gate gate batch;

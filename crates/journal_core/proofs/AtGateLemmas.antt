@@ -11,7 +11,7 @@ use Rattle.wire_in.specs.Laws.{IsSound}
 use Rattle.wire_in.specs.Spelling.{body_of}
 use Rattle.std.proofs.lemmas.List.Elements.{All-head}
 use Rattle.journal_core.specs.Layout.{IsBatch, frame_of, frames_of, content}
-use Rattle.journal_core.proofs.FrameLemmas.{frames_front, frames_least, frames_most}
+use Rattle.journal_core.proofs.FrameLemmas.{frames_prefix, frames_least, frames_most}
 
 -- the frame of a record at the prefix of some bytes
 pub record IsFirst (x : Record) (bytes rest : List ℕ) : Type 0 where
@@ -49,7 +49,7 @@ pub record More (records batch : List Record) (rest : List ℕ) : Type 0 where
 
 pub more_frames : (records batch : List Record) (frames rest : List ℕ) → All IsSound records → IsBatch batch → frames ≡ frames_of records ++ rest → 0 < length rest → frames ≡ frames_of batch → More records batch rest
 more_frames records batch frames rest sound valid read some is =
-    let prefix = frames_front records batch rest sound valid.sound (sym is ∙ read) in
+    let prefix = frames_prefix records batch rest sound valid.sound (sym is ∙ read) in
     found prefix.0 prefix.1 prefix.2 prefix.3
   where
     found : (later : List Record) → batch ≡ records ++ later → rest ≡ frames_of later → All IsSound later → More records batch rest

@@ -14,7 +14,7 @@ use Rattle.journal_core.specs.Layout.{IsBatch, HoldsTo, content, frames_of, reco
 use Rattle.journal_core.specs.Journal.{JournalState, IsOfDisk}
 use Rattle.journal_core.proofs.Images.{room, from_gate}
 use Rattle.journal_core.proofs.OneList.{alone}
-use Rattle.journal_core.proofs.Places.{appended_holds}
+use Rattle.journal_core.proofs.Offsets.{appended_holds}
 use Rattle.journal_core.specs.Extended.{opened_batches, IsExtended, Extends, IsGrown}
 use Rattle.journal_core.proofs.Torns.{torn_within, torn_twice}
 use Rattle.journal_core.proofs.Appended.{stored_is}
@@ -49,36 +49,36 @@ extends_by old new journal batch later of_disk valid is = record { later = later
         let mine = (of_disk disk known).1.held in
         let one = alone.batches disk capacity gate holds.batches holds.rest journal.capacity journal.gate mine.batches mine.rest holds.leads mine.leads in
         let made : new.disk ≡ Some (written journal.gate (stored_batch batch) disk) = is ∙ ap (option_map (written journal.gate (stored_batch batch))) known in
-        let place : gate + (length (frames_of batch) + 5) ≡ gate + length (opened_batches (batch ∷ [])) = omega (arith, ap length (append-nil (1 ∷ content batch))) in
+        let offset : gate + (length (frames_of batch) + 5) ≡ gate + length (opened_batches (batch ∷ [])) = omega (arith, ap length (append-nil (1 ∷ content batch))) in
         record {
           batches = batch ∷ [];
           valid = All-cons IsBatch batch [] valid (All-nil IsBatch);
           file = made ∙ (λ i. Some (written (sym one.2 i) (stored_is batch i) disk));
           holds = subst (λ (b : List ℕ). HoldsTo capacity (gate + length (opened_batches (batch ∷ []))) (records_of (batch ∷ []) ++ held) (written gate b disk)) (stored_is batch)
               (subst (λ (r : List Record). HoldsTo capacity (gate + length (opened_batches (batch ∷ []))) (r ++ held) (written gate (stored_batch batch) disk)) (ap reverse (sym (append-nil batch)))
-              (subst (λ (g : ℕ). HoldsTo capacity g (with_batch held batch) (written gate (stored_batch batch) disk)) place (appended_holds batch valid holds)));
+              (subst (λ (g : ℕ). HoldsTo capacity g (with_batch held batch) (written gate (stored_batch batch) disk)) offset (appended_holds batch valid holds)));
         }
 
 -- batches behind batches
 written_on : (gate : ℕ) (first second disk : List ℕ) → gate ≤ length disk
     → written (gate + length first) (second ++ 0 ∷ []) (written gate (first ++ 0 ∷ []) disk) ≡ written gate ((first ++ second) ++ 0 ∷ []) disk
 written_on gate first second disk within =
-    let front = take gate disk in
+    let prefix = take gate disk in
     let rest = drop (gate + length (first ++ 0 ∷ [])) disk in
     let mid = written gate (first ++ 0 ∷ []) disk in
     let next = gate + length first in
-    let len : length (front ++ first) ≡ next = omega (arith, length-append front first, length-take-le gate disk within) in
-    let whole : mid ≡ (front ++ first) ++ 0 ∷ rest = regroup front first (0 ∷ []) rest in
-    let before : take next mid ≡ front ++ first = ap (take next) whole ∙ take_at (front ++ first) (0 ∷ rest) next len in
+    let len : length (prefix ++ first) ≡ next = omega (arith, length-append prefix first, length-take-le gate disk within) in
+    let whole : mid ≡ (prefix ++ first) ++ 0 ∷ rest = regroup prefix first (0 ∷ []) rest in
+    let before : take next mid ≡ prefix ++ first = ap (take next) whole ∙ take_at (prefix ++ first) (0 ∷ rest) next len in
     let behind : drop (next + length (second ++ 0 ∷ [])) mid ≡ drop (gate + length ((first ++ second) ++ 0 ∷ [])) disk =
     sym (drop-drop (length (second ++ 0 ∷ [])) next mid)
-    ∙ ap (drop (length (second ++ 0 ∷ []))) (ap (drop next) whole ∙ drop_at (front ++ first) (0 ∷ rest) next len)
+    ∙ ap (drop (length (second ++ 0 ∷ []))) (ap (drop next) whole ∙ drop_at (prefix ++ first) (0 ∷ rest) next len)
     ∙ ap (λ (k : ℕ). drop k (0 ∷ rest)) (one_more second)
     ∙ drop-drop (length second) (gate + length (first ++ 0 ∷ [])) disk
     ∙ ap (λ (k : ℕ). drop k disk) (omega (arith, length-append first (0 ∷ []), length-append (first ++ second) (0 ∷ []), length-append first second)) in
     ap (λ (l : List ℕ). l ++ (second ++ 0 ∷ []) ++ drop (next + length (second ++ 0 ∷ [])) mid) before
-    ∙ ap (λ (l : List ℕ). (front ++ first) ++ (second ++ 0 ∷ []) ++ l) behind
-    ∙ last front first second (0 ∷ []) (drop (gate + length ((first ++ second) ++ 0 ∷ [])) disk)
+    ∙ ap (λ (l : List ℕ). (prefix ++ first) ++ (second ++ 0 ∷ []) ++ l) behind
+    ∙ last prefix first second (0 ∷ []) (drop (gate + length ((first ++ second) ++ 0 ∷ [])) disk)
   where
     regroup : (a b c d : List ℕ) → (a ++ (b ++ c)) ++ d ≡ (a ++ b) ++ (c ++ d)
     regroup a b c d = simp append_assoc
@@ -108,7 +108,7 @@ extends_on old mid new first second = record { later = omega (arith, first.later
         let within : gate ≤ length disk = omega (arith, room holds.leads) in
         let image : written (gate + length a) (b ++ 0 ∷ []) (written gate (a ++ 0 ∷ []) disk) ≡ written gate (opened_batches (one.batches ++ two.batches) ++ 0 ∷ []) disk =
         written_on gate a b disk within ∙ ap (λ (l : List ℕ). written gate (l ++ 0 ∷ []) disk) (sym opened) in
-        let place : (gate + length a) + length b ≡ gate + length (opened_batches (one.batches ++ two.batches)) = omega (arith, ap length opened, length-append a b) in
+        let offset : (gate + length a) + length b ≡ gate + length (opened_batches (one.batches ++ two.batches)) = omega (arith, ap length opened, length-append a b) in
         let records : records_of two.batches ++ (records_of one.batches ++ held) ≡ records_of (one.batches ++ two.batches) ++ held =
         sym (append_assoc (records_of two.batches) (records_of one.batches) held) ∙ ap (λ (r : List Record). r ++ held) (sym (records_of-append one.batches two.batches)) in
         record {
@@ -117,7 +117,7 @@ extends_on old mid new first second = record { later = omega (arith, first.later
           file = two.file ∙ ap Some image;
           holds = subst (HoldsTo capacity (gate + length (opened_batches (one.batches ++ two.batches))) (records_of (one.batches ++ two.batches) ++ held)) image
               (subst (λ (r : List Record). HoldsTo capacity (gate + length (opened_batches (one.batches ++ two.batches))) r (written (gate + length a) (b ++ 0 ∷ []) (written gate (a ++ 0 ∷ []) disk))) records
-              (subst (λ (g : ℕ). HoldsTo capacity g (records_of two.batches ++ (records_of one.batches ++ held)) (written (gate + length a) (b ++ 0 ∷ []) (written gate (a ++ 0 ∷ []) disk))) place two.holds));
+              (subst (λ (g : ℕ). HoldsTo capacity g (records_of two.batches ++ (records_of one.batches ++ held)) (written (gate + length a) (b ++ 0 ∷ []) (written gate (a ++ 0 ∷ []) disk))) offset two.holds));
         }
 
 -- an append failed
@@ -129,26 +129,26 @@ pub only_disk : {T : Type 0} (result : Result T AppendError) (error : AppendErro
 only_disk result DiskFault is capacity limits room = is
 only_disk result (Full limit) is capacity limits room = absurd (room (is ∙ ap (λ (l : ℕ). Err (Full l)) (limits limit is)))
 
--- what is written stands in its place
+-- what is written stands at its offset
 written_torn : (at : ℕ) (piece disk : List ℕ) → at ≤ length disk → Torn at (length piece) disk (written at piece disk)
 written_torn at piece disk within =
-    let front = take at disk in
+    let prefix = take at disk in
     let n = at + length piece in
-    let len : length (front ++ piece) ≡ n = omega (arith, length-append front piece, length-take-le at disk within) in
+    let len : length (prefix ++ piece) ≡ n = omega (arith, length-append prefix piece, length-take-le at disk within) in
     record {
       rest = piece ++ drop n disk;
-      before = append_assoc front piece (drop n disk);
+      before = append_assoc prefix piece (drop n disk);
       more = [];
-      after = drop_at (front ++ piece) (drop n disk) n len ∙ sym (append-nil (drop n disk));
-      no_shorter = omega (arith, length-append (front ++ piece) (drop n disk), len, length-drop n disk);
+      after = drop_at (prefix ++ piece) (drop n disk) n len ∙ sym (append-nil (drop n disk));
+      no_shorter = omega (arith, length-append (prefix ++ piece) (drop n disk), len, length-drop n disk);
     }
 
 -- and batches that follow a batch grow the file from before it
 pub grown_behind : {capacity gate : ℕ} {records : List Record} {pending : List (List Record)} {disk image : List ℕ} (batch : List Record) → gate ≤ length disk
     → IsGrown capacity (gate + (length (frames_of batch) + 5)) records pending (written gate (stored_batch batch) disk) image → IsGrown capacity gate records pending disk image
 grown_behind {gate = gate} {pending = pending} {disk = disk} batch within g =
-    let place = length (opened_batches pending ++ 0 ∷ []) in
-    let n = g.next - gate + place in
+    let size = length (opened_batches pending ++ 0 ∷ []) in
+    let n = g.next - gate + size in
     let after = gate + (length (frames_of batch) + 5) in
     let len = length-append (content batch) (0 ∷ []) in
     record {
@@ -158,5 +158,5 @@ grown_behind {gate = gate} {pending = pending} {disk = disk} batch within g =
       valid = g.valid;
       torn = torn_twice gate n
           (torn_within gate n gate (length (stored_batch batch)) (omega arith) (omega (arith, g.behind, len, length-append (opened_batches pending) (0 ∷ []))) (written_torn gate (stored_batch batch) disk within))
-          (torn_within gate n after (g.next - after + place) (omega arith) (omega (arith, g.behind)) g.torn);
+          (torn_within gate n after (g.next - after + size) (omega arith) (omega (arith, g.behind)) g.torn);
     }

@@ -41,18 +41,18 @@ frames_least [] = omega arith
 frames_least (x ∷ xs) = omega (arith, length-append (frame_of x) (frames_of xs), frames_least xs)
 
 -- frames at the prefix of frames are those of the first records
-pub frames_front : (xs ys : List Record) (rest : List ℕ) → All IsSound xs → All IsSound ys → frames_of ys ≡ frames_of xs ++ rest
+pub frames_prefix : (xs ys : List Record) (rest : List ℕ) → All IsSound xs → All IsSound ys → frames_of ys ≡ frames_of xs ++ rest
     → (later : List Record) × (ys ≡ xs ++ later) × (rest ≡ frames_of later) × All IsSound later
-frames_front [] ys rest hx hy is = (ys, refl, sym is, hy)
-frames_front (x ∷ xs) [] rest hx hy is = absurd (omega (arith, ap length is, length-append (frame_of x ++ frames_of xs) rest, length-append (frame_of x) (frames_of xs)))
-frames_front (x ∷ xs) (y ∷ ys) rest hx hy is =
+frames_prefix [] ys rest hx hy is = (ys, refl, sym is, hy)
+frames_prefix (x ∷ xs) [] rest hx hy is = absurd (omega (arith, ap length is, length-append (frame_of x ++ frames_of xs) rest, length-append (frame_of x) (frames_of xs)))
+frames_prefix (x ∷ xs) (y ∷ ys) rest hx hy is =
     let same = records_differ y x (frames_of ys) (frames_of xs ++ rest) (All-head IsSound y ys hy) (All-head IsSound x xs hx) (is ∙ append_assoc (frame_of x) (frames_of xs) rest) in
-    let next = frames_front xs ys rest (All-tail IsSound x xs hx) (All-tail IsSound y ys hy) same.1 in
+    let next = frames_prefix xs ys rest (All-tail IsSound x xs hx) (All-tail IsSound y ys hy) same.1 in
     (next.0, ap (λ (z : Record). z ∷ ys) same.0 ∙ ap (λ (zs : List Record). x ∷ zs) next.1, next.2, next.3)
 
 pub frames_alone : (xs ys : List Record) → All IsSound xs → All IsSound ys → frames_of xs ≡ frames_of ys → xs ≡ ys
 frames_alone xs ys hx hy is =
-    let prefix = frames_front xs ys [] hx hy (sym is ∙ sym (append-nil (frames_of xs))) in
+    let prefix = frames_prefix xs ys [] hx hy (sym is ∙ sym (append-nil (frames_of xs))) in
     none prefix.0 prefix.1 prefix.2
   where
     none : (later : List Record) → ys ≡ xs ++ later → [] ≡ frames_of later → xs ≡ ys

@@ -17,17 +17,17 @@ header_read bytes capacity range long signed is =
     ∙ sym (append_assoc signature (to_be_bytes w64 capacity) (drop 16 bytes))
 
 -- the prefix of the disk that was read
-pub record IsFrontOf (disk ahead rest : List ℕ) : Type 0 where
+pub record IsPrefixOf (disk ahead rest : List ℕ) : Type 0 where
   pub whole : disk ≡ ahead ++ rest
   pub long : 17 ≤ length ahead
 
-pub front_of_disk : (size : ℕ) (disk ahead : List ℕ) → size ≡ length disk → 17 ≤ size → length ahead ≡ min size 65536 → ahead ≡ take (min size 65536) (drop 0 disk) → IsFrontOf disk ahead (drop (min size 65536) disk)
-front_of_disk size disk ahead sizes long len is = record {
+pub prefix_of_disk : (size : ℕ) (disk ahead : List ℕ) → size ≡ length disk → 17 ≤ size → length ahead ≡ min size 65536 → ahead ≡ take (min size 65536) (drop 0 disk) → IsPrefixOf disk ahead (drop (min size 65536) disk)
+prefix_of_disk size disk ahead sizes long len is = record {
   whole = sym (take-append-drop (min size 65536) disk) ∙ ap (λ (l : List ℕ). l ++ drop (min size 65536) disk) (sym is);
   long = omega (arith, len, long);
 }
 
-module _ (disk ahead rest : List ℕ) (prefix : IsFrontOf disk ahead rest) where
+module _ (disk ahead rest : List ℕ) (prefix : IsPrefixOf disk ahead rest) where
   module _ (capacity : ℕ) (range : IsLimit capacity) (begins : ahead ≡ header capacity ++ drop 16 ahead) where
     whole : disk ≡ header capacity ++ (drop 16 ahead ++ rest)
     whole = prefix.whole ∙ ap (λ (l : List ℕ). l ++ rest) begins ∙ append_assoc (header capacity) (drop 16 ahead) rest
@@ -41,7 +41,7 @@ module _ (disk ahead rest : List ℕ) (prefix : IsFrontOf disk ahead rest) where
     }
 
     pub leads : LeadsTo capacity 16 [] disk (drop 16 ahead ++ rest)
-    leads = record { range = range; prefix = []; spelled = refl; place = refl; whole = whole ∙ ap (λ (l : List ℕ). l ++ (drop 16 ahead ++ rest)) (sym (append-nil (header capacity))) }
+    leads = record { range = range; prefix = []; spelled = refl; offset = refl; whole = whole ∙ ap (λ (l : List ℕ). l ++ (drop 16 ahead ++ rest)) (sym (append-nil (header capacity))) }
 
   same_signature : take 8 disk ≡ take 8 ahead
   same_signature = ap (take 8) prefix.whole ∙ take-append-le 8 ahead rest (omega (arith, prefix.long))
@@ -57,7 +57,7 @@ module _ (disk ahead rest : List ℕ) (prefix : IsFrontOf disk ahead rest) where
   has_no_header (inr outside) = inr (inr (λ range. outside (subst IsLimit same_limit range)))
 
 -- what a scan has read that was just begun
-pub begun : (scan : ScanState) (disk ahead rest : List ℕ) (prefix : IsFrontOf disk ahead rest) (capacity : ℕ) → IsLimit capacity → ahead ≡ header capacity ++ drop 16 ahead → scan.size ≡ length disk → scan.ahead ≡ drop 16 ahead
+pub begun : (scan : ScanState) (disk ahead rest : List ℕ) (prefix : IsPrefixOf disk ahead rest) (capacity : ℕ) → IsLimit capacity → ahead ≡ header capacity ++ drop 16 ahead → scan.size ≡ length disk → scan.ahead ≡ drop 16 ahead
     → scan.capacity ≡ capacity → scan.gate ≡ 16 → scan.count ≡ 0 → scan.is_closed ≡ false → HasRead scan [] disk
 begun scan disk ahead rest prefix capacity range begins size aheads limits gates counts closes = record {
   size = size;

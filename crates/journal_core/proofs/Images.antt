@@ -12,10 +12,10 @@ use Rattle.journal_core.specs.Layout.{IsBatch, IsLimit, AreBatches, LeadsTo, Hol
 module _ {capacity gate : ℕ} {batches : List (List Record)} {image rest : List ℕ} (p : LeadsTo capacity gate batches image rest) where
   -- the same batches in another image
   pub moved : (other other_rest : List ℕ) → other ≡ header capacity ++ p.prefix ++ other_rest → LeadsTo capacity gate batches other other_rest
-  moved other other_rest is = record { range = p.range; prefix = p.prefix; spelled = p.spelled; place = p.place; whole = is }
+  moved other other_rest is = record { range = p.range; prefix = p.prefix; spelled = p.spelled; offset = p.offset; whole = is }
 
   pub long : length (header capacity ++ p.prefix) ≡ gate
-  long = omega (arith, p.place)
+  long = omega (arith, p.offset)
 
   pub to_gate : take gate image ≡ header capacity ++ p.prefix
   to_gate = ap (take gate) p.whole ∙ take_at (header capacity ++ p.prefix) rest gate long
@@ -25,13 +25,13 @@ module _ {capacity gate : ℕ} {batches : List (List Record)} {image rest : List
 
 module _ {capacity gate : ℕ} {batches : List (List Record)} {image : List ℕ} {mark : ℕ} {rest : List ℕ} (p : LeadsTo capacity gate batches image (mark ∷ rest)) where
   pub room : gate < length image
-  room = omega (arith, p.place, ap length p.whole, length-append (header capacity ++ p.prefix) (mark ∷ rest))
+  room = omega (arith, p.offset, ap length p.whole, length-append (header capacity ++ p.prefix) (mark ∷ rest))
 
   with_mark : image ≡ ((header capacity ++ p.prefix) ++ mark ∷ []) ++ rest
   with_mark = p.whole ∙ sym (append_assoc (header capacity ++ p.prefix) (mark ∷ []) rest)
 
   behind : length ((header capacity ++ p.prefix) ++ mark ∷ []) ≡ gate + 1
-  behind = omega (arith, p.place, length-append (header capacity ++ p.prefix) (mark ∷ []))
+  behind = omega (arith, p.offset, length-append (header capacity ++ p.prefix) (mark ∷ []))
 
   past_gate : take (gate + 1) image ≡ (header capacity ++ p.prefix) ++ mark ∷ []
   past_gate = ap (take (gate + 1)) with_mark ∙ take_at ((header capacity ++ p.prefix) ++ mark ∷ []) rest (gate + 1) behind
@@ -90,7 +90,7 @@ opened {capacity} {gate} {batches} {image} {mark} batch after p open_mark valid 
   range = p.range;
   prefix = p.prefix ++ mark ∷ content batch;
   spelled = one_more batches p.prefix mark batch open_mark valid p.spelled;
-  place = omega (arith, p.place, length-append p.prefix (mark ∷ content batch));
+  offset = omega (arith, p.offset, length-append p.prefix (mark ∷ content batch));
   whole = p.whole ∙ regroup (header capacity) p.prefix (content batch) after mark;
 }
   where
@@ -122,4 +122,4 @@ either_to {capacity} {gate} {batches} {image} {mark} batch more same p valid = e
 
 -- the bytes of a journal that was just made
 pub fresh : (capacity : ℕ) (rest : List ℕ) → IsLimit capacity → HoldsTo capacity 16 [] (header capacity ++ 0 ∷ rest)
-fresh capacity rest range = closed {batches = []} refl (record { range = range; prefix = []; spelled = refl; place = refl; whole = ap (λ l. l ++ 0 ∷ rest) (sym (append-nil (header capacity))) })
+fresh capacity rest range = closed {batches = []} refl (record { range = range; prefix = []; spelled = refl; offset = refl; whole = ap (λ l. l ++ 0 ∷ rest) (sym (append-nil (header capacity))) })

@@ -2,7 +2,7 @@ mod FrameLemmas
 pub mod Images
 pub mod OneList
 pub mod Torns
-pub mod Places
+pub mod Offsets
 pub mod Appended
 pub mod Extending
 mod AtGateLemmas

@@ -1,4 +1,4 @@
--- Where an append writes, and what stays outside of its place.
+-- Where an append writes, and what stays outside of its range.
 use Rattle.std.proofs.Common.{◌≡◌, ℕ, ◌+◌, ◌≤◌, List, [], ◌∷◌, ◌++◌, length, take, drop, refl, sym, ◌∙◌, ap, subst, arith, append_assoc, length-append, take-take, drop_at, length-take-le}
 use Rattle.std.specs.Prelude.{Option, Some, None, option_map}
 use Rattle.std.proofs.lemmas.List.{take-append-le}
@@ -30,10 +30,10 @@ written_both gate piece disk within =
     let before : take gate (written (gate + 1) piece disk) ≡ take gate disk =
     ap (take gate) mid ∙ take-append-le gate (take (gate + 1) disk) (piece ++ rest) (omega (arith, len)) ∙ take-take gate (gate + 1) disk (omega arith) in
     let behind : drop (gate + 1) (written (gate + 1) piece disk) ≡ piece ++ rest = ap (drop (gate + 1)) mid ∙ drop_at (take (gate + 1) disk) (piece ++ rest) (gate + 1) len in
-    let place : gate + 1 + length piece ≡ gate + length (1 ∷ piece) = omega arith in
+    let offset : gate + 1 + length piece ≡ gate + length (1 ∷ piece) = omega arith in
     ap (λ (l : List ℕ). l ++ (1 ∷ []) ++ drop (gate + 1) (written (gate + 1) piece disk)) before
     ∙ append_assoc (take gate disk) (1 ∷ []) (drop (gate + 1) (written (gate + 1) piece disk))
-    ∙ ap (λ (l : List ℕ). take gate disk ++ 1 ∷ l) (behind ∙ ap (λ (i : ℕ). piece ++ drop i disk) place)
+    ∙ ap (λ (l : List ℕ). take gate disk ++ 1 ∷ l) (behind ∙ ap (λ (i : ℕ). piece ++ drop i disk) offset)
     ∙ sym (append_assoc (take gate disk) (1 ∷ piece) (drop (gate + length (1 ∷ piece)) disk))
 
 -- what is written within a disk, or at its end, stands there
@@ -49,7 +49,7 @@ module _ (old mid : Option (List ℕ)) (gate : ℕ) (batch : List Record) (has :
       let reaches = written_reaches (gate + 1) (content batch ++ 0 ∷ []) from.0 (has from.0 from.1) in
       omega (arith, reaches, ap length from.2)
 
-  -- and behind them the batch stands in its place
+  -- and behind them the batch stands at its offset
   pub written_whole : (new : Option (List ℕ)) → new ≡ option_map (written gate (1 ∷ [])) mid → new ≡ option_map (written gate (stored_batch batch)) old
   written_whole new second = second ∙ ap (option_map (written gate (1 ∷ []))) first ∙ both old has
     where
@@ -67,10 +67,10 @@ appended_holds {capacity} {gate} {records} {disk} batch valid held =
 -- the next gate stands in the disk
 pub next_reaches : (old new : Option (List ℕ)) (gate next : ℕ) (batch : List Record) → HasBytes (gate + 1) old → new ≡ option_map (written gate (stored_batch batch)) old
     → next ≡ gate + (length (frames_of batch) + 5) → HasBytes (next + 1) new
-next_reaches old new gate next batch has is place disk known =
+next_reaches old new gate next batch has is offset disk known =
     let from = mapped (written gate (stored_batch batch)) old disk (sym is ∙ known) in
     let reaches = written_reaches gate (stored_batch batch) from.0 (omega (arith, has from.0 from.1)) in
-    omega (arith, reaches, ap length from.2, place, length-append (content batch) (0 ∷ []))
+    omega (arith, reaches, ap length from.2, offset, length-append (content batch) (0 ∷ []))
 
 -- a stop of the first write, of the second, and where nothing was written
 pub first_within : (old : Outside) (gate : ℕ) (batch : List Record) (image bytes : List ℕ) → Changes (Torn (gate + 1) (length (content batch ++ 0 ∷ []))) old image bytes

@@ -9,8 +9,8 @@ use Rattle.journal_core.specs.Laws.{HoldsOneList}
 use Rattle.journal_core.proofs.FrameLemmas.{frames_alone, frames_most}
 
 -- two lists that begin with parts of one length
-pub front_of : (a b c d : List ℕ) → a ++ b ≡ c ++ d → length a ≡ length c → (a ≡ c) × (b ≡ d)
-front_of a b c d is len = (
+pub prefix_of : (a b c d : List ℕ) → a ++ b ≡ c ++ d → length a ≡ length c → (a ≡ c) × (b ≡ d)
+prefix_of a b c d is len = (
   sym (take_at a b (length a) refl) ∙ ap (take (length a)) is ∙ take_at c d (length a) (sym len),
   sym (drop_at a b (length a) refl) ∙ ap (drop (length a)) is ∙ drop_at c d (length a) (sym len),
 )
@@ -23,9 +23,9 @@ pub one_content : (a b : List Record) (more rest : List ℕ) → IsBatch a → I
 one_content a b more rest ha hb is =
     let m = length (frames_of a) in
     let n = length (frames_of b) in
-    let parts = front_of (to_be_bytes w32 m) (frames_of a ++ more) (to_be_bytes w32 n) (frames_of b ++ rest) is refl in
+    let parts = prefix_of (to_be_bytes w32 m) (frames_of a ++ more) (to_be_bytes w32 n) (frames_of b ++ rest) is refl in
     let same : m ≡ n = sym (wide32.read m (frames_short a ha)) ∙ ap (λ bytes. from_be_bytes w32 bytes) parts.0 ∙ wide32.read n (frames_short b hb) in
-    let frames = front_of (frames_of a) more (frames_of b) rest parts.1 same in
+    let frames = prefix_of (frames_of a) more (frames_of b) rest parts.1 same in
     (frames_alone a b ha.sound hb.sound frames.0, frames.1)
 
 -- what follows some batches begins with more batches, and this follows them
@@ -86,7 +86,7 @@ closed_gate rest b tail opens = opens.not_closed (sym (ap (λ (l : List ℕ). ge
 module _ {image : List ℕ} {capacity gate : ℕ} {batches : List (List Record)} {rest : List ℕ} {capacity' gate' : ℕ} {batches' : List (List Record)} {rest' : List ℕ}
     (p : LeadsTo capacity gate batches image rest) (q : LeadsTo capacity' gate' batches' image rest') where
   parts : (header capacity ≡ header capacity') × (p.prefix ++ rest ≡ q.prefix ++ rest')
-  parts = front_of (header capacity) (p.prefix ++ rest) (header capacity') (q.prefix ++ rest')
+  parts = prefix_of (header capacity) (p.prefix ++ rest) (header capacity') (q.prefix ++ rest')
       (sym (append_assoc (header capacity) p.prefix rest) ∙ sym p.whole ∙ q.whole ∙ append_assoc (header capacity') q.prefix rest') refl
 
   pub one_limit : capacity ≡ capacity'
@@ -98,7 +98,7 @@ module _ {image : List ℕ} {capacity gate : ℕ} {batches : List (List Record)}
   one_on = one_first batches batches' p.prefix q.prefix rest rest' p.spelled q.spelled parts.1
 
   pub one_gate : rest ≡ rest' → gate ≡ gate'
-  one_gate same = omega (arith, p.place, q.place, ap length parts.1, ap length same, length-append p.prefix rest, length-append q.prefix rest')
+  one_gate same = omega (arith, p.offset, q.offset, ap length parts.1, ap length same, length-append p.prefix rest, length-append q.prefix rest')
 
   -- where no batch follows the first, it begins with the second
   pub all_of : ((b : List Record) (tail : List ℕ) → ¬ Opens b rest tail) → (later : List (List Record)) × (batches ≡ batches' ++ later)

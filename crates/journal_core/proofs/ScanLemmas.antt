@@ -80,10 +80,10 @@ damaged_on (gate ∷ ahead) rest damaged (inr long) = record {
 pub damaged_disk : (scan : ScanState) (batches : List (List Record)) (disk : List ℕ) → HasRead scan batches disk → (scan.gate + length scan.ahead ≡ scan.size) ⊎ (2309 ≤ length scan.ahead) → IsDamaged scan.ahead → IsDamaged (drop scan.gate disk)
 damaged_disk scan batches disk read enough damaged = subst IsDamaged (sym (from_gate read.leads)) (damaged_on scan.ahead read.rest damaged (all enough)) where
   all : (scan.gate + length scan.ahead ≡ scan.size) ⊎ (2309 ≤ length scan.ahead) → (read.rest ≡ []) ⊎ (2309 ≤ length scan.ahead)
-  all (inl end) = inl (nil_from_length read.rest (omega (arith, end, read.size, read.leads.place, ap length read.leads.whole, length-append (header scan.capacity ++ read.leads.prefix) (scan.ahead ++ read.rest), length-append scan.ahead read.rest)))
+  all (inl end) = inl (nil_from_length read.rest (omega (arith, end, read.size, read.leads.offset, ap length read.leads.whole, length-append (header scan.capacity ++ read.leads.prefix) (scan.ahead ++ read.rest), length-append scan.ahead read.rest)))
   all (inr long) = inr long
 
--- bytes that were read from a place on
+-- bytes that were read from a offset on
 pub read_at : (n gate gate' : ℕ) (disk ahead : List ℕ) → gate' ≡ gate → ahead ≡ take n (drop gate' disk) → drop gate disk ≡ ahead ++ drop n (drop gate disk)
 read_at n gate gate' disk ahead gates is =
     sym (take-append-drop n (drop gate disk)) ∙ ap (λ (l : List ℕ). l ++ drop n (drop gate disk)) (ap (λ (k : ℕ). take n (drop k disk)) (sym gates) ∙ sym is)

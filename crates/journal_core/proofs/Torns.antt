@@ -1,4 +1,4 @@
--- Writes that a stop cut short, within one place.
+-- Writes that a stop cut short, within one range.
 use Rattle.std.proofs.Common.{◌≡◌, ℕ, zero, suc, ◌+◌, ◌-◌, ◌≤◌, List, [], ◌∷◌, ◌++◌, take, drop, refl, sym, ◌∙◌, ap, arith, append_assoc, take-append-drop, take-take, drop-drop}
 use Rattle.std.proofs.lemmas.List.{append-nil}
 use Rattle.host_core.specs.Outside.{Torn}
@@ -23,7 +23,7 @@ torn_same at n disk = record {
   no_shorter = omega arith;
 }
 
--- a write within a place is one of the place
+-- a write within a range is one of the range
 pub torn_within : (at n at' n' : ℕ) {old new : List ℕ} → at ≤ at' → at' + n' ≤ at + n → Torn at' n' old new → Torn at n old new
 torn_within at n at' n' {old} {new} le within torn =
     let k = (at + n) - (at' + n') in
@@ -40,7 +40,7 @@ torn_within at n at' n' {old} {new} le within torn =
       no_shorter = torn.no_shorter;
     }
 
--- two writes of one place are one
+-- two writes of one range are one
 pub torn_twice : (at n : ℕ) {old mid new : List ℕ} → Torn at n old mid → Torn at n mid new → Torn at n old new
 torn_twice at n {old} {mid} first second =
     let prefix = take_grows at (take at old) first.rest in

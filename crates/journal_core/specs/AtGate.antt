@@ -1,4 +1,4 @@
--- What stands at the place of a gate.
+-- What stands at the offset of a gate.
 use Rattle.std.specs.Prelude.{◌≡◌, ◌≢◌, ℕ, ◌+◌, ◌≤◌, List, [], ◌∷◌, length, drop}
 use Rattle.wire_in.specs.declared.record.Record.{Record}
 use Rattle.journal_core.specs.declared.at_gate.AtGate.{AtGate}

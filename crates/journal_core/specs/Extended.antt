@@ -24,7 +24,7 @@ pub record Extends (old new : Outside) : Type 0 where
       → IsExtended capacity gate held disk new.disk
 
 -- An image that a stop may leave while batches are added to an old file: it holds these records up to a gate of its own, and it
--- differs from the old file only from the old gate on, and up to its own gate, or up to the end of the place at this gate of the
+-- differs from the old file only from the old gate on, and up to its own gate, or up to the end of the range at this gate of the
 -- batches that are pending: those whose adding was begun and is not done.
 pub record IsGrown (capacity gate : ℕ) (records : List Record) (pending : List (List Record)) (old image : List ℕ) : Type 0 where
   pub next : ℕ

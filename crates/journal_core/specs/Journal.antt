@@ -5,7 +5,7 @@ use Rattle.wire_in.specs.declared.record.Record.{Record}
 use Rattle.journal_core.specs.Layout.{IsLimit, HoldsTo, Holds, with_batch}
 use Rattle.journal_core.specs.Extended.{IsGrown}
 
--- The capacity of a journal, how many records it holds, the place of its next gate, and whether it may be written: since it
+-- The capacity of a journal, how many records it holds, the offset of its next gate, and whether it may be written: since it
 -- was read, no call has found a fault.
 pub record JournalState : Type 0 where
   pub capacity : ℕ
@@ -13,7 +13,7 @@ pub record JournalState : Type 0 where
   pub gate : ℕ
   pub whole : Bool
 
--- A gate stands within the greatest file, whose places are signed numbers of 64 bits, or as many bytes behind it as the
+-- A gate stands within the greatest file, whose offsets are signed numbers of 64 bits, or as many bytes behind it as the
 -- records take that were added: 41 at most for each, which are its frame and the gate and the length of its batch.
 pub record IsBounded (capacity count gate : ℕ) : Type 0 where
   pub range : IsLimit capacity
@@ -52,7 +52,7 @@ pub record Grown (gate next : ℕ) (batch : List Record) (old : Option (List ℕ
 abbrev pub Adds : (holds : List Record → List (List Record) → Type 0) (records batch : List Record) → Type 0
 Adds holds records batch = holds records [] ⊎ holds records (batch ∷ []) ⊎ holds (with_batch records batch) []
 
--- A stop leaves the records as they were or with the batch, in an image that differs from one before in the place of the batch
+-- A stop leaves the records as they were or with the batch, in an image that differs from one before in the range of the batch
 -- alone, and nothing more was sent.
 pub record Appends (capacity gate : ℕ) (records batch : List Record) (old : Outside) (image bytes : List ℕ) : Type 0 where
   pub holds : Holds image capacity records ⊎ Holds image capacity (with_batch records batch)

@@ -55,12 +55,12 @@ abbrev pub AreBatches : List (List Record) → List ℕ → Type 0
 AreBatches [] bytes = bytes ≡ []
 AreBatches (batch ∷ batches) bytes = (rest : List ℕ) × Opens batch bytes rest × AreBatches batches rest
 
--- the image begins with a header and these batches, which end at this place, and this follows them
+-- the image begins with a header and these batches, which end at this offset, and this follows them
 pub record LeadsTo (capacity gate : ℕ) (batches : List (List Record)) (image rest : List ℕ) : Type 0 where
   pub range : IsLimit capacity
   pub prefix : List ℕ
   pub spelled : AreBatches batches prefix
-  pub place : 16 + length prefix ≡ gate
+  pub offset : 16 + length prefix ≡ gate
   pub whole : image ≡ header capacity ++ prefix ++ rest
 
 -- the records that are held once a batch is added
@@ -71,7 +71,7 @@ with_batch held batch = reverse batch ++ held
 abbrev pub records_of : List (List Record) → List Record
 records_of batches = reverse (flat_map (λ batch. batch) batches)
 
--- the image is a header, batches with these records, a closed gate at this place, and then any bytes
+-- the image is a header, batches with these records, a closed gate at this offset, and then any bytes
 pub record HoldsTo (capacity gate : ℕ) (records : List Record) (image : List ℕ) : Type 0 where
   pub batches : List (List Record)
   pub same : records_of batches ≡ records

@@ -5,8 +5,8 @@ use Rattle.wire_core.specs.Fields.{number}
 use Rattle.wire_in.specs.declared.record.Record.{Record}
 use Rattle.journal_core.specs.Layout.{IsLimit, LeadsTo, records_of, signature}
 
--- The capacity of the journal, how many records were handed out, the place of the gate of the last batch (or of the first
--- gate), the place of the gate that is read next, whether it was found closed, the length of the disk, and what of it was
+-- The capacity of the journal, how many records were handed out, the offset of the gate of the last batch (or of the first
+-- gate), the offset of the gate that is read next, whether it was found closed, the length of the disk, and what of it was
 -- read ahead, from the next gate on.
 pub record ScanState : Type 0 where
   pub capacity : ℕ

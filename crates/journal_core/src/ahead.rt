@@ -74,14 +74,19 @@ impl Ahead {
         self.start = 0;
         self.end = 0;
         let most = left.min(PIECE_MAX as u64) as usize;
-        read_front(host, at, &mut self.buffer, most)?;
+        read_prefix(host, at, &mut self.buffer, most)?;
         self.end = most;
         Ok(())
     }
 }
 
-/// Reads so many bytes from a place of the disk on into the prefix of a buffer.
-fn read_front<H: Host>(host: &mut H, at: u64, buffer: &mut [u8], count: usize) -> Result<(), Failed>
+/// Reads so many bytes from an offset of the disk on into the prefix of a buffer.
+fn read_prefix<H: Host>(
+    host: &mut H,
+    at: u64,
+    buffer: &mut [u8],
+    count: usize,
+) -> Result<(), Failed>
     requires room { count ≤ length buffer.old }
     requires within { (disk : List ℕ) → (H.outside host.old).disk ≡ Some disk → at + count ≤ length disk }
     requires fits { at + count < 2 ^ 63 }

@@ -1,4 +1,4 @@
-//! What stands at the place of a gate.
+//! What stands at the offset of a gate.
 
 ghost use Rattle.std.specs.Prelude.{◌≡◌, ◌≢◌, ◌+◌, ◌≤◌, ◌<◌, ◌++◌, [], ℕ, List, false, IsTrue, MatchOption, length, drop};
 ghost use Rattle.wire_in.specs.declared.record.Record.{Record};

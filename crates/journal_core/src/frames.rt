@@ -29,7 +29,7 @@ pub fn put_content(batch: &[Record], into: &mut [u8; BATCH_BYTES]) -> usize
     end + 1
 }
 
-/// Writes the frames of a batch from place 4 on, and answers the place behind them.
+/// Writes the frames of a batch from offset 4 on, and answers the offset behind them.
 fn put_frames(batch: &[Record], into: &mut [u8; BATCH_BYTES]) -> usize
     requires most { length batch.now ≤ BATCH_MAX }
     requires ranges { All InRange batch.now }
@@ -45,7 +45,7 @@ fn put_frames(batch: &[Record], into: &mut [u8; BATCH_BYTES]) -> usize
     end
 }
 
-/// Writes the frame of a record at a place, and answers the place behind it.
+/// Writes the frame of a record at an offset, and answers the offset behind it.
 fn put_frame(x: &Record, at: usize, into: &mut [u8; BATCH_BYTES]) -> usize
     requires range { InRange x.now }
     requires room { at + FRAME_MAX ≤ BATCH_BYTES }

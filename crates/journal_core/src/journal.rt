@@ -18,7 +18,7 @@ use wire_in::Record;
 /// batch.
 const RECORD_BYTES: u64 = 41;
 
-/// The greatest length of a file: places in it are signed numbers of 64 bits.
+/// The greatest length of a file: offsets in it are signed numbers of 64 bits.
 const FILE_BYTES: u64 = 1 << 63;
 
 /// The most records that a journal may take.
@@ -49,7 +49,7 @@ fn fresh(capacity: u64) -> [u8; 17]
 }
 
 /// Adds a batch at a gate: it writes what stands behind the gate and syncs, and then opens the gate and syncs. Answers
-/// the place of the next gate.
+/// the offset of the next gate.
 fn add<H: Host>(host: &mut H, gate: u64, batch: &[Record]) -> Result<u64, Failed>
     requires gate { HasBytes (gate + 1) (H.outside host.old).disk }
     requires fits { gate + 1 + BATCH_BYTES < 2 ^ 64 }
@@ -64,7 +64,7 @@ fn add<H: Host>(host: &mut H, gate: u64, batch: &[Record]) -> Result<u64, Failed
         → Grown gate next batch.now (H.outside host.old).disk disk) }
     ensures settled { OnOk result (IsSettled (H.outside host.new)) }
     ensures valid { OnOk result (IsBatch batch.now) }
-    ensures place { IfOk result (λ next. next ≡ gate + (length (frames_of batch.now) + 5)) }
+    ensures offset { IfOk result (λ next. next ≡ gate + (length (frames_of batch.now) + 5)) }
     ensures next { IfOk result (λ next. (gate ≤ next) × (next ≤ gate + RECORD_BYTES * length batch.now)) }
     ensures keeps { OnlyWrites (H.outside host.old) (H.outside host.new) }
     ensures cause { OnErr result (Rose (H.outside host.old).disk_faults (H.outside host.new).disk_faults) }
@@ -154,7 +154,7 @@ impl Journal {
         ensures next { OnOk result (self.new.gate ≡ self.old.gate + (length (frames_of batch.now) + 5)) }
         ensures gate { OnOk result (HasBytes (self.new.gate + 1) (H.outside host.new).disk) }
 
-        // The batch is written in its place, and outside of it nothing changes, whatever the answer.
+        // The batch is written at the gate's offset, and outside of its range nothing changes, whatever the answer.
         ensures written { OnOk result ((H.outside host.new).disk ≡ option_map (written self.old.gate (stored_batch batch.now)) (H.outside host.old).disk) }
         ensures valid { OnOk result (IsBatch batch.now) }
         ensures within { Elapses (H.outside host.old) (H.outside host.new) (Changes (Torn self.old.gate (length (stored_batch batch.now))) (H.outside host.old)) }

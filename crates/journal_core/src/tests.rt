@@ -134,7 +134,7 @@ fn a_stop_leaves_a_batch_whole_or_out(rt: HostRuntime) -> Result<(), Fail> {
 }
 
 #[test]
-fn damage_is_told_with_its_place(rt: HostRuntime) -> Result<(), Fail> {
+fn damage_is_told_with_its_offset(rt: HostRuntime) -> Result<(), Fail> {
     for (disk, want) in [
         (b"".as_slice(), Err(ScanError::NoJournal)),
         (

@@ -4,7 +4,7 @@ use Rattle.host_core.proofs.Chains.{writes_on}
 use Rattle.journal_core.specs.Layout.{IsBatch}
 use Rattle.journal_core.proofs.Appended.{first_step, second_step, grown_with}
 use Rattle.journal_core.proofs.FrameLemmas.{frames_most}
-use Rattle.journal_core.proofs.Places.{first_within, second_within, still_reaches, written_whole}
+use Rattle.journal_core.proofs.Offsets.{first_within, second_within, still_reaches, written_whole}
 use Rattle.journal_core.proofs.journal.add.Goals as goal
 
 pub returns-in_err-store-clause-moments : goal.returns-in_err-store-clause-moments

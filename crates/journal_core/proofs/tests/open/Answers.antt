@@ -1,4 +1,4 @@
-use Rattle.journal_core.proofs.Places.{scan_reaches, gate_reaches}
+use Rattle.journal_core.proofs.Offsets.{scan_reaches, gate_reaches}
 use Rattle.journal_core.proofs.tests.open.Goals as goal
 
 pub next-requires : goal.next-requires

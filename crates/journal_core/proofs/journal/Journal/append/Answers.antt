@@ -3,7 +3,7 @@ use Rattle.host_core.proofs.Moments.{nothing, widened, ended}
 use Rattle.host_core.proofs.Chains.{writes_nothing}
 use Rattle.journal_core.specs.Journal.{JournalState}
 use Rattle.journal_core.proofs.Appended.{settled_at, grown_by, rest_with, of_disk_with, before_steps}
-use Rattle.journal_core.proofs.Places.{none_within, next_reaches}
+use Rattle.journal_core.proofs.Offsets.{none_within, next_reaches}
 use Rattle.journal_core.proofs.journal.Journal.append.Goals as goal
 
 pub returns-then-len-saturating_sub-clause-moments :
@@ -60,4 +60,4 @@ returns-clause-within g c =
 
 pub returns-clause-gate : goal.returns-clause-gate
 returns-clause-gate g c =
-    next_reaches _ _ c.self.inside.gate _ c.list.result.now (rw (ap (λ (k : JournalState). k.gate) c.self.view_is) c.requires.gate) c.in_ok-self-inside.ensures.written c.in_ok-self-inside.ensures.place
+    next_reaches _ _ c.self.inside.gate _ c.list.result.now (rw (ap (λ (k : JournalState). k.gate) c.self.view_is) c.requires.gate) c.in_ok-self-inside.ensures.written c.in_ok-self-inside.ensures.offset

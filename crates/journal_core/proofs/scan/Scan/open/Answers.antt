@@ -1,6 +1,6 @@
 use Rattle.std.proofs.Common.{refl, sym, ◌∙◌, arith}
 use Rattle.host_core.proofs.Chains.{reads_on}
-use Rattle.journal_core.proofs.HeaderLemmas.{front_of_disk, has_header, has_no_header, begun}
+use Rattle.journal_core.proofs.HeaderLemmas.{prefix_of_disk, has_header, has_no_header, begun}
 use Rattle.journal_core.proofs.scan.Scan.open.Goals as goal
 
 pub returns-in_err-read-clause-keeps : goal.returns-in_err-read-clause-keeps
@@ -9,7 +9,7 @@ returns-in_err-read-clause-keeps g c = reads_on c.disk_len.ensures.measures.keep
 pub returns-in_default-clause-no_journal : goal.returns-in_default-clause-no_journal
 returns-in_default-clause-no_journal g c is disk known =
     let before = sym c.disk_len.ensures.measures.keeps.disk ∙ sym c.read.ensures.keeps.disk ∙ known in
-    let prefix = front_of_disk c.in_ok-size.size disk c.read.new.self (c.in_ok-size.ensures.measures.len.1 disk before) (omega arith) c.in_ok-read.ensures.len (c.in_ok-read.ensures.bytes disk (sym c.read.ensures.keeps.disk ∙ known)) in
+    let prefix = prefix_of_disk c.in_ok-size.size disk c.read.new.self (c.in_ok-size.ensures.measures.len.1 disk before) (omega arith) c.in_ok-read.ensures.len (c.in_ok-read.ensures.bytes disk (sym c.read.ensures.keeps.disk ∙ known)) in
     has_no_header disk c.read.new.self _ prefix (rw c.bytes.ensures at c.in_default.ensures)
 
 pub returns-in_default-clause-keeps : goal.returns-in_default-clause-keeps
@@ -18,14 +18,14 @@ returns-in_default-clause-keeps g c = reads_on c.disk_len.ensures.measures.keeps
 pub returns-clause-header : goal.returns-clause-header
 returns-clause-header g c disk known =
     let before = sym c.disk_len.ensures.measures.keeps.disk ∙ sym c.read.ensures.keeps.disk ∙ known in
-    let prefix = front_of_disk c.in_ok-size.size disk c.read.new.self (c.in_ok-size.ensures.measures.len.1 disk before) (omega arith) c.in_ok-read.ensures.len (c.in_ok-read.ensures.bytes disk (sym c.read.ensures.keeps.disk ∙ known)) in
+    let prefix = prefix_of_disk c.in_ok-size.size disk c.read.new.self (c.in_ok-size.ensures.measures.len.1 disk before) (omega arith) c.in_ok-read.ensures.len (c.in_ok-read.ensures.bytes disk (sym c.read.ensures.keeps.disk ∙ known)) in
     let found = rw c.bytes.ensures at c.in-Some.ensures in
     has_header disk c.read.new.self _ prefix c.in-Some.capacity found.0 found.2
 
 pub returns-clause-read : goal.returns-clause-read
 returns-clause-read g c disk known =
     let before = sym c.disk_len.ensures.measures.keeps.disk ∙ sym c.read.ensures.keeps.disk ∙ known in
-    let prefix = front_of_disk c.in_ok-size.size disk c.read.new.self (c.in_ok-size.ensures.measures.len.1 disk before) (omega arith) c.in_ok-read.ensures.len (c.in_ok-read.ensures.bytes disk (sym c.read.ensures.keeps.disk ∙ known)) in
+    let prefix = prefix_of_disk c.in_ok-size.size disk c.read.new.self (c.in_ok-size.ensures.measures.len.1 disk before) (omega arith) c.in_ok-read.ensures.len (c.in_ok-read.ensures.bytes disk (sym c.read.ensures.keeps.disk ∙ known)) in
     let found = rw c.bytes.ensures at c.in-Some.ensures in
     begun _ disk c.read.new.self _ prefix c.in-Some.capacity found.0 found.2 (c.in_ok-size.ensures.measures.len.1 disk before) c.skip.ensures refl refl refl refl
 

@@ -5,7 +5,7 @@ use Rattle.engine_core.specs.Serving.{Keeps}
 use Rattle.live_core.specs.InternalKeeping.{Regains}
 use Rattle.journal_core.specs.Journal.{IsAtRest}
 use Rattle.journal_core.specs.Layout.{with_batch}
-use Rattle.journal_core.proofs.Places.{gate_reaches}
+use Rattle.journal_core.proofs.Offsets.{gate_reaches}
 use Rattle.journal_core.proofs.Extending.{extends_by, extends_failed, only_disk}
 use Rattle.live_core.proofs.Regaining.{kept_by, regained_on}
 use Rattle.live_core.proofs.keeper.JournalKeeperKeeper.keep.Goals as goal

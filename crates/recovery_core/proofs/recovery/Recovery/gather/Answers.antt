@@ -1,7 +1,7 @@
 use Rattle.std.proofs.Common.{◌≡◌, ℕ, List, true, Ok, length, sym, ap, subst, ◌∙◌, arith}
 use Rattle.std.proofs.lemmas.List.{length-append}
 use Rattle.host_core.proofs.Chains.{reads_faultless}
-use Rattle.journal_core.proofs.Places.{scan_reaches}
+use Rattle.journal_core.proofs.Offsets.{scan_reaches}
 use Rattle.engine_core.specs.EngineState.{IsRoomy}
 use Rattle.recovery_core.specs.Recoveries.{HasDamage}
 use Rattle.recovery_core.specs.Waiting.{WaitingState}
