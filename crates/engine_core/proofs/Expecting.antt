@@ -43,19 +43,19 @@ pub held-one : (start : Start) (a : List (List ℕ)) (body : List ℕ) → held_
 held-one start a body = held-more start a (body ∷ [])
 
 -- these are the first of all bytes
-pub record Begins (front all : List ℕ) : Type 0 where
+pub record Begins (prefix all : List ℕ) : Type 0 where
   pub more : List ℕ
-  pub whole : front ++ more ≡ all
+  pub whole : prefix ++ more ≡ all
 
 pub accepted_grows : (capacity : ℕ) (held : List Record) (bodies : List (List ℕ)) → (more : List Record) × (accepted_of capacity held bodies ≡ more ++ held)
 accepted_grows capacity held bodies = (reverse (records_in (outcomes_of capacity held bodies)), sym (batch_of capacity held bodies))
 
 -- what more bytes give stands before what the first ones gave
-pub held_further : (start : Start) {front all : List ℕ} → Begins front all → (more : List Record) × (more ++ held_after start (bodies_of front) ≡ held_after start (bodies_of all))
-held_further start {front} begins =
-    let rest = bodies_of (rest_of front ++ begins.more) in
-    let grows = accepted_grows start.capacity (held_after start (bodies_of front)) rest in
-    (grows.0, sym grows.1 ∙ sym (held-more start (bodies_of front) rest) ∙ ap (held_after start) (sym (bodies_of-append front begins.more) ∙ ap bodies_of begins.whole))
+pub held_further : (start : Start) {prefix all : List ℕ} → Begins prefix all → (more : List Record) × (more ++ held_after start (bodies_of prefix) ≡ held_after start (bodies_of all))
+held_further start {prefix} begins =
+    let rest = bodies_of (rest_of prefix ++ begins.more) in
+    let grows = accepted_grows start.capacity (held_after start (bodies_of prefix)) rest in
+    (grows.0, sym grows.1 ∙ sym (held-more start (bodies_of prefix) rest) ∙ ap (held_after start) (sym (bodies_of-append prefix begins.more) ∙ ap bodies_of begins.whole))
 
 -- no batch is being kept
 pub at_rest : {recovers : List Record → List (List Record) → List ℕ → Type 0} {start : Start} {bodies : List (List ℕ)} {records : List Record} {image : List ℕ}
@@ -63,8 +63,8 @@ pub at_rest : {recovers : List Record → List (List Record) → List ℕ → Ty
 at_rest more next recovered = record { pending = []; few = omega arith; more = more; next = next; recovered = recovered }
 
 -- and what is kept of some frames is so of more
-pub keeping_further : {recovers wider : List Record → List (List Record) → List ℕ → Type 0} {start : Start} {front all : List ℕ} {records : List Record} {image : List ℕ} → Begins front all
-    → (keeping : IsKeeping recovers start (bodies_of front) records image) → wider records keeping.pending image → IsKeeping wider start (bodies_of all) records image
+pub keeping_further : {recovers wider : List Record → List (List Record) → List ℕ → Type 0} {start : Start} {prefix all : List ℕ} {records : List Record} {image : List ℕ} → Begins prefix all
+    → (keeping : IsKeeping recovers start (bodies_of prefix) records image) → wider records keeping.pending image → IsKeeping wider start (bodies_of all) records image
 keeping_further {start = start} {records = records} begins keeping recovered =
     let grows = held_further start begins in
     let next = append_assoc grows.0 keeping.more (records_of keeping.pending ++ records) ∙ ap (λ (r : List Record). grows.0 ++ r) keeping.next ∙ grows.1 in
@@ -90,18 +90,18 @@ module _ (recovers : List Record → List ℕ → Type 0) (start : Start) where
   safe_wider : (wider : List Record → List ℕ → Type 0) → ((records : List Record) (image : List ℕ) → recovers records image → wider records image)
       → (a b : List (List ℕ)) (image bytes : List ℕ) → IsSafe recovers start a image bytes → IsSafe wider start (a ++ b) image bytes
   safe_wider wider more a b image bytes safe =
-      let whole : take safe.count a ++ (drop safe.count a ++ b) ≡ a ++ b = sym (append_assoc _ _ b) ∙ ap (λ (front : List (List ℕ)). front ++ b) (take-append-drop safe.count a) in
+      let whole : take safe.count a ++ (drop safe.count a ++ b) ≡ a ++ b = sym (append_assoc _ _ b) ∙ ap (λ (prefix : List (List ℕ)). prefix ++ b) (take-append-drop safe.count a) in
       rw whole at (safe_of wider start (take safe.count a) (drop safe.count a ++ b) image bytes safe.since safe.unsent (more _ image safe.recovered) safe.sent safe.prefix)
 
   pub safe_more : (a b : List (List ℕ)) (image bytes : List ℕ) → IsSafe recovers start a image bytes → IsSafe recovers start (a ++ b) image bytes
   safe_more = safe_wider recovers (λ records image recovered. recovered)
 
   -- and so for more bytes
-  pub safe_further : {front all : List ℕ} → Begins front all → (wider : List Record → List ℕ → Type 0) → ((records : List Record) (image : List ℕ) → recovers records image → wider records image)
-      → (image bytes : List ℕ) → IsSafe recovers start (bodies_of front) image bytes → IsSafe wider start (bodies_of all) image bytes
-  safe_further {front = front} begins wider more image bytes safe =
-      subst (λ (bodies : List (List ℕ)). IsSafe wider start bodies image bytes) (sym (bodies_of-append front begins.more) ∙ ap bodies_of begins.whole)
-      (safe_wider wider more (bodies_of front) (bodies_of (rest_of front ++ begins.more)) image bytes safe)
+  pub safe_further : {prefix all : List ℕ} → Begins prefix all → (wider : List Record → List ℕ → Type 0) → ((records : List Record) (image : List ℕ) → recovers records image → wider records image)
+      → (image bytes : List ℕ) → IsSafe recovers start (bodies_of prefix) image bytes → IsSafe wider start (bodies_of all) image bytes
+  safe_further {prefix = prefix} begins wider more image bytes safe =
+      subst (λ (bodies : List (List ℕ)). IsSafe wider start bodies image bytes) (sym (bodies_of-append prefix begins.more) ∙ ap bodies_of begins.whole)
+      (safe_wider wider more (bodies_of prefix) (bodies_of (rest_of prefix ++ begins.more)) image bytes safe)
 
   -- while a prefix of what is expected for all frames is sent, what they gave is recovered
   pub safe_sends : (bodies : List (List ℕ)) (now : Outside) (image bytes : List ℕ) → recovers (held_after start bodies) image → SendsPrefix start.sent (expected start bodies) now image bytes

@@ -31,26 +31,26 @@ idles {start = start} {now = now} serves recovers begins sent_now left = record 
 }
 
 -- a run, and then one over the first bytes
-pub leaves_on : {recovers later : List Record → List (List Record) → List ℕ → Type 0} {start : Start} {front all : List ℕ} → Begins front all
+pub leaves_on : {recovers later : List Record → List (List Record) → List ℕ → Type 0} {start : Start} {prefix all : List ℕ} → Begins prefix all
     → ((records : List Record) (pending : List (List Record)) (image : List ℕ) → later records pending image → recovers records pending image)
-    → {old mid new : Outside} → Elapses old mid (Leaves recovers start (bodies_of all)) → Elapses mid new (Leaves later start (bodies_of front)) → Elapses old new (Leaves recovers start (bodies_of all))
+    → {old mid new : Outside} → Elapses old mid (Leaves recovers start (bodies_of all)) → Elapses mid new (Leaves later start (bodies_of prefix)) → Elapses old new (Leaves recovers start (bodies_of all))
 leaves_on {start = start} begins before first second =
     goes_on first second (safe_further _ start begins _ (λ records image keeping. keeping_further begins keeping (before records keeping.pending image keeping.recovered)))
 
-pub runs_on : {T U : Type 0} {x : U} {result : Result T Fault} {holds keeps : List Record → Outside → Type 0} {recovers later last : List Record → List (List Record) → List ℕ → Type 0} {start : Start} {read front all : List ℕ} {session next : Session} {old mid new : Outside}
-    → Begins front all → Runs holds recovers later start read all (Ok x) session old mid → Runs keeps later last start front front result next mid new → Runs keeps recovers last start front all result next old new
-runs_on {result = result} {start = start} {front = front} begins first second = record {
+pub runs_on : {T U : Type 0} {x : U} {result : Result T Fault} {holds keeps : List Record → Outside → Type 0} {recovers later last : List Record → List (List Record) → List ℕ → Type 0} {start : Start} {read prefix all : List ℕ} {session next : Session} {old mid new : Outside}
+    → Begins prefix all → Runs holds recovers later start read all (Ok x) session old mid → Runs keeps later last start prefix prefix result next mid new → Runs keeps recovers last start prefix all result next old new
+runs_on {result = result} {start = start} {prefix = prefix} begins first second = record {
   serves = second.serves;
   before = on_ok result second.before (λ before records pending image recovered. first.before records pending image (before records pending image recovered));
   moments = leaves_on begins first.before first.moments second.moments;
   nothing = λ none. still_nothing (first.nothing none) (second.nothing (none_before start begins none));
   starved = λ is.
       let short = second.starved is in
-      let more = bodies_of (rest_of front ++ begins.more) in
+      let more = bodies_of (rest_of prefix ++ begins.more) in
       record {
         answered = short.answered;
         waiting = short.waiting ++ more;
-        frames = ap bodies_of (sym begins.whole) ∙ bodies_of-append front begins.more ∙ ap (λ (b : List (List ℕ)). b ++ more) short.frames ∙ append_assoc short.answered short.waiting more;
+        frames = ap bodies_of (sym begins.whole) ∙ bodies_of-append prefix begins.more ∙ ap (λ (b : List (List ℕ)). b ++ more) short.frames ∙ append_assoc short.answered short.waiting more;
         short = λ one.
             let next = short.short one in
             record { body = next.body; later = next.later ++ more; first = ap (λ (b : List (List ℕ)). b ++ more) next.first; x = next.x; accepted = next.accepted; takes = next.takes };

@@ -29,9 +29,9 @@ still_nothing first second = record {
 }
 
 -- where no record of all bytes is accepted, none of the first ones is
-pub none_before : (start : Start) {front all : List ℕ} → Begins front all → AcceptsNone start (bodies_of all) → AcceptsNone start (bodies_of front)
-none_before start {front} {all} begins none =
-    let before = accepted_grows start.capacity start.held (bodies_of front) in
+pub none_before : (start : Start) {prefix all : List ℕ} → Begins prefix all → AcceptsNone start (bodies_of all) → AcceptsNone start (bodies_of prefix)
+none_before start {prefix} {all} begins none =
+    let before = accepted_grows start.capacity start.held (bodies_of prefix) in
     let after = held_further start begins in
     let same = after.1 ∙ none in
     let empty : before.0 ≡ [] = nil_from_length before.0 (omega (arith, simp length-append at (ap length same), simp length-append at (ap length before.1))) in

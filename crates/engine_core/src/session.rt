@@ -55,11 +55,10 @@ fn admit(engine: &mut Engine, outcome: &Outcome)
     }
 }
 
-/// The body of a frame that stands whole at the front of a piece, where none was begun before. It is judged where it
-/// lies.
+/// The body of the whole frame that a piece begins with, where none was begun before. It is judged where it lies.
 fn whole_frame<'a>(cutter: &Cutter, piece: &'a [u8]) -> Option<&'a [u8]>
     ensures between { IsSome result → pending cutter.now ≡ [] }
-    ensures front { IfSome result (λ body. framed body.now ≡ take (length body.now + 1) piece.now) }
+    ensures prefix { IfSome result (λ body. framed body.now ≡ take (length body.now + 1) piece.now) }
     ensures within { IfSome result (λ body. length body.now < length piece.now) }
     ensures short { IfSome result (λ body. length body.now ≤ 255) }
 {
@@ -295,7 +294,7 @@ impl Session {
         requires some { 1 ≤ self.old.round.most }
         requires empty { self.old.round.outcomes ≡ [] }
         requires left { from < length piece.now }
-        ensures place { (from < result) × (result ≤ length piece.now) }
+        ensures offset { (from < result) × (result ≤ length piece.now) }
         ensures judges { (start : Start) (answered : List (List ℕ)) (read : List ℕ) (sent : Option (List ℕ)) → Judges start answered (read ++ take from piece.now) sent self.old
             → Judges start answered (read ++ take result piece.now) sent self.new }
         ensures few { from + length self.new.round.outcomes ≤ result }

@@ -23,7 +23,7 @@ loop-message-init g c = record {
 pub loop-message-preserved : goal.loop-message-preserved
 loop-message-preserved g c =
     let number = c.loop-message.number in
-    let front = drop_one c.args.messages.now c.loop-message.message-index c.message-item.result c.loop-message-test.true c.message-item.is in
+    let split = drop_one c.args.messages.now c.loop-message.message-index c.message-item.result c.loop-message-test.true c.message-item.is in
     let frame = spelling (Numbered (number + 1) c.message-item.result) in
     record {
       number = omega (arith, c.loop-message.invariant.number);
@@ -31,7 +31,7 @@ loop-message-preserved g c =
           let now = c.loop-message.invariant.pending begin text expects in (
             now.0 ++ frame,
             c.in_ok-append.ensures.pending begin now.0 now.1,
-            append_assoc now.0 frame _ ∙ ap (λ (ms : List Stamped). now.0 ++ spelled (numbered number ms)) (sym front) ∙ now.2,
+            append_assoc now.0 frame _ ∙ ap (λ (ms : List Stamped). now.0 ++ spelled (numbered number ms)) (sym split) ∙ now.2,
           );
       moments = λ begin text expects.
           let now = c.loop-message.invariant.pending begin text expects in

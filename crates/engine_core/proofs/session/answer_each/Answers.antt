@@ -23,17 +23,17 @@ loop-outcome-init g c = record {
 
 pub loop-outcome-preserved : goal.loop-outcome-preserved
 loop-outcome-preserved g c =
-    let front = drop_one c.args.outcomes.now c.loop-outcome.outcome-index c.outcome-item.result c.loop-outcome-test.true c.outcome-item.is in
+    let split = drop_one c.args.outcomes.now c.loop-outcome.outcome-index c.outcome-item.result c.loop-outcome-test.true c.outcome-item.is in
     record {
       number = omega (arith, c.loop-outcome.invariant.number);
       replies = λ start before all same answers.
           let was = c.loop-outcome.invariant.replies start before all same answers in
-          let now = rw front at was.answers.1 in
+          let now = rw split at was.answers.1 in
           replies_on now _ _ _ was.moments (c.in_ok-answer.ensures.represents start.capacity _ _ _ now.evaluates.engine_is now.evaluates.ahead (admissible now)) (c.in_ok-answer.ensures.ahead _ now.evaluates.ahead) c.answer.ensures.workers
           (rw same at (c.in_ok-answer.ensures.appends start.capacity _ _ _ start.sent _ now.evaluates.engine_is now.evaluates.ahead (admissible now) now.pending_is)) (λ is. absurd cc);
       admission = c.answer.ensures.admission ∙ c.loop-outcome.invariant.admission;
       sound =
-          let was = rw front at c.loop-outcome.invariant.sound in
+          let was = rw split at c.loop-outcome.invariant.sound in
           let both = simp length-append at (ap length (records-append (c.outcome-item.result ∷ []) (drop (c.loop-outcome.outcome-index + 1) c.args.outcomes.now))) in
           record {
             within = rw c.answer.ensures.admission was.within;
@@ -48,9 +48,9 @@ loop-outcome-preserved g c =
 
 pub returns-in_err-answer-clause-replies : goal.returns-in_err-answer-clause-replies
 returns-in_err-answer-clause-replies g c start before all same answers =
-    let front = drop_one c.args.outcomes.now c.loop-outcome.outcome-index c.outcome-item.result c.loop-outcome-test.true c.outcome-item.is in
+    let split = drop_one c.args.outcomes.now c.loop-outcome.outcome-index c.outcome-item.result c.loop-outcome-test.true c.outcome-item.is in
     let was = c.loop-outcome.invariant.replies start before all same answers in
-    let now = rw front at was.answers.1 in
+    let now = rw split at was.answers.1 in
     let replies = replies_on now c.answer.result _ c.answer.new.engine was.moments (c.answer.ensures.represents start.capacity _ _ _ now.evaluates.engine_is now.evaluates.ahead (admissible now)) (c.answer.ensures.ahead _ now.evaluates.ahead) c.answer.ensures.workers
     (rw same at (c.answer.ensures.appends start.capacity _ _ _ start.sent _ now.evaluates.engine_is now.evaluates.ahead (admissible now) now.pending_is))
     (c.answer.ensures.starved start.sent _ c.loop-outcome.invariant.sound.roomy now.pending_is) in

@@ -26,10 +26,10 @@ loop-at-init g c = record {
 
 pub loop-at-preserved : goal.loop-at-preserved
 loop-at-preserved g c = record {
-  within = c.fill-at.ensures.place.1;
+  within = c.fill-at.ensures.offset.1;
   empty = c.in_ok-settle.ensures.empty;
   few = omega (arith, c.loop-at.invariant.few, c.in_ok-settle.ensures.answered, c.fill-at.ensures.few, c.fill-at.ensures.answered);
-  still = λ none. absurd (omega (arith, none, c.fill-at.ensures.place.0));
+  still = λ none. absurd (omega (arith, none, c.fill-at.ensures.offset.0));
   ready = c.in_ok-settle.ensures.ready;
   runs = λ start read same serves.
       let was = c.loop-at.invariant.runs start read same serves in

@@ -6,7 +6,7 @@ use Rattle.engine_core.proofs.session.Session.advance.Goals as goal
 pub returns-in-Some-clause-judges : goal.returns-in-Some-clause-judges
 returns-in-Some-clause-judges c start answered read sent judges =
     let between = c.in-Some.ensures.between refl in
-    let on = whole_on read (take (length c.in-Some.body.now + 1) c.args.piece.now) c.in-Some.body.now (sym judges.cutter ∙ between) c.in-Some.ensures.front in
+    let on = whole_on read (take (length c.in-Some.body.now + 1) c.args.piece.now) c.in-Some.body.now (sym judges.cutter ∙ between) c.in-Some.ensures.prefix in
     record {
       cutter = between ∙ sym on.1;
       answers = c.judge_next.ensures.answers start answered (bodies_of read) _ _ _ sent on.0 judges.answers;
