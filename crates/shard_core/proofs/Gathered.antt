@@ -48,10 +48,10 @@ taken start last notes old new items tells = record { old = old; new = new; told
 behind_first : (start below : ℕ) (notes : List Note) (old new : SectionState) (items : List Tagged) (olds news : List SectionState) (told : List (List Tagged))
     → PartsTell start (suc below) notes (old ∷ olds) (new ∷ news) (items ∷ told) → PartsTell (start + length old.symbols) below notes olds news told
 behind_first start below notes old new items olds news told tell = λ k was is said lt found left says.
-    let place : start + (length old.symbols + first_id olds k) ≡ (start + length old.symbols) + first_id olds k = omega arith in
+    let index : start + (length old.symbols + first_id olds k) ≡ (start + length old.symbols) + first_id olds k = omega arith in
     ∥∥₁_map (tell (suc k) was is said (omega arith) found left says) (λ own. record {
-      inner = λ inside. subst (λ (n : ℕ). Tells n false notes was.symbols is.symbols said) place (own.inner (omega arith));
-      last = λ at. subst (λ (n : ℕ). Tells n true notes was.symbols is.symbols said) place (own.last (omega (arith, at)));
+      inner = λ inside. subst (λ (n : ℕ). Tells n false notes was.symbols is.symbols said) index (own.inner (omega arith));
+      last = λ at. subst (λ (n : ℕ). Tells n true notes was.symbols is.symbols said) index (own.last (omega (arith, at)));
     })
 
 pub gathers : (start : ℕ) (notes : List Note) (olds news : List SectionState) (told : List (List Tagged)) → 0 < length olds → length news ≡ length olds → length told ≡ length olds
@@ -120,13 +120,13 @@ said-whole i start notes first (next ∷ later) (takes, rest) =
 
 -- and each message is of one of them
 
-all_tagged : (n place : ℕ) (said : List Stamped) → place < n → All (λ m. m.input < n) (tagged place said)
-all_tagged n place [] lt = All-nil (λ (m : Tagged). m.input < n)
-all_tagged n place (m ∷ said) lt = All-cons (λ (m : Tagged). m.input < n) (record { input = place; stamped = m }) (tagged place said) lt (all_tagged n place said lt)
+all_tagged : (n index : ℕ) (said : List Stamped) → index < n → All (λ m. m.input < n) (tagged index said)
+all_tagged n index [] lt = All-nil (λ (m : Tagged). m.input < n)
+all_tagged n index (m ∷ said) lt = All-cons (λ (m : Tagged). m.input < n) (record { input = index; stamped = m }) (tagged index said) lt (all_tagged n index said lt)
 
-all_from : (n place : ℕ) (told : List (List Stamped)) → place + length told ≤ n → All (λ m. m.input < n) (tagged_from place told)
-all_from n place [] le = All-nil (λ (m : Tagged). m.input < n)
-all_from n place (said ∷ told) le = All-append (λ (m : Tagged). m.input < n) (tagged place said) (tagged_from (suc place) told) (all_tagged n place said (omega arith)) (all_from n (suc place) told (omega arith))
+all_from : (n index : ℕ) (told : List (List Stamped)) → index + length told ≤ n → All (λ m. m.input < n) (tagged_from index told)
+all_from n index [] le = All-nil (λ (m : Tagged). m.input < n)
+all_from n index (said ∷ told) le = All-append (λ (m : Tagged). m.input < n) (tagged index said) (tagged_from (suc index) told) (all_tagged n index said (omega arith)) (all_from n (suc index) told (omega arith))
 
 all_lists : (n : ℕ) (lists : List (List (List Stamped))) → AreLong n lists → AreOfFirst n (map (tagged_from 0) lists)
 all_lists n [] long = All-nil (All (λ (m : Tagged). m.input < n))

@@ -15,31 +15,31 @@ use Rattle.shard_core.specs.Parts.{Note, PartsTake, Stays, Taken, TakesAll, Take
 
 -- what is appended to no messages is appended to any
 
-shift-at : (s : ℕ) (view : MarketView) (x : Record) (old new : List Held) (front before after : List Stamped) → AppendsAt s view x old new before after → AppendsAt s view x old new (front ++ before) (front ++ after)
-shift-at s view x old new front before after at = record {
+shift-at : (s : ℕ) (view : MarketView) (x : Record) (old new : List Held) (prefix before after : List Stamped) → AppendsAt s view x old new before after → AppendsAt s view x old new (prefix ++ before) (prefix ++ after)
+shift-at s view x old new prefix before after at = record {
   was = at.was;
   is = at.is;
   found = at.found;
   left = at.left;
-  appends = record { said = at.appends.said; evaluates = at.appends.evaluates; items = ap (λ (ms : List Stamped). front ++ ms) at.appends.items ∙ sym (append_assoc front before _) };
+  appends = record { said = at.appends.said; evaluates = at.appends.evaluates; items = ap (λ (ms : List Stamped). prefix ++ ms) at.appends.items ∙ sym (append_assoc prefix before _) };
 }
 
-shift : (n : ℕ) (view : MarketView) (x : Record) (old new : List Held) (front before after : List Stamped) → AppendsBelow n view x old new before after → AppendsBelow n view x old new (front ++ before) (front ++ after)
-shift zero view x old new front before after unsaid = ap (λ (ms : List Stamped). front ++ ms) unsaid
-shift (suc n) view x old new front before after (middle, earlier, at) = (front ++ middle, shift n view x old new front before middle earlier, shift-at n view x old new front middle after at)
+shift : (n : ℕ) (view : MarketView) (x : Record) (old new : List Held) (prefix before after : List Stamped) → AppendsBelow n view x old new before after → AppendsBelow n view x old new (prefix ++ before) (prefix ++ after)
+shift zero view x old new prefix before after unsaid = ap (λ (ms : List Stamped). prefix ++ ms) unsaid
+shift (suc n) view x old new prefix before after (middle, earlier, at) = (prefix ++ middle, shift n view x old new prefix before middle earlier, shift-at n view x old new prefix middle after at)
 
-pub behind_said : (n : ℕ) (view : MarketView) (x : Record) (old new : List Held) (front said : List Stamped) → AppendsBelow n view x old new [] said → AppendsBelow n view x old new front (front ++ said)
-behind_said n view x old new front said told = subst (λ (ms : List Stamped). AppendsBelow n view x old new ms (front ++ said)) (append-nil front) (shift n view x old new front [] said told)
+pub behind_said : (n : ℕ) (view : MarketView) (x : Record) (old new : List Held) (prefix said : List Stamped) → AppendsBelow n view x old new [] said → AppendsBelow n view x old new prefix (prefix ++ said)
+behind_said n view x old new prefix said told = subst (λ (ms : List Stamped). AppendsBelow n view x old new ms (prefix ++ said)) (append-nil prefix) (shift n view x old new prefix [] said told)
 
 -- one stock of the first range, and one of the second
 
-one_in_first : (place : ℕ) (view : MarketView) (x : Record) (old new later : List Held) (said : List Stamped) → AppendsOne place view x old new [] said → AppendsOne place view x (old ++ later) (new ++ later) [] said
-one_in_first place view x old new later said one = subst (λ (k : ℕ). AppendsOne k view x (old ++ later) (new ++ later) [] said) (omega arith) (one_of_all place view x [] old new later [] said one)
+one_in_first : (index : ℕ) (view : MarketView) (x : Record) (old new later : List Held) (said : List Stamped) → AppendsOne index view x old new [] said → AppendsOne index view x (old ++ later) (new ++ later) [] said
+one_in_first index view x old new later said one = subst (λ (k : ℕ). AppendsOne k view x (old ++ later) (new ++ later) [] said) (omega arith) (one_of_all index view x [] old new later [] said one)
 
-one_in_second : (place : ℕ) (view : MarketView) (x : Record) (earlier old new : List Held) (said : List Stamped) → AppendsOne place view x old new [] said → AppendsOne (length earlier + place) view x (earlier ++ old) (earlier ++ new) [] said
-one_in_second place view x earlier old new said one =
-    subst (λ (xs : List Held). AppendsOne (length earlier + place) view x (earlier ++ xs) (earlier ++ new) [] said) (append-nil old)
-    (subst (λ (xs : List Held). AppendsOne (length earlier + place) view x (earlier ++ (old ++ [])) (earlier ++ xs) [] said) (append-nil new) (one_of_all place view x earlier old new [] [] said one))
+one_in_second : (index : ℕ) (view : MarketView) (x : Record) (earlier old new : List Held) (said : List Stamped) → AppendsOne index view x old new [] said → AppendsOne (length earlier + index) view x (earlier ++ old) (earlier ++ new) [] said
+one_in_second index view x earlier old new said one =
+    subst (λ (xs : List Held). AppendsOne (length earlier + index) view x (earlier ++ xs) (earlier ++ new) [] said) (append-nil old)
+    (subst (λ (xs : List Held). AppendsOne (length earlier + index) view x (earlier ++ (old ++ [])) (earlier ++ xs) [] said) (append-nil new) (one_of_all index view x earlier old new [] [] said one))
 
 -- where neither says anything
 
@@ -58,22 +58,22 @@ one_of_two : (id start : ℕ) (last : Bool) (view : MarketView) (x : Record) (a 
 one_of_two id start last view x a a' b b' said told (before, after, first) (before', after', second) = (
   (λ early. both_stay a a' b b' said told (before early) (before' (omega arith))),
   (λ late. both_stay a a' b b' said told (after (omega (arith, length-append a b))) (after' (omega (arith, length-append a b)))),
-  λ place is within. by place is within (nat_le (length a) place) refl,
+  λ index is within. by index is within (nat_le (length a) index) refl,
 ) where
-  by : (place : ℕ) → id ≡ start + place → place < length (a ++ b) → (later : Bool) → nat_le (length a) place ≡ later → AppendsOne place view x (a ++ b) (a' ++ b') [] (said ++ told)
-  by place is within false e =
-      let inside : place < length a = less (length a) place e in
+  by : (index : ℕ) → id ≡ start + index → index < length (a ++ b) → (later : Bool) → nat_le (length a) index ≡ later → AppendsOne index view x (a ++ b) (a' ++ b') [] (said ++ told)
+  by index is within false e =
+      let inside : index < length a = less (length a) index e in
       let rest = before' (omega arith) in
-      subst (λ (xs : List Held). AppendsOne place view x (a ++ b) (a' ++ xs) [] (said ++ told)) (sym rest.0)
-      (subst (λ (ms : List Stamped). AppendsOne place view x (a ++ b) (a' ++ b) [] ms) (sym (append-nil said) ∙ ap (λ (ms : List Stamped). said ++ ms) (sym rest.1)) (one_in_first place view x a a' b said (first place is inside)))
-  by place is within true e =
-      let behind : length a ≤ place = at_least (length a) place e in
-      let front = after (omega arith) in
-      let own : place - length a < length b = omega (arith, within, length-append a b) in
-      let there : length a + (place - length a) ≡ place = omega arith in
-      subst (λ (xs : List Held). AppendsOne place view x (a ++ b) (xs ++ b') [] (said ++ told)) (sym front.0)
-      (subst (λ (ms : List Stamped). AppendsOne place view x (a ++ b) (a ++ b') [] (ms ++ told)) (sym front.1)
-      (subst (λ (k : ℕ). AppendsOne k view x (a ++ b) (a ++ b') [] told) there (one_in_second (place - length a) view x a b b' told (second (place - length a) (omega arith) own))))
+      subst (λ (xs : List Held). AppendsOne index view x (a ++ b) (a' ++ xs) [] (said ++ told)) (sym rest.0)
+      (subst (λ (ms : List Stamped). AppendsOne index view x (a ++ b) (a' ++ b) [] ms) (sym (append-nil said) ∙ ap (λ (ms : List Stamped). said ++ ms) (sym rest.1)) (one_in_first index view x a a' b said (first index is inside)))
+  by index is within true e =
+      let behind : length a ≤ index = at_least (length a) index e in
+      let prefix = after (omega arith) in
+      let own : index - length a < length b = omega (arith, within, length-append a b) in
+      let there : length a + (index - length a) ≡ index = omega arith in
+      subst (λ (xs : List Held). AppendsOne index view x (a ++ b) (xs ++ b') [] (said ++ told)) (sym prefix.0)
+      (subst (λ (ms : List Stamped). AppendsOne index view x (a ++ b) (a ++ b') [] (ms ++ told)) (sym prefix.1)
+      (subst (λ (k : ℕ). AppendsOne k view x (a ++ b) (a ++ b') [] told) there (one_in_second (index - length a) view x a b b' told (second (index - length a) (omega arith) own))))
 
 -- or for a new one
 new_of_two : (id start : ℕ) (last : Bool) (view : MarketView) (x : Record) (a a' b b' : List Held) (said told : List Stamped)
@@ -81,14 +81,14 @@ new_of_two : (id start : ℕ) (last : Bool) (view : MarketView) (x : Record) (a 
 new_of_two id start last view x a a' b b' said told (stays, adds) (stays', adds') = (
   (λ e. both_stay a a' b b' said told (stays refl) (stays' e)),
   λ e.
-      let front = stays refl in
+      let prefix = stays refl in
       let added = adds' e in
       let one = one_in_second (length b) view x a (b ++ added.stock ∷ []) b' told added.one in
       record {
         stock = added.stock;
         is_new = added.is_new;
-        one = subst (λ (xs : List Held). AppendsOne (length (a ++ b)) view x ((a ++ b) ++ added.stock ∷ []) (xs ++ b') [] (said ++ told)) (sym front.0)
-            (subst (λ (ms : List Stamped). AppendsOne (length (a ++ b)) view x ((a ++ b) ++ added.stock ∷ []) (a ++ b') [] (ms ++ told)) (sym front.1)
+        one = subst (λ (xs : List Held). AppendsOne (length (a ++ b)) view x ((a ++ b) ++ added.stock ∷ []) (xs ++ b') [] (said ++ told)) (sym prefix.0)
+            (subst (λ (ms : List Stamped). AppendsOne (length (a ++ b)) view x ((a ++ b) ++ added.stock ∷ []) (a ++ b') [] (ms ++ told)) (sym prefix.1)
             (subst (λ (k : ℕ). AppendsOne k view x ((a ++ b) ++ added.stock ∷ []) (a ++ b') [] told) (sym (length-append a b))
             (subst (λ (xs : List Held). AppendsOne (length a + length b) view x xs (a ++ b') [] told) (sym (append_assoc a b (added.stock ∷ []))) one)));
       },

@@ -10,20 +10,20 @@ use Rattle.shard_core.specs.declared.tagged.Tagged.{Tagged}
 use Rattle.shard_core.specs.Block.{AreAdmissible, Represents, ShardsState, followed, given, given_from, tagged}
 use Rattle.shard_core.specs.Merged.{GoesOn, further}
 
--- messages whose places lie further on
+-- messages whose indexes lie further on
 
-further-tagged : (first place : ℕ) (said : List Stamped) → first + place ≤ 4294967295 → further first (tagged place said) ≡ tagged (first + place) said
-further-tagged first place [] le = refl
-further-tagged first place (m ∷ said) le =
-    let here : min (first + place) 4294967295 ≡ first + place = min-eq_left le in
-    λ i. record { input = here i; stamped = m } ∷ further-tagged first place said le i
+further-tagged : (first index : ℕ) (said : List Stamped) → first + index ≤ 4294967295 → further first (tagged index said) ≡ tagged (first + index) said
+further-tagged first index [] le = refl
+further-tagged first index (m ∷ said) le =
+    let here : min (first + index) 4294967295 ≡ first + index = min-eq_left le in
+    λ i. record { input = here i; stamped = m } ∷ further-tagged first index said le i
 
-further-from : (first place : ℕ) (applied xs : List Record) → first + place + length xs ≤ 65536 → further first (given_from place applied xs) ≡ given_from (first + place) applied xs
-further-from first place applied [] le = refl
-further-from first place applied (x ∷ xs) le =
-    let there : first + suc place ≡ suc (first + place) = omega arith in
-    map-append _ (tagged place (newest_messages (x ∷ applied))) (given_from (suc place) (x ∷ applied) xs)
-    ∙ (λ i. further-tagged first place (newest_messages (x ∷ applied)) (omega arith) i ++ (further-from first (suc place) (x ∷ applied) xs (omega arith) ∙ ap (λ (n : ℕ). given_from n (x ∷ applied) xs) there) i)
+further-from : (first index : ℕ) (applied xs : List Record) → first + index + length xs ≤ 65536 → further first (given_from index applied xs) ≡ given_from (first + index) applied xs
+further-from first index applied [] le = refl
+further-from first index applied (x ∷ xs) le =
+    let there : first + suc index ≡ suc (first + index) = omega arith in
+    map-append _ (tagged index (newest_messages (x ∷ applied))) (given_from (suc index) (x ∷ applied) xs)
+    ∙ (λ i. further-tagged first index (newest_messages (x ∷ applied)) (omega arith) i ++ (further-from first (suc index) (x ∷ applied) xs (omega arith) ∙ ap (λ (n : ℕ). given_from n (x ∷ applied) xs) there) i)
 
 pub further-given : (first : ℕ) (applied xs : List Record) → first + length xs ≤ 65536 → further first (given applied xs) ≡ given_from first applied xs
 further-given first applied xs le =
@@ -50,16 +50,16 @@ followed-append : (applied xs ys : List Record) → followed applied (xs ++ ys) 
 followed-append applied [] ys = refl
 followed-append applied (x ∷ xs) ys = followed-append (x ∷ applied) xs ys
 
-given-append : (place : ℕ) (applied xs ys : List Record) → given_from place applied (xs ++ ys) ≡ given_from place applied xs ++ given_from (place + length xs) (followed applied xs) ys
-given-append place applied [] ys =
-    let here : place ≡ place + 0 = omega arith in
+given-append : (index : ℕ) (applied xs ys : List Record) → given_from index applied (xs ++ ys) ≡ given_from index applied xs ++ given_from (index + length xs) (followed applied xs) ys
+given-append index applied [] ys =
+    let here : index ≡ index + 0 = omega arith in
     ap (λ (n : ℕ). given_from n applied ys) here
-given-append place applied (x ∷ xs) ys =
-    let there : suc place + length xs ≡ place + length (x ∷ xs) = omega arith in
-    let said = tagged place (newest_messages (x ∷ applied)) in
-    let later = given_from (suc place) (x ∷ applied) xs in
-    ap (λ (ms : List Tagged). said ++ ms) (given-append (suc place) (x ∷ applied) xs ys ∙ ap (λ (n : ℕ). later ++ given_from n (followed (x ∷ applied) xs) ys) there)
-    ∙ sym (append_assoc said later (given_from (place + length (x ∷ xs)) (followed (x ∷ applied) xs) ys))
+given-append index applied (x ∷ xs) ys =
+    let there : suc index + length xs ≡ index + length (x ∷ xs) = omega arith in
+    let said = tagged index (newest_messages (x ∷ applied)) in
+    let later = given_from (suc index) (x ∷ applied) xs in
+    ap (λ (ms : List Tagged). said ++ ms) (given-append (suc index) (x ∷ applied) xs ys ∙ ap (λ (n : ℕ). later ++ given_from n (followed (x ∷ applied) xs) ys) there)
+    ∙ sym (append_assoc said later (given_from (index + length (x ∷ xs)) (followed (x ∷ applied) xs) ys))
 
 both_admissible : (capacity : ℕ) (applied xs ys : List Record) → AreAdmissible capacity applied (xs ++ ys) → AreAdmissible capacity applied xs × AreAdmissible capacity (followed applied xs) ys
 both_admissible capacity applied [] ys lawful = (tt, lawful)

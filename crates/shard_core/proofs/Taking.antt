@@ -18,13 +18,13 @@ one_takes (Err e) id start last target view x old new said is takes = tt
 one_takes (Ok u) id start last target view x old new said is takes = subst (λ (t : Target). TakesFor t start last view x old new said) (sym is) (takes last)
 
 -- a stock of the range has its records
-inside : (id start place count : ℕ) → id ≡ start + place → place < count → (nat_le start id && nat_lt (id - start) count) ≡ true
-inside id start place count is lt = grind (arith, nat_tests)
+inside : (id start index count : ℕ) → id ≡ start + index → index < count → (nat_le start id && nat_lt (id - start) count) ≡ true
+inside id start index count is lt = grind (arith, nat_tests)
 
 -- a record that is for none of the stocks leaves them as they were
 pub none_takes : (target : Target) (start count : ℕ) (last : Bool) (view : MarketView) (x : Record) (old : List Held) → is_for target start last count ≡ false → length old ≡ count
     → TakesFor target start last view x old old []
 none_takes Each start count last view x old other many = absurd (true≢false other)
 none_takes (One id) start count last view x old other many =
-    ((λ before. (refl, refl)), (λ behind. (refl, refl)), λ place is lt. absurd (true≢false (sym (inside id start place count is (omega (arith, many, lt))) ∙ other)))
+    ((λ before. (refl, refl)), (λ behind. (refl, refl)), λ index is lt. absurd (true≢false (sym (inside id start index count is (omega (arith, many, lt))) ∙ other)))
 none_takes (New id) start count last view x old other many = ((λ inner. (refl, refl)), λ end. absurd (true≢false (sym end ∙ other)))

@@ -40,14 +40,14 @@ length-take_all (suc i) (x ∷ xs) le = ap suc (length-take_all i xs (omega arit
 
 -- the messages at one more record
 
-tagged-append : (place : ℕ) (told : List (List Stamped)) (said : List Stamped) → tagged_from place (told ++ said ∷ []) ≡ tagged_from place told ++ tagged (place + length told) said
-tagged-append place [] said =
-    let here : place ≡ place + 0 = omega arith in
-    append-nil (tagged place said) ∙ ap (λ (k : ℕ). tagged k said) here
-tagged-append place (first ∷ told) said =
-    let there : suc place + length told ≡ place + length (first ∷ told) = omega arith in
-    ap (λ (items : List Tagged). tagged place first ++ items) (tagged-append (suc place) told said ∙ ap (λ (k : ℕ). tagged_from (suc place) told ++ tagged k said) there)
-    ∙ sym (append_assoc (tagged place first) (tagged_from (suc place) told) (tagged (place + length (first ∷ told)) said))
+tagged-append : (index : ℕ) (told : List (List Stamped)) (said : List Stamped) → tagged_from index (told ++ said ∷ []) ≡ tagged_from index told ++ tagged (index + length told) said
+tagged-append index [] said =
+    let here : index ≡ index + 0 = omega arith in
+    append-nil (tagged index said) ∙ ap (λ (k : ℕ). tagged k said) here
+tagged-append index (first ∷ told) said =
+    let there : suc index + length told ≡ index + length (first ∷ told) = omega arith in
+    ap (λ (items : List Tagged). tagged index first ++ items) (tagged-append (suc index) told said ∙ ap (λ (k : ℕ). tagged_from (suc index) told ++ tagged k said) there)
+    ∙ sym (append_assoc (tagged index first) (tagged_from (suc index) told) (tagged (index + length (first ∷ told)) said))
 
 -- one more record is led
 
@@ -81,12 +81,12 @@ one_led i xs turns with turn x lead middle new said before after lt count leads 
     = (λ j. noted (take (add-one i j) xs) with) ∙ (λ j. noted ((take-suc xs i x lt ∙ ap (λ (y : Record). take i xs ++ y ∷ []) (sym at)) j) (with_is j)) ∙ noted-append (take i xs) turns x turn (count ∙ sym (length-take_all i xs (omega arith))) in
     let many : length leads.told ≡ i = leads-length (noted (take i xs) turns) lead middle leads.told leads.leads ∙ length-noted (take i xs) turns (count ∙ sym (length-take_all i xs (omega arith))) ∙ length-take_all i xs (omega arith) in
     let ms = stamped (moment_of x) (rulings x middle.today) in
-    let place : i ≡ 0 + length leads.told = omega (arith, many) in
+    let index : i ≡ 0 + length leads.told = omega (arith, many) in
     subst (λ (ns : List Note). LeadsTo ns lead new after) (sym notes)
     (subst (λ (l : LeadState). LeadsTo (noted (take i xs) turns ++ note_of x turn ∷ []) lead l after) (sym led_is) (record {
       told = leads.told ++ ms ∷ [];
       leads = leads-append (noted (take i xs) turns) (note_of x turn) lead middle leads.told leads.leads own;
-      items = after_is ∙ (λ j. leads.items j ++ tagged (place j) (said_is j)) ∙ sym (tagged-append 0 leads.told ms);
+      items = after_is ∙ (λ j. leads.items j ++ tagged (index j) (said_is j)) ∙ sym (tagged-append 0 leads.told ms);
     }))
 
 -- one more record is taken
@@ -128,11 +128,11 @@ one_told start last i xs turns x turn old middle new said before after lt same a
     = (λ j. noted (take (add-one i j) xs) (take (add-one i j) turns)) ∙ (λ j. noted ((take-suc xs i x lt ∙ ap (λ (y : Record). take i xs ++ y ∷ []) (sym at)) j) ((take-suc turns i turn (omega (arith, same)) ∙ ap (λ (y : Turn). take i turns ++ y ∷ []) (sym at')) j))
     ∙ noted-append (take i xs) (take i turns) x turn counts in
     let many : length tells.told ≡ i = takes-length start last (noted (take i xs) (take i turns)) old middle tells.told tells.takes ∙ length-noted (take i xs) (take i turns) counts ∙ firsts in
-    let place : i ≡ 0 + length tells.told = omega (arith, many) in
+    let index : i ≡ 0 + length tells.told = omega (arith, many) in
     subst (λ (ns : List Note). Tells start last ns old new after) (sym notes) (record {
       told = tells.told ++ said ∷ [];
       takes = takes-append start last (noted (take i xs) (take i turns)) (note_of x turn) old middle new tells.told said tells.takes takes;
-      items_are = after_is ∙ (λ j. tells.items_are j ++ tagged (place j) said) ∙ sym (tagged-append 0 tells.told said);
+      items_are = after_is ∙ (λ j. tells.items_are j ++ tagged (index j) said) ∙ sym (tagged-append 0 tells.told said);
     })
 
 -- and all of them

@@ -92,7 +92,7 @@ back_less all old new job parts told is many part_at list_at memory first back =
 -- all jobs are back
 
 abbrev pub place_of : PartJob → ℕ
-place_of job = job.place
+place_of job = job.index
 
 abbrev pub origin_of : PartJob → SectionState × Ids × List Record × List Turn
 origin_of job = (job.before.value, job.ids, job.xs.now, job.turns.now)

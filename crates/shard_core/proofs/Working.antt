@@ -61,7 +61,7 @@ one_of o a b is also =
     let both : Some a ≡ Some b = sym is ∙ also in
     cc
 
--- what a part of a place tells
+-- what a part of an index tells
 pub part_tells : (k start : ℕ) (last : Bool) (notes : List Note) (olds : List SectionState) (was is : SectionState) (items : List Tagged) → start ≡ first_id olds k → last ≡ (k + 1 == length olds)
     → Tells start last notes was.symbols is.symbols items → PartTells 0 k notes olds was is items
 part_tells k start last notes olds was is items starts lasts tells = record {

@@ -33,14 +33,14 @@ abbrev pub AreAdmissible : ℕ → List Record → List Record → Type 0
 AreAdmissible capacity applied [] = Unit {0}
 AreAdmissible capacity applied (x ∷ xs) = (verdict capacity applied x ≡ None) × AreAdmissible capacity (x ∷ applied) xs
 
--- messages with the place of their record
+-- messages with the index of their record
 abbrev pub tagged : ℕ → List Stamped → List Tagged
-tagged place messages = map (λ message. record { input = place; stamped = message }) messages
+tagged index messages = map (λ message. record { input = index; stamped = message }) messages
 
--- what one market gives for each of these records after those applied, from a place on
+-- what one market gives for each of these records after those applied, from an index on
 abbrev pub given_from : ℕ → List Record → List Record → List Tagged
-given_from place applied [] = []
-given_from place applied (x ∷ xs) = tagged place (newest_messages (x ∷ applied)) ++ given_from (suc place) (x ∷ applied) xs
+given_from index applied [] = []
+given_from index applied (x ∷ xs) = tagged index (newest_messages (x ∷ applied)) ++ given_from (suc index) (x ∷ applied) xs
 
 abbrev pub given : List Record → List Record → List Tagged
 given applied xs = given_from 0 applied xs

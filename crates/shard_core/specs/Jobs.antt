@@ -14,8 +14,8 @@ abbrev pub ids_of : List SectionState → ℕ → Ids
 ids_of parts k = record { start = first_id parts k; is_last = k + 1 == length parts }
 
 -- a job takes the turns of a block over a part as it was
-pub record IsJobOf (place : ℕ) (ids : Ids) (was : SectionState) (xs : List Record) (turns : List Turn) (job : PartJob) : Type 0 where
-  pub at : job.place ≡ place
+pub record IsJobOf (index : ℕ) (ids : Ids) (was : SectionState) (xs : List Record) (turns : List Turn) (job : PartJob) : Type 0 where
+  pub at : job.index ≡ index
   pub before : job.before.value ≡ was
   pub own : job.ids ≡ ids
   pub records : job.xs.now ≡ xs
@@ -25,7 +25,7 @@ pub record IsJobOf (place : ℕ) (ids : Ids) (was : SectionState) (xs : List Rec
 abbrev pub AreJobsOf : List SectionState → List Record → List Turn → List PartJob → Type 0
 AreJobsOf parts xs turns jobs = (k : ℕ) (job : PartJob) → slice_get jobs k ≡ Some job → (was : SectionState) × (slice_get parts k ≡ Some was) × IsJobOf k (ids_of parts k) was xs turns job
 
--- a job found memory, and the part of its place has its stocks and its messages
+-- a job found memory, and the part of its index has its stocks and its messages
 pub record IsBack (k : ℕ) (parts : List SectionState) (told : List (Vec Tagged Global)) (job : PartJob) : Type 0 where
   pub memory : job.lacks_memory ≡ false
   pub part : slice_get parts k ≡ Some job.section

@@ -1,5 +1,5 @@
 pub mod Shares
-pub mod Front
+pub mod Prefix
 pub mod Merged
 pub mod Parts
 pub mod Block

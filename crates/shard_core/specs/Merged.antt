@@ -15,7 +15,7 @@ merged (suc input) lists = merged input lists ++ flat_map (of_input input) lists
 abbrev pub AreOfFirst : ℕ → List (List Tagged) → Type 0
 AreOfFirst inputs lists = All (All (λ message. message.input < inputs)) lists
 
--- messages whose places lie so many further on; places behind the last 32-bit number would be that number
+-- messages whose indexes lie so many further on; indexes behind the last 32-bit number would be that number
 abbrev pub further : ℕ → List Tagged → List Tagged
 further first messages = map (λ message. record { input = min (first + message.input) 4294967295; stamped = message.stamped }) messages
 

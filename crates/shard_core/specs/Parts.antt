@@ -33,7 +33,7 @@ pub record Adds (id : ℕ) (view : MarketView) (x : Record) (old new : List Held
 abbrev pub TakesFor : Target → ℕ → Bool → MarketView → Record → List Held → List Held → List Stamped → Type 0
 TakesFor Each start last view x old new said = (length new ≡ length old) × (is_for_all x ≡ true → AppendsBelow (length old) view x old new [] said)
 TakesFor (One id) start last view x old new said =
-    (id < start → Stays old new said) × (start + length old ≤ id → Stays old new said) × ((place : ℕ) → id ≡ start + place → place < length old → AppendsOne place view x old new [] said)
+    (id < start → Stays old new said) × (start + length old ≤ id → Stays old new said) × ((index : ℕ) → id ≡ start + index → index < length old → AppendsOne index view x old new [] said)
 TakesFor (New id) start last view x old new said = (last ≡ false → Stays old new said) × (last ≡ true → Adds id view x old new said)
 
 -- whether a record is for so many stocks of the ids from one on

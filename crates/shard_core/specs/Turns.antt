@@ -59,10 +59,10 @@ LeadsAll [] lead last told = (last ≡ lead) × (told ≡ [])
 LeadsAll (note ∷ notes) lead last told =
     (later : List (List Stamped)) × Leads note lead × LeadsAll notes (led note.record_of lead) last later × (told ≡ stamped (moment_of note.record_of) (rulings note.record_of lead.today) ∷ later)
 
--- the messages at each record, tagged from a place on
+-- the messages at each record, tagged from an index on
 abbrev pub tagged_from : ℕ → List (List Stamped) → List Tagged
-tagged_from place [] = []
-tagged_from place (said ∷ later) = tagged place said ++ tagged_from (suc place) later
+tagged_from index [] = []
+tagged_from index (said ∷ later) = tagged index said ++ tagged_from (suc index) later
 
 -- records are led, and this is what is noted and said
 pub record LeadsTo (notes : List Note) (lead last : LeadState) (market : List Tagged) : Type 0 where

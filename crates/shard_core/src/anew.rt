@@ -15,7 +15,7 @@ use std::alloc::Global;
 pub struct Counts {
     of_ids: Vec<u32>,
     records: usize,
-    ghost few: { length of_ids.items ≤ 16384 },
+    ghost few: { length of_ids.items ≤ most_names },
 }
 
 /// Counts a record of an id.
@@ -30,8 +30,8 @@ fn add(loads: &mut [u32], id: u16)
 
 /// Begins to count the records of the next id, with its listing.
 fn begin(loads: &mut Vec<u32>) -> Result<(), NoMemory>
-    requires { length loads.old.items ≤ 16384 }
-    ensures { length loads.new.items ≤ 16384 }
+    requires { length loads.old.items ≤ most_names }
+    ensures { length loads.new.items ≤ most_names }
 {
     if loads.len() < MOST_NAMES {
         loads.reserve(1)?;
@@ -90,7 +90,7 @@ fn ends_of(alloc: Global, parts: &[Section]) -> Result<Vec<u32>, NoMemory> {
 
 /// The greatest load of a range, of several ones with these upper ends.
 fn greatest_of(ends: &[u32], loads: &[u32]) -> u64
-    requires { length loads.now ≤ 16384 }
+    requires { length loads.now ≤ most_names }
     ensures few { result ≤ 70368744161280 }
 {
     let mut greatest = 0;
@@ -105,7 +105,7 @@ fn greatest_of(ends: &[u32], loads: &[u32]) -> u64
 
 /// Whether the greatest load of a range becomes a fifth smaller.
 fn is_evener(anew: &[u32], ends: &[u32], loads: &[u32]) -> bool
-    requires { length loads.now ≤ 16384 }
+    requires { length loads.now ≤ most_names }
 {
     5 * greatest_of(anew, loads) < 4 * greatest_of(ends, loads)
 }
@@ -166,7 +166,7 @@ fn cut_at(alloc: Global, parts: &mut [Section], ends: &[u32]) -> Result<(), NoMe
 fn cut_anew(alloc: Global, parts: &mut [Section], loads: &[u32]) -> Result<(), NoMemory>
     requires parts { (0 < length parts.old) × (length parts.old ≤ 64) }
     requires few { AreFew parts.old }
-    requires loads { length loads.now ≤ 16384 }
+    requires loads { length loads.now ≤ most_names }
     ensures stocks { OnOk result (flat_map (λ part. part.symbols) parts.new ≡ flat_map (λ part. part.symbols) parts.old) }
     ensures parts { length parts.new ≡ length parts.old }
     ensures few { AreFew parts.new }

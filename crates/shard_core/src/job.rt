@@ -16,7 +16,7 @@ use yard_core::Job;
 /// all parts. What its symbols were before is for contracts alone.
 #[derive(Drop)]
 pub struct PartJob<'a> {
-    pub place: u32,
+    pub index: u32,
     pub alloc: Global,
     pub ids: Ids,
     pub before: Snapshot<Section>,
@@ -39,14 +39,14 @@ impl<'a> Job for PartJob<'a> {
 
     type Origin = (Section, Ids, [Record; 0], [Turn; 0]);
 
-    ghost place_of = { λ job. job.place };
+    ghost place_of = { λ job. job.index };
 
     ghost origin_of = { λ job. (job.before.value, job.ids, job.xs.now, job.turns.now) };
 
     ghost has_result = { λ job. (job.is_done ≡ true) × (job.lacks_memory ≡ false → ∥ Tells job.ids.start job.ids.is_last (noted job.xs.now job.turns.now) job.before.value.symbols job.section.symbols job.told.items ∥₁) };
 
     fn place(&self) -> u32 {
-        self.place
+        self.index
     }
 
     fn work(&mut self) {
@@ -64,7 +64,7 @@ impl<'a> PartJob<'a> {
     /// Takes the turns. Want of memory is kept as what came of it.
     fn take_turns(&mut self)
         requires { self.old.is_done ≡ false }
-        ensures same { (self.new.place ≡ self.old.place) × (self.new.before.value ≡ self.old.before.value) × (self.new.ids ≡ self.old.ids) }
+        ensures same { (self.new.index ≡ self.old.index) × (self.new.before.value ≡ self.old.before.value) × (self.new.ids ≡ self.old.ids) }
         ensures block { (self.new.xs.now ≡ self.old.xs.now) × (self.new.turns.now ≡ self.old.turns.now) }
         ensures done { self.new.is_done ≡ true }
     {

@@ -22,7 +22,7 @@ use yard_core::Gate;
 fn job_of<'a>(
     alloc: Global,
     ids: Ids,
-    place: u32,
+    index: u32,
     part: &mut Section,
     list: &mut Vec<Tagged>,
     xs: &'a [Record],
@@ -31,14 +31,14 @@ fn job_of<'a>(
     requires few { length part.old.symbols ≤ most_names }
     requires count { length turns.now ≡ length xs.now }
     requires short { length xs.now ≤ 65536 }
-    ensures job { IfOk result (IsJobOf place ids part.old xs.now turns.now) }
+    ensures job { IfOk result (IsJobOf index ids part.old xs.now turns.now) }
     ensures few { length part.new.symbols ≤ most_names }
 {
     let empty = Section::new(alloc)?;
     let section = mem::replace(part, empty);
     let told = mem::replace(list, Vec::new(alloc));
     Ok(PartJob {
-        place,
+        index,
         alloc,
         ids,
         before: Snapshot::of(&section),
@@ -104,9 +104,9 @@ fn take_back(
         if job.lacks_memory {
             return Err(NoMemory);
         }
-        let place = left.len();
-        parts[place] = job.section;
-        told[place] = job.told;
+        let index = left.len();
+        parts[index] = job.section;
+        told[index] = job.told;
     }
     Ok(())
 }

@@ -46,7 +46,7 @@ fn in_order(
     Ok(all)
 }
 
-/// Appends messages to a list that has room for them, each with a place that lies so many further on.
+/// Appends messages to a list that has room for them, each with an index that lies so many further on.
 fn push_further(messages: &[Tagged], first: u32, out: &mut Vec<Tagged>)
     requires { vec_len out.old + length messages.now ≤ vec_capacity out.old }
     ensures items { out.new.items ≡ out.old.items ++ further first messages.now }
@@ -59,7 +59,7 @@ fn push_further(messages: &[Tagged], first: u32, out: &mut Vec<Tagged>)
     }
 }
 
-/// Appends messages, each with a place that lies so many further on. An error leaves the list as it was.
+/// Appends messages, each with an index that lies so many further on. An error leaves the list as it was.
 fn append_further(messages: &[Tagged], first: u32, out: &mut Vec<Tagged>) -> Result<(), NoMemory>
     ensures items { OnOk result (out.new.items ≡ out.old.items ++ further first messages.now) }
     ensures err { OnErr result (out.new.items ≡ out.old.items) }
@@ -70,7 +70,7 @@ fn append_further(messages: &[Tagged], first: u32, out: &mut Vec<Tagged>) -> Res
 }
 
 /// Appends the messages of the market and of each part, input by input: for each input in order those of the market, and
-/// then those of each part, in order of parts. The input of the place 0 comes out with the first place. An error leaves the
+/// then those of each part, in order of parts. The input of the index 0 comes out with the first index. An error leaves the
 /// list as it was.
 pub fn merge(
     market: &[Tagged],

@@ -125,7 +125,7 @@ impl Shards {
         }
     }
 
-    /// Appends what one market gives for the records of a piece, each message with the place of its record, from that of the
+    /// Appends what one market gives for the records of a piece, each message with the index of its record, from that of the
     /// first one on.
     pub(crate) fn piece<Rt: Threads + Sync, G: Gate>(
         &mut self,
@@ -174,7 +174,7 @@ impl Shards {
     }
 
     /// Appends what one market gives for records that are admissible, one after the other, after those before: each
-    /// message with the place of its record in the block, from 0. At most 65,536 records, and no block before has failed.
+    /// message with the index of its record in the block, from 0. At most 65,536 records, and no block before has failed.
     /// An error leaves the list as it was, and nothing works from then on. Records before any day, which admission refuses,
     /// are passed over.
     pub fn block<Rt: Threads + Sync, G: Gate>(

@@ -167,7 +167,7 @@ fn session(alloc: Global, symbols: u16, count: u32) -> Result<Vec<Record>, Fail>
     Ok(xs)
 }
 
-/// What one market gives for each of these records, with its place.
+/// What one market gives for each of these records, with its index.
 fn whole<R: AllocGlobal>(rt: &R, xs: &[Record]) -> Result<Vec<Tagged>, Fail> {
     let mut market = Market::new(rt.alloc())?;
     let mut said = Vec::new(rt.alloc());
@@ -187,7 +187,7 @@ fn whole<R: AllocGlobal>(rt: &R, xs: &[Record]) -> Result<Vec<Tagged>, Fail> {
     Ok(all)
 }
 
-/// Appends what so many parts give for these records, in blocks of at most so many, each message with the place of its
+/// Appends what so many parts give for these records, in blocks of at most so many, each message with the index of its
 /// record among all.
 fn in_blocks<R: Abort + AllocGlobal + Threads + Sync>(
     rt: &R,

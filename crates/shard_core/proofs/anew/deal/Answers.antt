@@ -11,7 +11,7 @@ use Rattle.shard_core.proofs.anew.deal.Goals as goal
 pub loop-k-init : goal.loop-k-init
 loop-k-init c = record {
   all = none_dealt c.args.parts.now (length c.args.parts.now - 1 + 1) c.args.all.symbols (omega (arith, c.requires.some));
-  place = omega (arith, c.requires.some);
+  index = omega (arith, c.requires.some);
   parts = refl;
   stocks = c.requires.stocks;
   few = c.requires.few;
@@ -33,8 +33,8 @@ loop-k-preserved c =
     let rest = drop_fewer end left in
     record {
       all = ap (λ (xs : List Held). xs ++ stocks_of (drop (k - 1 + 1) (slice_set now k part))) earlier ∙ ap (λ (n : ℕ). take end left ++ stocks_of (drop n (slice_set now k part))) back
-          ∙ dealt_more now k end left part inv.place later ∙ inv.all;
-      place = omega (arith, length-set now k part, inv.place);
+          ∙ dealt_more now k end left part inv.index later ∙ inv.all;
+      index = omega (arith, length-set now k part, inv.index);
       parts = length-set now k part ∙ inv.parts;
       stocks = subst (λ (xs : List Held). length xs ≤ most_names) (sym earlier) (omega (arith, fewer, inv.stocks));
       few = few_on k now part inv.few (subst (λ (xs : List Held). length xs ≤ most_names) (sym later) (omega (arith, rest, inv.stocks)));
@@ -43,7 +43,7 @@ loop-k-preserved c =
 pub returns-clause-all : goal.returns-clause-all
 returns-clause-all c =
     let first : c.loop-k.k ≡ 0 = omega (arith, c.loop-k-test.false) in
-    dealt_all c.loop-k.parts c.loop-k.left c.args.all.symbols (omega (arith, c.loop-k.invariant.place))
+    dealt_all c.loop-k.parts c.loop-k.left c.args.all.symbols (omega (arith, c.loop-k.invariant.index))
     (subst (λ (n : ℕ). c.loop-k.left.symbols ++ stocks_of (drop (n + 1) c.loop-k.parts) ≡ c.args.all.symbols) first c.loop-k.invariant.all)
 
 pub returns-clause-few : goal.returns-clause-few

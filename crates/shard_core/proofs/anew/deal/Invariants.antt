@@ -7,7 +7,7 @@ use Rattle.shard_core.proofs.anew.deal.Given as goal
 abbrev pub invariant-loop-k : goal.invariant-loop-k
 invariant-loop-k l = record {
   all : l.left.symbols ++ stocks_of (drop (l.k + 1) l.parts) ≡ l.initial.left.symbols;
-  place : l.k < length l.parts;
+  index : l.k < length l.parts;
   parts : length l.parts ≡ length l.initial.parts;
   stocks : length l.left.symbols ≤ most_names;
   few : AreFew l.parts;

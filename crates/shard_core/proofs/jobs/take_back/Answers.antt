@@ -24,7 +24,7 @@ loop-job-preserved c =
     let new = c.pop.new.self.items in
     let is : old ≡ new ++ job ∷ [] = c.in-Some.ensures.items in
     let many : length old ≡ length new + 1 = ap length is ∙ length-append new (job ∷ []) in
-    let here : c.len-place.result ≡ length new = omega (arith, c.len-place.ensures, c.pop.new.self.ok.0) in
+    let here : c.len-index.result ≡ length new = omega (arith, c.len-index.ensures, c.pop.new.self.ok.0) in
     let part_at : length new < length c.loop-job.parts = omega (arith, many, inv.left, inv.parts) in
     let list_at : length new < length c.loop-job.told = omega (arith, many, inv.left, inv.told) in
     record {
@@ -32,7 +32,7 @@ loop-job-preserved c =
       back = subst (λ (n : ℕ). BackFrom (length new) c.args.jobs.items (slice_set c.loop-job.parts n job.section) (slice_set c.loop-job.told n job.told)) (sym here)
           (back_less c.args.jobs.items old new job c.loop-job.parts c.loop-job.told is many part_at list_at c.if-job.false inv.first inv.back);
       left = omega (arith, many, inv.left);
-      parts = length-set c.loop-job.parts c.len-place.result job.section ∙ inv.parts;
-      told = length-set c.loop-job.told c.len-place.result job.told ∙ inv.told;
-      few = few_on c.len-place.result c.loop-job.parts job.section inv.few job.few;
+      parts = length-set c.loop-job.parts c.len-index.result job.section ∙ inv.parts;
+      told = length-set c.loop-job.told c.len-index.result job.told ∙ inv.told;
+      few = few_on c.len-index.result c.loop-job.parts job.section inv.few job.few;
     }

@@ -17,17 +17,17 @@ loop-share-preserved c =
     let inv = c.loop-share.invariant in
     let wanted : c.from-in-loop-share.result * c.sum_of-whole.result ≡ share * sum loads
     = ap (λ n. n * c.sum_of-whole.result) c.from-in-loop-share.ensures ∙ ap (λ n. share * n) c.sum_of-whole.ensures.value in
-    let end = subst (λ n. IsShareEnd loads n share c.advance-front.result.count) c.from.ensures
-    (share_end loads c.from.result share _ c.advance-front.result.count wanted c.advance-front.ensures.reached c.advance-front.ensures.least) in
+    let end = subst (λ n. IsShareEnd loads n share c.advance-prefix.result.count) c.from.ensures
+    (share_end loads c.from.result share _ c.advance-prefix.result.count wanted c.advance-prefix.ensures.reached c.advance-prefix.ensures.least) in
     let count : length c.loop-share.ends.items + 1 ≡ share = omega (arith, inv.count, c.loop-share.ends.ok.0) in
     record {
       count = omega (arith, inv.count, c.push_reserved.ensures.len);
       within = omega (arith, c.loop-share-test.true);
       room = omega (arith, inv.room, c.push_reserved.ensures.capacity);
-      front = c.advance-front.ensures.front;
+      prefix = c.advance-prefix.ensures.prefix;
       before = λ fewer lt. let here = end.least fewer lt in omega arith;
       each = subst (λ items. (k : ℕ) → k < length items → IsShareEnd loads c.args.ranges (k + 1) (slice_index items k)) (sym c.push_reserved.ensures.items)
-          (ends_more loads c.args.ranges c.loop-share.ends.items inv.each c.advance-front.result.count (subst (λ n. IsShareEnd loads c.args.ranges n c.advance-front.result.count) (sym count) end));
+          (ends_more loads c.args.ranges c.loop-share.ends.items inv.each c.advance-prefix.result.count (subst (λ n. IsShareEnd loads c.args.ranges n c.advance-prefix.result.count) (sym count) end));
     }
 
 pub returns : goal.returns
