@@ -11,91 +11,91 @@ use Rattle.shard_core.specs.Block.{ShardsState, followed, given_from, tagged}
 use Rattle.evaluator_core.specs.AheadState.{RepresentsAhead}
 use Rattle.evaluator_core.specs.Leading.{leading}
 
-pub leading-same : (place : ℕ) (message : Tagged) (later : List Tagged) → message.input ≡ place → leading place (message ∷ later) ≡ suc (leading place later)
-leading-same place message later is = grind (arith, nat_tests)
+pub leading-same : (index : ℕ) (message : Tagged) (later : List Tagged) → message.input ≡ index → leading index (message ∷ later) ≡ suc (leading index later)
+leading-same index message later is = grind (arith, nat_tests)
 
-pub leading-other : (place : ℕ) (message : Tagged) (later : List Tagged) → message.input ≢ place → leading place (message ∷ later) ≡ 0
-leading-other place message later not = grind (arith, nat_tests)
+pub leading-other : (index : ℕ) (message : Tagged) (later : List Tagged) → message.input ≢ index → leading index (message ∷ later) ≡ 0
+leading-other index message later not = grind (arith, nat_tests)
 
 -- a record's messages, where those behind them are of other records
-pub leading-tagged : (place : ℕ) (said : List Stamped) (later : List Tagged) → leading place later ≡ 0 → leading place (tagged place said ++ later) ≡ length said
-leading-tagged place [] later none = none
-leading-tagged place (message ∷ said) later none =
-    leading-same place (record { input = place; stamped = message }) (tagged place said ++ later) refl ∙ ap suc (leading-tagged place said later none)
+pub leading-tagged : (index : ℕ) (said : List Stamped) (later : List Tagged) → leading index later ≡ 0 → leading index (tagged index said ++ later) ≡ length said
+leading-tagged index [] later none = none
+leading-tagged index (message ∷ said) later none =
+    leading-same index (record { input = index; stamped = message }) (tagged index said ++ later) refl ∙ ap suc (leading-tagged index said later none)
 
-tagged-other : (place k : ℕ) (said : List Stamped) (later : List Tagged) → place < k → leading place later ≡ 0 → leading place (tagged k said ++ later) ≡ 0
-tagged-other place k [] later before none = none
-tagged-other place k (message ∷ said) later before none =
-    leading-other place (record { input = k; stamped = message }) (tagged k said ++ later) (λ is. omega (arith, is))
+tagged-other : (index k : ℕ) (said : List Stamped) (later : List Tagged) → index < k → leading index later ≡ 0 → leading index (tagged k said ++ later) ≡ 0
+tagged-other index k [] later before none = none
+tagged-other index k (message ∷ said) later before none =
+    leading-other index (record { input = k; stamped = message }) (tagged k said ++ later) (λ is. omega (arith, is))
 
 -- no message of a later record is of this one
-pub leading-given : (place k : ℕ) (applied xs : List Record) → place < k → leading place (given_from k applied xs) ≡ 0
-leading-given place k applied [] before = refl
-leading-given place k applied (x ∷ xs) before =
-    tagged-other place k (newest_messages (x ∷ applied)) (given_from (suc k) (x ∷ applied) xs) before (leading-given place (suc k) (x ∷ applied) xs (omega arith))
+pub leading-given : (index k : ℕ) (applied xs : List Record) → index < k → leading index (given_from k applied xs) ≡ 0
+leading-given index k applied [] before = refl
+leading-given index k applied (x ∷ xs) before =
+    tagged-other index k (newest_messages (x ∷ applied)) (given_from (suc k) (x ∷ applied) xs) before (leading-given index (suc k) (x ∷ applied) xs (omega arith))
 
--- without its place each message is as it was
-stamps : (place : ℕ) (said : List Stamped) → map (λ (message : Tagged). message.stamped) (tagged place said) ≡ said
-stamps place [] = refl
-stamps place (message ∷ said) = ap (λ (later : List Stamped). message ∷ later) (stamps place said)
+-- without its index each message is as it was
+stamps : (index : ℕ) (said : List Stamped) → map (λ (message : Tagged). message.stamped) (tagged index said) ≡ said
+stamps index [] = refl
+stamps index (message ∷ said) = ap (λ (later : List Stamped). message ∷ later) (stamps index said)
 
-length-tagged : (place : ℕ) (said : List Stamped) → length (tagged place said) ≡ length said
-length-tagged place [] = refl
-length-tagged place (message ∷ said) = ap suc (length-tagged place said)
+length-tagged : (index : ℕ) (said : List Stamped) → length (tagged index said) ≡ length said
+length-tagged index [] = refl
+length-tagged index (message ∷ said) = ap suc (length-tagged index said)
 
 -- what a record gives, and what is left behind it
-pub record HandsOut (count place : ℕ) (left : List Tagged) (x : Record) (applied later : List Record) : Type 0 where
+pub record HandsOut (count index : ℕ) (left : List Tagged) (x : Record) (applied later : List Record) : Type 0 where
   pub said : map (λ (message : Tagged). message.stamped) (take count left) ≡ newest_messages (x ∷ applied)
-  pub rest : drop count left ≡ given_from (suc place) (x ∷ applied) later
+  pub rest : drop count left ≡ given_from (suc index) (x ∷ applied) later
 
-pub hands_out : (count place : ℕ) (left : List Tagged) (x : Record) (applied later : List Record) → count ≡ leading place left → left ≡ given_from place applied (x ∷ later)
-    → HandsOut count place left x applied later
-hands_out count place left x applied later is gives =
+pub hands_out : (count index : ℕ) (left : List Tagged) (x : Record) (applied later : List Record) → count ≡ leading index left → left ≡ given_from index applied (x ∷ later)
+    → HandsOut count index left x applied later
+hands_out count index left x applied later is gives =
     let said = newest_messages (x ∷ applied) in
-    let rest = given_from (suc place) (x ∷ applied) later in
-    let many : count ≡ length (tagged place said) =
-    is ∙ ap (leading place) gives ∙ leading-tagged place said rest (leading-given place (suc place) (x ∷ applied) later (omega arith)) ∙ sym (length-tagged place said) in record {
+    let rest = given_from (suc index) (x ∷ applied) later in
+    let many : count ≡ length (tagged index said) =
+    is ∙ ap (leading index) gives ∙ leading-tagged index said rest (leading-given index (suc index) (x ∷ applied) later (omega arith)) ∙ sym (length-tagged index said) in record {
       said = ap (λ (ms : List Tagged). map (λ (message : Tagged). message.stamped) (take count ms)) gives
-          ∙ ap (map (λ (message : Tagged). message.stamped)) ((take_at (tagged place said) rest count (sym many))) ∙ stamps place said;
-      rest = ap (drop count) gives ∙ drop_at (tagged place said) rest count (sym many);
+          ∙ ap (map (λ (message : Tagged). message.stamped)) ((take_at (tagged index said) rest count (sym many))) ∙ stamps index said;
+      rest = ap (drop count) gives ∙ drop_at (tagged index said) rest count (sym many);
     }
 
-pub leading-within : (place : ℕ) (messages : List Tagged) → leading place messages ≤ length messages
-leading-within place [] = omega arith
-leading-within place (message ∷ later) = let within = leading-within place later in grind (arith, nat_tests)
+pub leading-within : (index : ℕ) (messages : List Tagged) → leading index messages ≤ length messages
+leading-within index [] = omega arith
+leading-within index (message ∷ later) = let within = leading-within index later in grind (arith, nat_tests)
 
 nothing_is : {X : Type 0} (x : X) (later : List X) → [] ≡ x ∷ later → ⊥
 nothing_is x later is = cc
 
--- the first of what is left behind a place is handed out
+-- the first of what is left behind an index is handed out
 behind : {X : Type 0} (n : ℕ) (xs : List X) (x : X) (later : List X) → drop n xs ≡ x ∷ later → (n < length xs) × (drop (suc n) xs ≡ later)
 behind zero [] x later is = absurd (nothing_is x later is)
 behind zero (y ∷ ys) x later is = (omega arith, cc)
 behind (suc n) [] x later is = absurd (nothing_is x later is)
 behind (suc n) (y ∷ ys) x later is = let next = behind n ys x later is in (omega (arith, next.0), next.1)
 
--- a place in a block is counted on without a wrap
-pub next_place : {X : Type 0} (place : ℕ) (xs : List X) (x : X) (later : List X) → length xs ≤ 65536 → drop place xs ≡ x ∷ later → (place + 1) % 4294967296 ≡ suc place
-next_place place xs x later few is = let next = behind place xs x later is in omega (arith, next.0)
+-- an index in a block is counted on without a wrap
+pub next_index : {X : Type 0} (index : ℕ) (xs : List X) (x : X) (later : List X) → length xs ≤ 65536 → drop index xs ≡ x ∷ later → (index + 1) % 4294967296 ≡ suc index
+next_index index xs x later few is = let next = behind index xs x later is in omega (arith, next.0)
 
-pub next_ahead : {X : Type 0} (place : ℕ) (xs : List X) (x : X) (later : List X) → length xs ≤ 65536 → drop place xs ≡ x ∷ later → drop ((place + 1) % 4294967296) xs ≡ later
-next_ahead place xs x later few is = ap (λ (n : ℕ). drop n xs) (next_place place xs x later few is) ∙ (behind place xs x later is).1
+pub next_ahead : {X : Type 0} (index : ℕ) (xs : List X) (x : X) (later : List X) → length xs ≤ 65536 → drop index xs ≡ x ∷ later → drop ((index + 1) % 4294967296) xs ≡ later
+next_ahead index xs x later few is = ap (λ (n : ℕ). drop n xs) (next_index index xs x later few is) ∙ (behind index xs x later is).1
 
--- the messages of the oldest record that is ahead are handed out from a place of the list on
-pub record HandsOn (count : ℕ) (part : List Tagged) (shards : ShardsState) (place at : ℕ) (records : List Record) (given : List Tagged) (x : Record) (applied later : List Record) : Type 0 where
+-- the messages of the oldest record that is ahead are handed out from an index of the list on
+pub record HandsOn (count : ℕ) (part : List Tagged) (shards : ShardsState) (index at : ℕ) (records : List Record) (given : List Tagged) (x : Record) (applied later : List Record) : Type 0 where
   pub said : map (λ (message : Tagged). message.stamped) (take count part) ≡ newest_messages (x ∷ applied)
-  pub stands : RepresentsAhead (record { shards = shards; place = (place + 1) % 4294967296; ahead = drop ((place + 1) % 4294967296) records; left = drop (at + count) given }) (x ∷ applied)
+  pub stands : RepresentsAhead (record { shards = shards; index = (index + 1) % 4294967296; ahead = drop ((index + 1) % 4294967296) records; left = drop (at + count) given }) (x ∷ applied)
 
-pub hands_on : (count at place : ℕ) (shards : ShardsState) (records : List Record) (slice given : List Tagged) (x : Record) (applied later : List Record) → length records ≤ 65536
-    → slice ≡ given → count ≡ leading place (take (length slice - at) (drop at slice)) → drop place records ≡ x ∷ later
-    → RepresentsAhead (record { shards = shards; place = place; ahead = drop place records; left = drop at given }) applied
-    → HandsOn count (take (length slice - at) (drop at slice)) shards place at records given x applied later
-hands_on count at place shards records slice given x applied later few same is oldest block =
+pub hands_on : (count at index : ℕ) (shards : ShardsState) (records : List Record) (slice given : List Tagged) (x : Record) (applied later : List Record) → length records ≤ 65536
+    → slice ≡ given → count ≡ leading index (take (length slice - at) (drop at slice)) → drop index records ≡ x ∷ later
+    → RepresentsAhead (record { shards = shards; index = index; ahead = drop index records; left = drop at given }) applied
+    → HandsOn count (take (length slice - at) (drop at slice)) shards index at records given x applied later
+hands_on count at index shards records slice given x applied later few same is oldest block =
     let part = take (length slice - at) (drop at slice) in
     let part_is : part ≡ drop at given = take_rest slice at ∙ ap (drop at) same in
-    let out = hands_out count place part x applied later is (part_is ∙ block.left ∙ ap (given_from place applied) oldest) in
-    let next = next_place place records x later few oldest in
-    let ahead = next_ahead place records x later few oldest in
+    let out = hands_out count index part x applied later is (part_is ∙ block.left ∙ ap (given_from index applied) oldest) in
+    let next = next_index index records x later few oldest in
+    let ahead = next_ahead index records x later few oldest in
     let stood : blocks.Represents shards (followed (x ∷ applied) later) = subst (λ (xs : List Record). blocks.Represents shards (followed applied xs)) oldest block.shards in record {
       said = out.said;
       stands = record {

@@ -9,11 +9,11 @@ use Rattle.shard_core.specs.declared.tagged.Tagged.{Tagged}
 -- messages
 pub record AheadState : Type 0 where
   pub shards : ShardsState
-  pub place : ℕ
+  pub index : ℕ
   pub ahead : List Record
   pub left : List Tagged
 
 -- the parts are ahead of the evaluated records by those that weren't handed out, and their messages are what one market gives
 pub record RepresentsAhead (block : AheadState) (evaluated : List Record) : Type 0 where
   pub shards : blocks.Represents block.shards (followed evaluated block.ahead)
-  pub left : block.left ≡ given_from block.place evaluated block.ahead
+  pub left : block.left ≡ given_from block.index evaluated block.ahead

@@ -2,7 +2,7 @@
 use Rattle.std.specs.Prelude.{ℕ, suc, List, [], ◌∷◌, ◌==◌, if◌then◌else◌}
 use Rattle.shard_core.specs.declared.tagged.Tagged.{Tagged}
 
--- how many of the first messages are of the record at a place
+-- how many of the first messages are of the record at an index
 abbrev pub leading : ℕ → List Tagged → ℕ
-leading place [] = 0
-leading place (message ∷ later) = if message.input == place then suc (leading place later) else 0
+leading index [] = 0
+leading index (message ∷ later) = if message.input == index then suc (leading index later) else 0

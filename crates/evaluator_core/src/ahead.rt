@@ -26,7 +26,7 @@ pub struct Ahead {
     shards: Shards,
     given: Vec<Tagged>,
     at: usize,
-    place: u32,
+    index: u32,
     records: Snapshot<Vec<Record>>,
 }
 
@@ -36,24 +36,24 @@ impl Model for Ahead {
 
     ghost Value = { AheadState };
 
-    ghost view = { λ block. record { shards = block.shards; place = block.place; ahead = drop block.place block.records.value.items; left = drop block.at block.given.items } };
+    ghost view = { λ block. record { shards = block.shards; index = block.index; ahead = drop block.index block.records.value.items; left = drop block.at block.given.items } };
 
     ghost invariant = { λ block. (1 < length block.shards.parts) × (block.at ≤ length block.given.items) × (length block.records.value.items ≤ 65536) };
 }
 
-/// How many of the first messages are of the record at a place.
-fn count_of(messages: &[Tagged], place: u32) -> usize
-    ensures value { result ≡ leading place messages.now }
+/// How many of the first messages are of the record at an index.
+fn count_of(messages: &[Tagged], index: u32) -> usize
+    ensures value { result ≡ leading index messages.now }
     ensures within { result ≤ length messages.now }
 {
     let mut count = 0;
-    while count < messages.len() && messages[count].input == place {
+    while count < messages.len() && messages[count].input == index {
         count += 1;
     }
     count
 }
 
-/// Appends messages without their places.
+/// Appends messages without their indexes.
 fn append(messages: &[Tagged], out: &mut Vec<Stamped>)
     requires room { vec_len out.old + length messages.now ≤ vec_capacity out.old }
     ensures items { out.new.items ≡ out.old.items ++ map (λ message. message.stamped) messages.now }
@@ -76,7 +76,7 @@ impl Ahead {
             shards: Shards::new(alloc, workers)?,
             given: Vec::new(alloc),
             at: 0,
-            place: 0,
+            index: 0,
             records: Snapshot::of(&Vec::new(alloc)),
         })
     }
@@ -119,7 +119,7 @@ impl Ahead {
         }
         self.given.clear();
         self.at = 0;
-        self.place = 0;
+        self.index = 0;
         self.records = Snapshot::of(xs);
         self.shards.block(rt, xs, gate, &mut self.given)
     }
@@ -137,7 +137,7 @@ impl Ahead {
         ensures several { 1 < length self.old.shards.parts }
     {
         let left = &self.given[self.at..];
-        let count = count_of(left, self.place);
+        let count = count_of(left, self.index);
         // No record gives so many.
         if count > MOST_MESSAGES {
             return Err(NoMemory);
@@ -145,7 +145,7 @@ impl Ahead {
         out.reserve(count)?;
         append(&left[..count], out);
         self.at += count;
-        self.place = self.place.wrapping_add(1);
+        self.index = self.index.wrapping_add(1);
         Ok(())
     }
 }
