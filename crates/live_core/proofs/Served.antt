@@ -79,8 +79,8 @@ part_of workers start begin bodies image bytes (inr pending) =
 
 hinders_damage : (damaged : ℕ → Type 0) (missing starved : Type 0) (s : Status) (old new : Outside) (at : ℕ) → Hinders damaged missing starved s old new → ¬ missing → ((other : ℕ) → damaged other → other ≡ at)
     → TellsDamage at s
-hinders_damage damaged missing starved (Damaged other) old new at why has place = inl (ap (λ k. Damaged k) (place other why.1))
-hinders_damage damaged missing starved s old new at why has place = grind arith
+hinders_damage damaged missing starved (Damaged other) old new at why has offset = inl (ap (λ k. Damaged k) (offset other why.1))
+hinders_damage damaged missing starved s old new at why has offset = grind arith
 
 pub answered_as : {most : ℕ} {before after : JournalState} {session : Session} {old new : Outside} {s same : Status} → same ≡ s → IsAnswered most before after session s old new
     → IsAnswered most before after session same old new

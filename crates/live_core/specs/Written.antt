@@ -29,7 +29,7 @@ pub record Written (workers : ℕ) (from : Option ℕ) (most : ℕ) (old new : O
   pub unwritten : (begin : Begin) (input : List ℕ) → begin.from ≡ from → Begins begin input old → AcceptsNone (start_of workers begin) (bodies_of (take most input)) → WritesNothing old new
   -- nor where there is no journal
   pub headless : (disk : List ℕ) → old.disk ≡ Some disk → HasNoHeader disk → WritesNothing old new
-  -- Whenever it is stopped, the image is one that a stop at the start might have left, or differs from one only in the place of
+  -- Whenever it is stopped, the image is one that a stop at the start might have left, or differs from one only in the range of
   -- the batches of accepted frames: of those whose records it holds, and at most of the next.
   pub stops : (begin : Begin) (input : List ℕ) → begin.from ≡ from → Begins begin input old → Elapses old new (λ image bytes. MayLeave old image ⊎ HasGrown workers begin (bodies_of (take most input)) old image)
   -- a run that returned is one that was stopped at its end, also after a fault of the disk
