@@ -1,4 +1,4 @@
--- A journal is damaged at one place, and then it holds no lawful list.
+-- A journal is damaged at one offset, and then it holds no lawful list.
 use Rattle.std.proofs.Common.{◌≡◌, ◌≢◌, ◌⊎◌, inl, inr, ⊎_elim, ℕ, List, [], ◌∷◌, ◌++◌, length, drop, sym, ap, subst, ◌∙◌, append_assoc, length-append, arith}
 use Rattle.std.specs.Prelude.{None, reverse}
 use Rattle.std.proofs.lemmas.List.{append-nil, nil_from_length}
@@ -111,7 +111,7 @@ none_behind capacity at at' before before' disk d e on = one_gate d.leads e.lead
         (omega (arith, sizes, length-append d.batches ((bad.good ++ bad.bad ∷ bad.later) ∷ []), length-append e.batches (b ∷ later), ap length on.same, length-append d.batches on.later)) in
         (ends_there on none).1
 
--- a disk is damaged at one place
+-- a disk is damaged at one offset
 pub one_damage : {capacity capacity' at at' : ℕ} {before before' : List Record} {disk : List ℕ} → IsDamagedAt capacity at before disk → IsDamagedAt capacity' at' before' disk → at ≡ at'
 one_damage {capacity} {at = at} {at' = at'} {before = before} {before' = before'} {disk = disk} d other =
     let e = subst (λ l. IsDamagedAt l at' before' disk) (one_limit other.leads d.leads) other in

@@ -24,11 +24,11 @@ loop-x-init g c = record {
 
 pub loop-x-preserved : goal.loop-x-preserved
 loop-x-preserved g c =
-    let front = drop_one c.args.records.now c.loop-x.x-index c.x-item.result c.loop-x-test.true c.x-item.is in
+    let split = drop_one c.args.records.now c.loop-x.x-index c.x-item.result c.loop-x-test.true c.x-item.is in
     record {
       advances = λ capacity accepted begin first.
           let so_far = c.loop-x.invariant.advances capacity accepted begin first in
-          let next = rw front at so_far.0 in
+          let next = rw split at so_far.0 in
           (c.in_ok-resume_record.ensures.resumes capacity accepted _ begin next, sends_then so_far.1 (c.resume_record.ensures.moments capacity accepted _ begin next));
       small = c.in_ok-resume_record.ensures.small;
       count = search rules;
@@ -42,15 +42,15 @@ loop-x-preserved g c =
 pub returns-in_err-resume_record-clause-moments : goal.returns-in_err-resume_record-clause-moments
 returns-in_err-resume_record-clause-moments g c = λ capacity accepted begin first.
     let so_far = c.loop-x.invariant.advances capacity accepted begin first in
-    let front = drop_one c.args.records.now c.loop-x.x-index c.x-item.result c.loop-x-test.true c.x-item.is in
-    sends_then so_far.1 (c.resume_record.ensures.moments capacity accepted _ begin (rw front at so_far.0))
+    let split = drop_one c.args.records.now c.loop-x.x-index c.x-item.result c.loop-x-test.true c.x-item.is in
+    sends_then so_far.1 (c.resume_record.ensures.moments capacity accepted _ begin (rw split at so_far.0))
 
 pub returns-in_err-resume_record-clause-starved : goal.returns-in_err-resume_record-clause-starved
 returns-in_err-resume_record-clause-starved g c = λ capacity accepted begin first is.
     let so_far = c.loop-x.invariant.advances capacity accepted begin first in
-    let front = drop_one c.args.records.now c.loop-x.x-index c.x-item.result c.loop-x-test.true c.x-item.is in
+    let split = drop_one c.args.records.now c.loop-x.x-index c.x-item.result c.loop-x-test.true c.x-item.is in
     subst (λ (n : ℕ). StarvedAtRecord n c.args.from accepted begin (g.H.Host.outside c.resume_record.new.host).sent) c.loop-x.invariant.workers
-    (c.resume_record.ensures.starved capacity accepted _ begin (rw front at so_far.0) (search rules))
+    (c.resume_record.ensures.starved capacity accepted _ begin (rw split at so_far.0) (search rules))
 
 pub returns-clause-resumes : goal.returns-clause-resumes
 returns-clause-resumes g c = λ capacity accepted begin first.
