@@ -131,12 +131,12 @@ module _ (status : Status) (old new : Outside) (sent_now : (image bytes : List �
     no_journal = λ is. (at NoJournal is).1;
     no_header = u.no_header;
     unsent = u.unsent;
-    damaged = λ place is. (at (Damaged place) is).1;
-    damage_is_told = λ capacity place before disk known damage has. tells disk known damage has status u.hinders;
-    damage_is_unsent = λ place disk is known.
-        let damage = (at (Damaged place) is).1 disk known in
+    damaged = λ offset is. (at (Damaged offset) is).1;
+    damage_is_told = λ capacity offset before disk known damage has. tells disk known damage has status u.hinders;
+    damage_is_unsent = λ offset disk is known.
+        let damage = (at (Damaged offset) is).1 disk known in
         nothing_sent (u.moments disk known damage.1 (covers_damaged damage.2));
-    damage_starved = λ capacity place before disk known damage short. nothing_sent (u.moments disk known before (covers_damaged damage));
+    damage_starved = λ capacity offset before disk known damage short. nothing_sent (u.moments disk known before (covers_damaged damage));
     disk = keeps.disk;
     input = keeps.input;
     asks = keeps.asks;
@@ -153,8 +153,8 @@ module _ (status : Status) (old new : Outside) (sent_now : (image bytes : List �
       moments : (capacity : ℕ) (held : List Record) → IsHeld capacity held old → Elapses old new (SendsPrefix old.sent (report_of capacity held) old)
       moments capacity held h = sends_longer [] (report_of capacity held) (report_of capacity held) refl (u.moments h.disk h.known held (covers_held h.holds))
 
-      tells : {capacity place : ℕ} {before : List Record} (disk : List ℕ) → old.disk ≡ Some disk → IsDamagedAt capacity place before disk → ¬ HasNoHeader disk
-          → (s : Status) → Hinders (λ at. (disk : List ℕ) → old.disk ≡ Some disk → HasDamage at disk) ((disk : List ℕ) → old.disk ≡ Some disk → HasNoHeader disk) (Unit {0}) s old new → TellsDamage place s
+      tells : {capacity offset : ℕ} {before : List Record} (disk : List ℕ) → old.disk ≡ Some disk → IsDamagedAt capacity offset before disk → ¬ HasNoHeader disk
+          → (s : Status) → Hinders (λ at. (disk : List ℕ) → old.disk ≡ Some disk → HasDamage at disk) ((disk : List ℕ) → old.disk ≡ Some disk → HasNoHeader disk) (Unit {0}) s old new → TellsDamage offset s
       tells disk known damage has (Damaged other) why = inl (ap (λ k. Damaged k) (one_damage (why.1 disk known).2 damage))
       tells disk known damage has NoJournal why = absurd (has (why.1 disk known))
       tells disk known damage has s why = grind arith
@@ -188,10 +188,10 @@ module _ (status : Status) (old new : Outside) (sent_now : (image bytes : List �
       no_header = λ disk known missing.
           let held = gathered.sound disk known in absurd (headed disk known held.2 missing);
       unsent = λ is. absurd (told_at NoJournal is);
-      damaged = λ place is. absurd (told_at (Damaged place) is);
-      damage_is_told = λ capacity place before disk known damage has. absurd (undamaged disk known damage);
-      damage_is_unsent = λ place disk is known. absurd (told_at (Damaged place) is);
-      damage_starved = λ capacity place before disk known damage short. absurd (undamaged disk known damage);
+      damaged = λ offset is. absurd (told_at (Damaged offset) is);
+      damage_is_told = λ capacity offset before disk known damage has. absurd (undamaged disk known damage);
+      damage_is_unsent = λ offset disk is known. absurd (told_at (Damaged offset) is);
+      damage_starved = λ capacity offset before disk known damage short. absurd (undamaged disk known damage);
       disk = keeps.disk;
       input = keeps.input;
       asks = keeps.asks;
@@ -205,10 +205,10 @@ module _ (status : Status) (old new : Outside) (sent_now : (image bytes : List �
         same : {known : Option (List ℕ)} {a b : List ℕ} → known ≡ Some a → known ≡ Some b → a ≡ b
         same first second = cc
 
-        undamaged : {capacity place : ℕ} {before : List Record} (disk : List ℕ) → old.disk ≡ Some disk → IsDamagedAt capacity place before disk → ⊥
-        undamaged {capacity} {place} {before} disk known damage =
+        undamaged : {capacity offset : ℕ} {before : List Record} (disk : List ℕ) → old.disk ≡ Some disk → IsDamagedAt capacity offset before disk → ⊥
+        undamaged {capacity} {offset} {before} disk known damage =
             let held = gathered.sound disk known in
-            lawful_undamaged (subst (λ d. IsDamagedAt capacity place before d) (same known held.2.known) damage) held.2.holds held.2.lawful
+            lawful_undamaged (subst (λ d. IsDamagedAt capacity offset before d) (same known held.2.known) damage) held.2.holds held.2.lawful
 
         headed : {capacity : ℕ} {held : List Record} (disk : List ℕ) → old.disk ≡ Some disk → IsHeld capacity held old → HasNoHeader disk → ⊥
         headed {capacity} {held} disk known h missing = readable.header h.disk capacity held h.holds (subst HasNoHeader (same known h.known) missing)
