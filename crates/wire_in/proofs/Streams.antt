@@ -13,9 +13,9 @@ use Rattle.wire_in.proofs.RoundTrip.{body_again}
 use Rattle.wire_in.proofs.Cuts.{Cutting, bodies_of-append, rest_of-append, cut_partial, cut_framed, whole_case, partial_case}
 
 -- what is cut of at most a whole frame
-pub cut_front : (held : List ℕ) → IsPrefix held → (bodies_of held ≡ found held) × (rest_of held ≡ pending held)
-cut_front [] h = (refl, refl)
-cut_front (n ∷ body) h =
+pub cut_prefix : (held : List ℕ) → IsPrefix held → (bodies_of held ≡ found held) × (rest_of held ≡ pending held)
+cut_prefix [] h = (refl, refl)
+cut_prefix (n ∷ body) h =
     elim (eqb_tells (length (n ∷ body)) (n + 1)) [
       | inl whole ↦
           let len : length body ≡ n = omega (arith, whole.1) in
@@ -25,9 +25,9 @@ cut_front (n ∷ body) h =
 
 -- a cutter that goes on behind the bytes that were read
 pub take_on : (read old taken new : List ℕ) → new ≡ pending old ++ taken → IsPrefix new → pending old ≡ rest_of read → GoesOn read taken new
-take_on read old taken new bytes front behind =
+take_on read old taken new bytes prefix behind =
     let joined : rest_of read ++ taken ≡ new = cc in
-    let cut = cut_front new front in
+    let cut = cut_prefix new prefix in
     record {
       bodies = bodies_of-append read taken
           ∙ ap (λ (t : List ℕ). bodies_of read ++ bodies_of t) joined

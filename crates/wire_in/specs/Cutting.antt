@@ -5,7 +5,7 @@ use Rattle.wire_core.specs.Frames.{framed}
 
 -- how long the frame is that begins so, with its length byte
 abbrev pub need : List ℕ → ℕ
-need front = slice_index front 0 + 1
+need prefix = slice_index prefix 0 + 1
 
 -- less than a whole frame
 abbrev pub IsPartial : List ℕ → Type 0
@@ -31,7 +31,7 @@ pub record IsCut (bytes : List ℕ) (bodies : List (List ℕ)) (rest : List ℕ)
   pub whole : bytes ≡ flat_map framed bodies ++ rest
   pub partial : IsPartial rest
 
--- The bodies of the whole frames at the front of some bytes, and what is left behind them. The first argument is at
+-- The bodies of the whole frames that some bytes begin with, and what is left behind them. The first argument is at
 -- least as long as the bytes, and serves only to end the recursion.
 abbrev pub cut_within : List ℕ → List ℕ → List (List ℕ) × List ℕ
 cut_within [] bytes = ([], bytes)

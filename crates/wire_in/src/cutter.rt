@@ -46,7 +46,7 @@ impl Cutter {
     /// How long the frame is that is held or begun, with its length byte.
     fn need(&self) -> usize
         ensures need { result ≡ need self.now }
-        ensures front { IsPrefix self.now }
+        ensures prefix { IsPrefix self.now }
         ensures bound { result ≤ 256 }
     {
         if self.len == 0 {
@@ -59,7 +59,7 @@ impl Cutter {
     /// Whether the frame that is held is whole.
     fn is_frame(&self) -> bool
         ensures value { result ≡ is_frame self.now }
-        ensures front { IsPrefix self.now }
+        ensures prefix { IsPrefix self.now }
     {
         self.len == self.need()
     }
@@ -88,7 +88,7 @@ impl Cutter {
         ensures used { result.used ≤ length piece.now }
         ensures some { 0 < length piece.now → 0 < result.used }
         ensures whole { result.whole ≡ is_frame self.new }
-        ensures front { IsPrefix self.new }
+        ensures prefix { IsPrefix self.new }
         ensures all { IsTrue result.whole ⊎ (result.used ≡ length piece.now) }
 
         // Whatever bytes were read before: with those taken now they have one frame more if one is whole, and what
@@ -119,7 +119,7 @@ impl Cutter {
     fn fill(&mut self, piece: &[u8]) -> usize
         ensures used { result ≡ min (need self.old - length self.old) (length piece.now) }
         ensures bytes { self.new ≡ self.old ++ take result piece.now }
-        ensures front { IsPrefix self.old }
+        ensures prefix { IsPrefix self.old }
     {
         let count = self.missing().min(piece.len());
         self.len = put(&mut self.bytes, self.len, &piece[..count]);
@@ -129,7 +129,7 @@ impl Cutter {
     /// How many bytes are known to be missing: the length byte, or the rest of the body.
     fn missing(&self) -> usize
         ensures missing { result ≡ need self.now - length self.now }
-        ensures front { IsPrefix self.now }
+        ensures prefix { IsPrefix self.now }
         ensures bound { need self.now ≤ 256 }
     {
         self.need() - self.len
@@ -140,7 +140,7 @@ impl Cutter {
 fn put(bytes: &mut [u8; 256], at: usize, piece: &[u8]) -> usize
     requires { at + length piece.now ≤ 256 }
     ensures end { result ≡ at + length piece.now }
-    ensures front { take (at + length piece.now) bytes.new ≡ take at bytes.old ++ piece.now }
+    ensures prefix { take (at + length piece.now) bytes.new ≡ take at bytes.old ++ piece.now }
 {
     let end = at + piece.len();
     bytes[at..end].copy_from_slice(piece);

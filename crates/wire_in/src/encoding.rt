@@ -142,7 +142,7 @@ fn put_indication(
     put(into, at, &[unmatched_byte(unmatched)])
 }
 
-/// Writes a record's frame at the front of a buffer, and answers its length. The other bytes are kept. What is written
+/// Writes a record's frame into a prefix of a buffer, and answers its length. The other bytes are kept. What is written
 /// decodes to the record.
 pub fn encode(x: &Record, into: &mut [u8; 64]) -> usize
     requires { InRange x.now }

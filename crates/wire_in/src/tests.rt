@@ -69,7 +69,7 @@ fn index_tick() -> Result<Record, Fail> {
     })
 }
 
-/// The record of a body that has other bytes at a place.
+/// The record of a body that has other bytes at an offset.
 fn changed(body: &[u8], at: usize, bytes: &[u8]) -> Result<Record, Refusal> {
     let mut all = [0; 35];
     for (to, from) in all.iter_mut().zip(body) {

@@ -8,4 +8,4 @@ pub returns-clause-goes_on : goal.returns-clause-goes_on
 returns-clause-goes_on c =
     let taken = take (c.fill-begun.result + c.fill.result) c.args.piece.now in
     let bytes : c.fill.new.self ≡ pending c.args.self.now ++ taken = grind (arith, common_steps) in
-    λ read behind. take_on read c.args.self.now taken c.fill.new.self bytes c.is_frame.ensures.front behind
+    λ read behind. take_on read c.args.self.now taken c.fill.new.self bytes c.is_frame.ensures.prefix behind
