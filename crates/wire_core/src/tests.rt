@@ -63,7 +63,7 @@ fn names_are_visible_characters_and_then_zeros(rt: HostRuntime) {
 }
 
 #[test]
-fn what_is_put_stands_at_its_place(rt: HostRuntime) {
+fn what_is_put_stands_at_its_offset(rt: HostRuntime) {
     let mut buffer = [0xee; 64];
     assert_eq!(rt; put(&mut buffer, 1, &[1, 2]), 3);
     assert_eq!(rt; put_u16(&mut buffer, 3, 0x0304), 5);

@@ -1,4 +1,4 @@
--- The frame that a body spells, or none. Numbers are unsigned and big-endian. Places count from the type byte.
+-- The frame that a body spells, or none. Numbers are unsigned and big-endian. Offsets count from the type byte.
 use Rattle.std.specs.Prelude.{ℕ, ◌==◌, nat_lt, if◌then◌else◌, List, [], ◌∷◌, length, slice_index, Option, Some, None}
 use Rattle.std.specs.Int.{w16, w64}
 use Rattle.wire_core.specs.Fields.{number, checked, moment_at, price_at, index_at}
