@@ -28,7 +28,7 @@ visible_more x xs ys is rest = take_while-cons is_visible x xs ∙ (ap (λ b. co
 six_named : (a b c d e : ℕ) → is_visible a ≡ true → is_visible b ≡ true → is_visible c ≡ true → is_visible d ≡ true → is_visible e ≡ true
     → is_name (83 ∷ a ∷ b ∷ c ∷ d ∷ e ∷ 0 ∷ 0 ∷ []) ≡ true
 six_named a b c d e pa pb pc pd pe =
-    ap (λ (front : List ℕ). nat_lt 0 (length front) && list_all (λ byte. byte == 0) (drop (length front) (83 ∷ a ∷ b ∷ c ∷ d ∷ e ∷ 0 ∷ 0 ∷ [])))
+    ap (λ (prefix : List ℕ). nat_lt 0 (length prefix) && list_all (λ byte. byte == 0) (drop (length prefix) (83 ∷ a ∷ b ∷ c ∷ d ∷ e ∷ 0 ∷ 0 ∷ [])))
     (visible_more 83 (a ∷ b ∷ c ∷ d ∷ e ∷ 0 ∷ 0 ∷ []) (a ∷ b ∷ c ∷ d ∷ e ∷ []) refl
     (visible_more a (b ∷ c ∷ d ∷ e ∷ 0 ∷ 0 ∷ []) (b ∷ c ∷ d ∷ e ∷ []) pa
     (visible_more b (c ∷ d ∷ e ∷ 0 ∷ 0 ∷ []) (c ∷ d ∷ e ∷ []) pb

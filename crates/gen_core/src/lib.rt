@@ -15,7 +15,7 @@ mod tally;
 mod tests;
 
 pub use generator::Generator;
-pub use law::a_day_by_places;
+pub use law::a_day_by_indexes;
 pub use plan::DayPlan;
 pub use send::send_day;
 pub use summary::send_summary;

@@ -158,7 +158,7 @@ fn a_day_without_records_is_the_day_and_its_listings(rt: HostRuntime) -> Result<
     Ok(())
 }
 
-/// Whether the record is the one that the script draws at that place of the usual day.
+/// Whether the record is the one that the script draws at that index of the usual day.
 fn is_drawn(index: u32, record: &Record) -> bool {
     let nanos = record.moment().nanos();
     match (index, *record) {

@@ -2,7 +2,7 @@ use Rattle.std.proofs.Common.{◌≡◌, suc, ◌+◌, ◌-◌, ap, ◌∙◌, a
 use Rattle.std.specs.Prelude.{Some}
 use Rattle.gen_core.specs.Generated.{listing}
 use Rattle.gen_core.proofs.Listed.{begins_with_day, has_listing, has_session_record}
-use Rattle.gen_core.proofs.law.a_day_by_places.Goals as goal
+use Rattle.gen_core.proofs.law.a_day_by_indexes.Goals as goal
 
 pub returns-clause-day : goal.returns-clause-day
 returns-clause-day c plan = begins_with_day plan
