@@ -181,7 +181,7 @@ gives_kept kind line rest last unit is kept =
 
 -- or nothing was kept of it
 pub gives_whole : (kind : Kind) (line rest last : List ℕ) → line ≡ take 256 rest → line ≡ [] → output_of Pack kind last ≡ output_of Pack kind (rest ++ last)
-gives_whole kind line rest last is empty = ap (λ (front : List ℕ). output_of Pack kind (front ++ last)) (sym (none_left line rest is empty)) where
+gives_whole kind line rest last is empty = ap (λ (prefix : List ℕ). output_of Pack kind (prefix ++ last)) (sym (none_left line rest is empty)) where
   none_left : (line rest : List ℕ) → line ≡ take 256 rest → line ≡ [] → rest ≡ []
   none_left line [] is empty = refl
   none_left line (b ∷ rest) is empty = absurd (omega (arith, ap length (sym is ∙ empty)))

@@ -13,7 +13,7 @@ use Rattle.text_core.specs.Streams.{units_of, rest_of, text_of, text_for}
 use Rattle.text_core.specs.InternalStreams.{Begins, Reads}
 use Rattle.text_core.proofs.Answering.{answers_same}
 use Rattle.stream_core.proofs.Asking.{no_ask}
-use Rattle.text_core.proofs.Reading.{Polls, within_front}
+use Rattle.text_core.proofs.Reading.{Polls, within_prefix}
 use Rattle.stream_core.proofs.Sending.{sends_none, sends_longer}
 
 abbrev pub fresh : Translator
@@ -46,13 +46,13 @@ reads_none task kind sent = record {
 pub polls_none : (task : Task) (kind : Kind) (input : List ℕ) (most : ℕ) (translator : Translator) (now : Outside) → ((image bytes : List ℕ) → now.leaves now.moment image bytes → Agrees now.sent bytes)
     → now.input ≡ Some input → translator ≡ fresh → Polls task kind now.sent input most 0 true translator now now
 polls_none task kind input most translator now sent_now is is_fresh =
-    let front = within_front task most input kind 0 (omega arith) in
+    let prefix = within_prefix task most input kind 0 (omega arith) in
     let reads : Reads task kind now.sent (take 0 input) translator now.sent = subst (λ (t : Translator). Reads task kind now.sent [] t now.sent) (sym is_fresh) (reads_none task kind now.sent) in
     record {
       reads = reads;
       input_left = is;
       there = omega arith;
-      moments = sends_longer _ front.more _ front.whole (sends_none now sent_now _ _ reads.answers.pending_is);
+      moments = sends_longer _ prefix.more _ prefix.whole (sends_none now sent_now _ _ reads.answers.pending_is);
       prompt = no_ask (text_for task kind) now.sent input refl;
       end = λ closed. absurd (true≢false closed);
     }

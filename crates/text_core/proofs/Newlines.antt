@@ -18,11 +18,11 @@ first_other b n bytes none = elim (eqb_tells b 10) [
 later_none : (b n : ℕ) (bytes : List ℕ) → HasNone (b ∷ bytes) (suc n) → HasNone bytes n
 later_none b n bytes none = λ k low high passes. none (suc k) (omega arith) (omega (arith, high)) passes
 
-front_line : (n : ℕ) (bytes : List ℕ) → n < length bytes → HasNone bytes n → IsOneLine (take n bytes)
-front_line zero bytes short none = refl
-front_line (suc n) [] short none = refl
-front_line (suc n) (b ∷ bytes) short none =
-    rw (first_other b n bytes none) (front_line n bytes (omega (arith, short)) (later_none b n bytes none))
+prefix_line : (n : ℕ) (bytes : List ℕ) → n < length bytes → HasNone bytes n → IsOneLine (take n bytes)
+prefix_line zero bytes short none = refl
+prefix_line (suc n) [] short none = refl
+prefix_line (suc n) (b ∷ bytes) short none =
+    rw (first_other b n bytes none) (prefix_line n bytes (omega (arith, short)) (later_none b n bytes none))
 
 whole_line : (bytes : List ℕ) → HasNone bytes (length bytes) → IsOneLine bytes
 whole_line [] none = refl
@@ -44,7 +44,7 @@ module _ (bytes : List ℕ) where
 
   pub found_line : (r : Option ℕ) → IsFirstByte (is_byte 10) bytes r → IfSome r (λ n. IsOneLine (take n bytes))
   found_line None first = tt
-  found_line (Some n) first = front_line n bytes first.0.high first.0.before
+  found_line (Some n) first = prefix_line n bytes first.0.high first.0.before
 
   pub found_ended : (r : Option ℕ) → IsFirstByte (is_byte 10) bytes r → IfSome r (λ n. take (n + 1) bytes ≡ take n bytes ++ 10 ∷ [])
   found_ended None first = tt

@@ -53,19 +53,19 @@ visible_ascii (b ∷ bs) h =
     below : (b : ℕ) → is_visible b ≡ true → b < 128
     below b h = grind (arith, nat_tests)
 
-visible_front : (name : List ℕ) → list_all is_visible (take_while is_visible name) ≡ true
-visible_front [] = refl
-visible_front (b ∷ bs) = rw (take_while-cons is_visible b bs) (in_case (is_visible b) (visible_front bs) refl) where
+visible_prefix : (name : List ℕ) → list_all is_visible (take_while is_visible name) ≡ true
+visible_prefix [] = refl
+visible_prefix (b ∷ bs) = rw (take_while-cons is_visible b bs) (in_case (is_visible b) (visible_prefix bs) refl) where
   in_case : (v : Bool) → list_all is_visible (take_while is_visible bs) ≡ true → is_visible b ≡ v → list_all is_visible (cond v (b ∷ take_while is_visible bs) []) ≡ true
   in_case true more e = rw e more
   in_case false more e = refl
 
-pub front_is : (name : List ℕ) → take (visible_count name) name ≡ take_while is_visible name
-front_is name = ap (λ (k : ℕ). take k name) (length-take-le (prefix_len is_visible name) name (prefix_len-le-length is_visible name))
+pub prefix_is : (name : List ℕ) → take (visible_count name) name ≡ take_while is_visible name
+prefix_is name = ap (λ (k : ℕ). take k name) (length-take-le (prefix_len is_visible name) name (prefix_len-le-length is_visible name))
 
 pub name_plain : (name : List ℕ) → IsPlain (name_word name)
 unfolding name_word
-name_plain name = subst IsPlain (sym (front_is name)) (plain _ (visible_front name))
+name_plain name = subst IsPlain (sym (prefix_is name)) (plain _ (visible_prefix name))
 
 -- a text that is read from ASCII is it
 pub ascii_text : {T E : Type 0} (now : T → List ℕ) (Q : E → Type 0) (r : Result T E) (d : T) (bytes : List ℕ) → IsAscii bytes → MatchResult r (λ s. (now s ≡ bytes) × IsUtf8 bytes) (λ e. (IsUtf8 bytes → ⊥) × Q e) → now (result_unwrap_or r d) ≡ bytes

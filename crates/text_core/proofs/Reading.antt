@@ -24,7 +24,7 @@ use Rattle.text_core.specs.InternalStreams.{Answers, Begins, Reads, closed_units
 use Rattle.wire_in.specs.Cutting.{pending}
 use Rattle.text_core.proofs.Answering.{answers_more}
 use Rattle.stream_core.proofs.Pending.{expects_nothing}
-use Rattle.text_core.proofs.Units.{IsFront, lt_tells, units-append, is_bad, still_bad, text_more, text_same}
+use Rattle.text_core.proofs.Units.{IsPrefix, lt_tells, units-append, is_bad, still_bad, text_more, text_same}
 
 pub sends_exchange : {old new : Outside} → OnlySends old new → OnlyExchanges old new
 sends_exchange sends = record { disk = sends.disk; left = sends.left; disk_faults = sends.disk_faults; continues = sends.continues }
@@ -64,10 +64,10 @@ module _ (task : Task) (most : ℕ) (input : List ℕ) where
   ]
 
   -- and so does their text
-  pub within_front : (kind : Kind) (count : ℕ) → count ≤ most → IsFront (text_of task kind (units_of task (take count input))) (text_of task kind (units_within task most input))
-  within_front kind count le =
+  pub within_prefix : (kind : Kind) (count : ℕ) → count ≤ most → IsPrefix (text_of task kind (units_of task (take count input))) (text_of task kind (units_within task most input))
+  within_prefix kind count le =
       let more = within_more count le in
-      subst (λ (u : List (List ℕ)). IsFront (text_of task kind (units_of task (take count input))) (text_of task kind u)) (sym more.1)
+      subst (λ (u : List (List ℕ)). IsPrefix (text_of task kind (units_of task (take count input))) (text_of task kind u)) (sym more.1)
       (text_more task kind (units_of task (take count input)) more.0)
 
   -- where it was read to a bad unit, to its end or to the most bytes
@@ -253,6 +253,6 @@ pub closed_all : {task : Task} {kind : Kind} {begin sent : Option (List ℕ)} {w
 closed_all read true bad closed answers = answers
 closed_all read false bad closed answers = absurd (true≢false (sym closed))
 
-pub closed_front : (task : Task) (kind : Kind) (at_end : Bool) (read : List ℕ) → IsFront (text_of task kind (units_of task read)) (text_of task kind (closed_units task at_end read))
-closed_front task kind true read = text_more task kind (units_of task read) (last_unit task (rest_of task read))
-closed_front task kind false read = record { more = []; whole = append-nil (text_of task kind (units_of task read)) }
+pub closed_prefix : (task : Task) (kind : Kind) (at_end : Bool) (read : List ℕ) → IsPrefix (text_of task kind (units_of task read)) (text_of task kind (closed_units task at_end read))
+closed_prefix task kind true read = text_more task kind (units_of task read) (last_unit task (rest_of task read))
+closed_prefix task kind false read = record { more = []; whole = append-nil (text_of task kind (units_of task read)) }

@@ -159,13 +159,13 @@ module _ (give : List ℕ → Option (List ℕ)) where
       )
 
 -- these are the first of all bytes
-pub record IsFront (front all : List ℕ) : Type 0 where
+pub record IsPrefix (prefix all : List ℕ) : Type 0 where
   pub more : List ℕ
-  pub whole : front ++ more ≡ all
+  pub whole : prefix ++ more ≡ all
 
 module _ (task : Task) (kind : Kind) where
   -- more units give more text
-  pub text_more : (units more : List (List ℕ)) → IsFront (text_of task kind units) (text_of task kind (units ++ more))
+  pub text_more : (units more : List (List ℕ)) → IsPrefix (text_of task kind units) (text_of task kind (units ++ more))
   unfolding text_of
   text_more units more = elim (lt_tells (length (outputs (output_of task kind) units)) (length units)) [
     | inl w ↦ record { more = []; whole = append-nil (concat (outputs (output_of task kind) units)) ∙ sym (ap concat (outputs_bad (output_of task kind) units more w.1)) }
@@ -216,8 +216,8 @@ cut_more rest bytes = elim (leb_tells (length rest) 256) [
 ]
 
 -- the first of some bytes that have room
-pub keep_front : (held bytes : List ℕ) → length held ≤ 256 → held ++ take (min (length bytes) (256 - length held)) bytes ≡ take 256 (held ++ bytes)
-keep_front held bytes fits =
+pub keep_prefix : (held bytes : List ℕ) → length held ≤ 256 → held ++ take (min (length bytes) (256 - length held)) bytes ≡ take 256 (held ++ bytes)
+keep_prefix held bytes fits =
     let full : length held + (256 - length held) ≡ 256 = omega (arith, fits) in
     ap (λ (l : List ℕ). held ++ l) (ap (λ (n : ℕ). take n bytes) (min_comm (length bytes) (256 - length held)) ∙ take_min (256 - length held) bytes)
     ∙ sym (take-append-add held bytes (256 - length held))
@@ -228,7 +228,7 @@ not_false true is = refl
 not_false false is = absurd (true≢false is)
 
 -- more bytes give more text
-pub front_more : (task : Task) (kind : Kind) (xs ys all : List ℕ) → xs ++ ys ≡ all → IsFront (text_of task kind (units_of task xs)) (text_of task kind (units_of task all))
-front_more task kind xs ys all whole =
+pub prefix_more : (task : Task) (kind : Kind) (xs ys all : List ℕ) → xs ++ ys ≡ all → IsPrefix (text_of task kind (units_of task xs)) (text_of task kind (units_of task all))
+prefix_more task kind xs ys all whole =
     let later = units-append task xs ys in
-    subst (λ (u : List (List ℕ)). IsFront (text_of task kind (units_of task xs)) (text_of task kind u)) (sym later.1 ∙ ap (units_of task) whole) (text_more task kind (units_of task xs) later.0)
+    subst (λ (u : List (List ℕ)). IsPrefix (text_of task kind (units_of task xs)) (text_of task kind u)) (sym later.1 ∙ ap (units_of task) whole) (text_more task kind (units_of task xs) later.0)

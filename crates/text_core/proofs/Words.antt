@@ -65,17 +65,17 @@ in_word : (b : ℕ) → is_visible b ≡ true → is_in_word b ≡ true
 in_word b h = grind (arith, nat_tests)
 
 -- a word ends at the next blank
-front_len : (word : List ℕ) (words : List (List ℕ)) → list_all is_visible word ≡ true → prefix_len is_in_word (word ++ further words) ≡ length word
-front_len [] [] h = refl
-front_len [] (next ∷ words) h = refl
-front_len (b ∷ word) words h =
+prefix_length : (word : List ℕ) (words : List (List ℕ)) → list_all is_visible word ≡ true → prefix_len is_in_word (word ++ further words) ≡ length word
+prefix_length [] [] h = refl
+prefix_length [] (next ∷ words) h = refl
+prefix_length (b ∷ word) words h =
     let parts = both (is_visible b) (list_all is_visible word) h in
-    rw (in_word b parts.0, front_len word words parts.1) (omega arith)
+    rw (in_word b parts.0, prefix_length word words parts.1) (omega arith)
 
 first_len : (word : List ℕ) (words : List (List ℕ)) → IsPlain word → word_len (word ++ further words) ≡ length word
 first_len word words h =
     length-take-le (prefix_len is_in_word (word ++ further words)) _ (prefix_len-le-length is_in_word (word ++ further words))
-    ∙ front_len word words h.visible
+    ∙ prefix_length word words h.visible
 
 abbrev pub ArePlain : List (List ℕ) → Type 0
 ArePlain [] = Unit {0}

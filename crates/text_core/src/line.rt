@@ -34,7 +34,7 @@ impl Model for Line {
 fn put(bytes: &mut [u8; 256], at: usize, piece: &[u8]) -> usize
     requires { at + length piece.now ≤ 256 }
     ensures end { result ≡ at + length piece.now }
-    ensures front { take (at + length piece.now) bytes.new ≡ take at bytes.old ++ piece.now }
+    ensures prefix { take (at + length piece.now) bytes.new ≡ take at bytes.old ++ piece.now }
 {
     let end = at + piece.len();
     bytes[at..end].copy_from_slice(piece);

@@ -31,11 +31,10 @@ pub struct Translator {
     pub writer: Writer,
 }
 
-/// The body of a frame that stands whole at the front of a piece, where none was begun before. It is printed where it
-/// lies.
+/// The body of the whole frame that a piece begins with, where none was begun before. It is printed where it lies.
 fn whole_frame<'a>(cutter: &Cutter, piece: &'a [u8]) -> Option<&'a [u8]>
     ensures between { IsSome result → pending cutter.now ≡ [] }
-    ensures front { IfSome result (λ body. framed body.now ≡ take (length body.now + 1) piece.now) }
+    ensures prefix { IfSome result (λ body. framed body.now ≡ take (length body.now + 1) piece.now) }
     ensures within { IfSome result (λ body. length body.now < length piece.now) }
     ensures short { IfSome result (λ body. length body.now ≤ 255) }
 {

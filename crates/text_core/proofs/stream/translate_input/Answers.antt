@@ -8,7 +8,7 @@ use Rattle.text_core.specs.Streams.{units_of, text_of, text_for}
 use Rattle.text_core.proofs.Answering.{reads_same}
 use Rattle.stream_core.proofs.Asking.{no_ask, more_asks}
 use Rattle.text_core.proofs.Beginning.{polls_none, exchanges_none}
-use Rattle.text_core.proofs.Reading.{sends_exchange, exchanges_both, within_front, closed_text, ends_so, answered_by, reads_sent, still_there, piece_is, left_more, none_left, closed_by, open_by, ended_by, cutter_rest}
+use Rattle.text_core.proofs.Reading.{sends_exchange, exchanges_both, within_prefix, closed_text, ends_so, answered_by, reads_sent, still_there, piece_is, left_more, none_left, closed_by, open_by, ended_by, cutter_rest}
 use Rattle.stream_core.proofs.Sending.{sends_on, sends_same}
 use Rattle.stream_core.proofs.Taken.{takes_none, takes_on}
 use Rattle.text_core.proofs.stream.translate_input.Goals as goal
@@ -41,8 +41,8 @@ loop-open-preserved g c =
           let sent = c.in_ok-count.ensures.sent begin _ expects in
           let mid = reads_sent c.exchange.new.outbox (g.H.Host.outside c.exchange.new.host).sent was.reads c.in_ok-count.ensures.empty sent in
           let piece = piece_is input c.loop-open.read was.input_left was.there took in
-          let now = within_front c.args.task c.args.most input c.args.kind c.loop-open.read c.loop-open.invariant.within in
-          let next = within_front c.args.task c.args.most input c.args.kind (c.loop-open.read + n) (omega (arith, c.loop-open.invariant.within, took.within, c.min-room.ensures)) in
+          let now = within_prefix c.args.task c.args.most input c.args.kind c.loop-open.read c.loop-open.invariant.within in
+          let next = within_prefix c.args.task c.args.most input c.args.kind (c.loop-open.read + n) (omega (arith, c.loop-open.invariant.within, took.within, c.min-room.ensures)) in
           record {
             reads = reads_same piece (c.in_ok-feed.ensures.reads begin _ mid);
             input_left = c.feed.ensures.keeps.input ∙ left_more input c.loop-open.read was.input_left was.there took;
@@ -70,7 +70,7 @@ loop-open-preserved g c =
 pub returns-in_err-count-clause-moments : goal.returns-in_err-count-clause-moments
 returns-in_err-count-clause-moments g c = λ input is.
     let was = c.loop-open.invariant.polls input is in
-    let now = within_front c.args.task c.args.most input c.args.kind c.loop-open.read c.loop-open.invariant.within in
+    let now = within_prefix c.args.task c.args.most input c.args.kind c.loop-open.read c.loop-open.invariant.within in
     sends_on was.moments _ now.more now.whole (c.exchange.ensures.moments _ _ was.reads.answers.pending_is)
 
 pub returns-in_err-count-clause-prompt : goal.returns-in_err-count-clause-prompt
@@ -99,8 +99,8 @@ returns-in_err-feed-clause-moments g c = λ input is.
     let begin = (g.H.Host.outside c.args.host.now).sent in
     let mid = reads_sent c.exchange.new.outbox (g.H.Host.outside c.exchange.new.host).sent was.reads c.in_ok-count.ensures.empty (c.in_ok-count.ensures.sent begin _ expects) in
     let piece = piece_is input c.loop-open.read was.input_left was.there took in
-    let now = within_front c.args.task c.args.most input c.args.kind c.loop-open.read c.loop-open.invariant.within in
-    let next = within_front c.args.task c.args.most input c.args.kind (c.loop-open.read + c.in_ok-count.count) (omega (arith, c.loop-open.invariant.within, took.within, c.min-room.ensures)) in
+    let now = within_prefix c.args.task c.args.most input c.args.kind c.loop-open.read c.loop-open.invariant.within in
+    let next = within_prefix c.args.task c.args.most input c.args.kind (c.loop-open.read + c.in_ok-count.count) (omega (arith, c.loop-open.invariant.within, took.within, c.min-room.ensures)) in
     sends_on (sends_on was.moments _ now.more now.whole (c.exchange.ensures.moments begin _ expects)) _ next.more next.whole
     (sends_same _ _ (ap (λ (b : List ℕ). text_of c.args.task c.args.kind (units_of c.args.task b)) piece) (c.feed.ensures.moments begin _ mid))
 

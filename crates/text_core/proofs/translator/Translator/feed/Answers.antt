@@ -9,13 +9,13 @@ use Rattle.text_core.specs.declared.task.Task.{Task}
 use Rattle.text_core.specs.Streams.{units_of, text_of}
 use Rattle.text_core.proofs.Answering.{reads_same, reads_rest}
 use Rattle.stream_core.proofs.Sending.{sends_none, sends_longer, sends_on}
-use Rattle.text_core.proofs.Units.{IsFront, front_more}
+use Rattle.text_core.proofs.Units.{IsPrefix, prefix_more}
 use Rattle.text_core.proofs.translator.Translator.feed.Goals as goal
 
 -- the bytes of a piece that were taken, and those that are left
-front : (task : Task) (kind : Kind) (read piece : List ℕ) (at : ℕ) → IsFront (text_of task kind (units_of task (read ++ take at piece))) (text_of task kind (units_of task (read ++ piece)))
-front task kind read piece at =
-    front_more task kind (read ++ take at piece) (drop at piece) (read ++ piece) (append_assoc read (take at piece) (drop at piece) ∙ ap (λ (b : List ℕ). read ++ b) (take-append-drop at piece))
+prefix : (task : Task) (kind : Kind) (read piece : List ℕ) (at : ℕ) → IsPrefix (text_of task kind (units_of task (read ++ take at piece))) (text_of task kind (units_of task (read ++ piece)))
+prefix task kind read piece at =
+    prefix_more task kind (read ++ take at piece) (drop at piece) (read ++ piece) (append_assoc read (take at piece) (drop at piece) ∙ ap (λ (b : List ℕ). read ++ b) (take-append-drop at piece))
 
 pub loop-at-init : goal.loop-at-init
 loop-at-init g c = record {
@@ -23,7 +23,7 @@ loop-at-init g c = record {
   few = omega arith;
   reads = λ begin read reads. reads_same (sym (append-nil read)) reads;
   moments = λ begin read reads.
-      let more = front_more c.args.task c.args.kind read c.args.piece.now (read ++ c.args.piece.now) refl in
+      let more = prefix_more c.args.task c.args.kind read c.args.piece.now (read ++ c.args.piece.now) refl in
       sends_longer _ more.more _ more.whole (sends_none (g.H.Host.outside c.args.host.now) (g.met.H.Host.sent_now c.args.host.now) _ _ reads.answers.pending_is);
   keeps = sends_nothing _;
   none = no_fault _;
@@ -43,7 +43,7 @@ loop-at-preserved g c =
           (ap (λ (b : List ℕ). (read ++ take at piece) ++ take n b) (take_rest piece at) ∙ append_assoc read (take at piece) (take n (drop at piece)) ∙ ap (λ (b : List ℕ). read ++ b) (sym (take-add at n piece)))
           (c.in_ok-at.ensures.reads begin (read ++ take at piece) (c.loop-at.invariant.reads begin read reads));
       moments = λ begin read reads.
-          let more = front c.args.task c.args.kind read piece at in
+          let more = prefix c.args.task c.args.kind read piece at in
           sends_on (c.loop-at.invariant.moments begin read reads) _ more.more more.whole (c.advance.ensures.moments begin (read ++ take at piece) (c.loop-at.invariant.reads begin read reads));
       keeps = onward c.loop-at.invariant.keeps c.advance.ensures.keeps;
       none = faultless c.loop-at.invariant.none c.in_ok-at.ensures.causes;
@@ -51,7 +51,7 @@ loop-at-preserved g c =
 
 pub returns-in_err-at-clause-moments : goal.returns-in_err-at-clause-moments
 returns-in_err-at-clause-moments g c = λ begin read reads.
-    let more = front c.args.task c.args.kind read c.args.piece.now c.loop-at.at in
+    let more = prefix c.args.task c.args.kind read c.args.piece.now c.loop-at.at in
     sends_on (c.loop-at.invariant.moments begin read reads) _ more.more more.whole (c.advance.ensures.moments begin _ (c.loop-at.invariant.reads begin read reads))
 
 pub returns-in_err-at-clause-keeps : goal.returns-in_err-at-clause-keeps

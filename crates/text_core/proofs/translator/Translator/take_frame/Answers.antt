@@ -10,7 +10,7 @@ returns-in_err-answer-clause-moments g c = λ begin read reads. c.answer.ensures
 pub returns-in-Some-clause-reads : goal.returns-in-Some-clause-reads
 returns-in-Some-clause-reads g c = λ begin read reads.
     let between = c.in-Some.ensures.between refl in
-    reads_whole read _ c.in-Some.body.now (sym (frame_begun reads c.requires.open) ∙ between) c.in-Some.ensures.front between
+    reads_whole read _ c.in-Some.body.now (sym (frame_begun reads c.requires.open) ∙ between) c.in-Some.ensures.prefix between
     (c.in_ok-answer.ensures.answers begin _ reads.answers)
 
 pub returns-in-Some-clause-moments : goal.returns-in-Some-clause-moments
