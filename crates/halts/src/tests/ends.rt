@@ -91,7 +91,7 @@ fn what_was_read_before_a_failed_read_is_answered(rt: HostRuntime) -> Result<(),
 }
 
 #[test]
-fn a_failed_send_leaves_the_front_of_the_answers(rt: HostRuntime) -> Result<(), Fail> {
+fn a_failed_send_leaves_a_prefix_of_the_answers(rt: HostRuntime) -> Result<(), Fail> {
     let disk = fresh(&rt)?;
     let input = Session::of(rt.alloc(), &fall())?.input;
     // A failed greeting, and then the answers to one piece each.

@@ -80,7 +80,7 @@ impl Refusals {
         Ok(())
     }
 
-    /// A frame of a body that has other bytes at a place.
+    /// A frame of a body that has other bytes at an offset.
     fn change<R: Abort + AllocGlobal>(
         &mut self,
         rt: &R,
@@ -93,7 +93,7 @@ impl Refusals {
         self.add(rt, &changed, refusal)
     }
 
-    /// A frame of a body whose bytes are ones from a place on, so that each field there with a range is outside of it; and
+    /// A frame of a body whose bytes are ones from an offset on, so that each field there with a range is outside of it; and
     /// such frames with a bad length, which comes before a bad field, and with an unknown type, which comes before both.
     fn spoil<R: Abort + AllocGlobal>(
         &mut self,
@@ -130,7 +130,7 @@ impl Refusals {
     }
 }
 
-/// A body with other bytes at a place.
+/// A body with other bytes at an offset.
 fn overwritten(alloc: Global, body: &[u8], at: usize, bytes: &[u8]) -> Result<Vec<u8>, Fail> {
     let mut all = Vec::from_slice(alloc, body)?;
     for (i, byte) in bytes.iter().enumerate() {
