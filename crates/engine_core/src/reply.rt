@@ -238,7 +238,7 @@ fn refuse<H: Host>(
     ensures fault { IfErr result (λ fault. fault ≡ Fault.Send) }
 {
     let frame = Frame::Refused {
-        place: number,
+        frame_number: number,
         code: refusal.code(),
         field: refusal.field(),
     };

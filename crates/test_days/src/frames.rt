@@ -165,7 +165,7 @@ impl Session {
     fn add_refusal(&mut self, refusal: Refusal) -> Result<(), BadLine> {
         self.owes_ack = false;
         self.publish(&Frame::Refused {
-            place: self.frames,
+            frame_number: self.frames,
             code: refusal.code(),
             field: refusal.field(),
         })

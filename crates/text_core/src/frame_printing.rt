@@ -191,14 +191,14 @@ fn write_ack(line: &mut Line, input: u64)
     line.number(input);
 }
 
-fn write_refused(line: &mut Line, place: u64, code: u8, field: u8)
+fn write_refused(line: &mut Line, frame_number: u64, code: u8, field: u8)
     requires empty { line.old ≡ [] }
-    ensures types { HasTypes (frames.Refused place code field) }
-    ensures text { line.new ≡ line_of_frame (frames.Refused place code field) }
+    ensures types { HasTypes (frames.Refused frame_number code field) }
+    ensures text { line.new ≡ line_of_frame (frames.Refused frame_number code field) }
     ensures short { length line.new ≤ 240 }
 {
     line.begin("refused");
-    line.number(place);
+    line.number(frame_number);
     line.number(u64::from(code));
     line.number(u64::from(field));
 }
@@ -218,7 +218,11 @@ pub fn write_frame(line: &mut Line, f: &Frame)
             write_message(line, stamped.message);
         }
         Frame::Ack { input } => write_ack(line, input),
-        Frame::Refused { place, code, field } => write_refused(line, place, code, field),
+        Frame::Refused {
+            frame_number,
+            code,
+            field,
+        } => write_refused(line, frame_number, code, field),
     }
 }
 

@@ -150,7 +150,7 @@ fn refused(line: &[u8]) -> Option<Frame>
     let code = number8(word(line, 2))?;
     let field = number8(word(line, 3))?;
     Some(Frame::Refused {
-        place: number(word(line, 1)),
+        frame_number: number(word(line, 1)),
         code,
         field,
     })
@@ -209,7 +209,11 @@ fn is_in_range(f: &Frame) -> bool
     match *f {
         Frame::Hello { .. } => true,
         Frame::Ack { input } => input > 0,
-        Frame::Refused { place, code, field } => place > 0 && is_refusal(code, field),
+        Frame::Refused {
+            frame_number,
+            code,
+            field,
+        } => frame_number > 0 && is_refusal(code, field),
         Frame::Numbered { number, stamped } => number > 0 && is_sayable(stamped.message),
     }
 }

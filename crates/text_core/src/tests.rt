@@ -228,7 +228,7 @@ fn the_lines_of_answers(rt: HostRuntime) {
         (
             "refused 12 3 7",
             Frame::Refused {
-                place: 12,
+                frame_number: 12,
                 code: 3,
                 field: 7,
             },

@@ -223,10 +223,14 @@ fn refused(body: &[u8]) -> Option<Frame>
     if body.len() != 11 {
         return None;
     }
-    let place = count_at(body, 1)?;
+    let frame_number = count_at(body, 1)?;
     let code = code_of_byte(body[9])?;
     let field = field_of_byte(code, body[10])?;
-    Some(Frame::Refused { place, code, field })
+    Some(Frame::Refused {
+        frame_number,
+        code,
+        field,
+    })
 }
 
 #[tactic(auto, unfolding(crate::specs::Reading::frame_of))]

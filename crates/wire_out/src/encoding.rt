@@ -191,11 +191,11 @@ fn put_ack(into: &mut [u8; 64], input: u64) -> usize
     put_u64(into, at, input)
 }
 
-fn put_refused(into: &mut [u8; 64], place: u64, code: u8, field: u8) -> usize
-    ensures { Frames (framed (body_of (frames.Refused place code field))) into.old result into.new }
+fn put_refused(into: &mut [u8; 64], frame_number: u64, code: u8, field: u8) -> usize
+    ensures { Frames (framed (body_of (frames.Refused frame_number code field))) into.old result into.new }
 {
     let at = put(into, 0, &[11, 0x83]);
-    let at = put_u64(into, at, place);
+    let at = put_u64(into, at, frame_number);
     put(into, at, &[code, field])
 }
 
@@ -213,7 +213,11 @@ fn put_any(f: &Frame, into: &mut [u8; 64]) -> usize
             stamped.message,
         ),
         Frame::Ack { input } => put_ack(into, input),
-        Frame::Refused { place, code, field } => put_refused(into, place, code, field),
+        Frame::Refused {
+            frame_number,
+            code,
+            field,
+        } => put_refused(into, frame_number, code, field),
     }
 }
 

@@ -73,12 +73,24 @@ pub struct Stamped {
 #[derive(Clone, Copy, Debug, PartialEq, Eq)]
 pub enum Frame {
     /// How many records were accepted and how many messages were numbered before this session.
-    Hello { inputs: u64, messages: u64 },
+    Hello {
+        inputs: u64,
+        messages: u64,
+    },
     /// A message with its number, from 1 on.
-    Numbered { number: u64, stamped: Stamped },
+    Numbered {
+        number: u64,
+        stamped: Stamped,
+    },
     /// The record of that number, from 1 on, is accepted.
-    Ack { input: u64 },
+    Ack {
+        input: u64,
+    },
     /// The frame of that number in the input, from 1 on, is refused. The code is from 1 to 9; field is the field that is
     /// refused, from 1 to 7, where the code is 3, and else 0.
-    Refused { place: u64, code: u8, field: u8 },
+    Refused {
+        frame_number: u64,
+        code: u8,
+        field: u8,
+    },
 }

@@ -101,7 +101,7 @@ fn frames_without_a_number(rt: HostRuntime) {
     assert!(rt; is_body_of(HELLO, hello));
     assert!(rt; is_body_of(ACK, Frame::Ack { input: 1 }));
     let refused = Frame::Refused {
-        place: 1,
+        frame_number: 1,
         code: 2,
         field: 0,
     };

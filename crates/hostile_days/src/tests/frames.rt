@@ -70,7 +70,7 @@ impl Refusals {
         self.input.extend_from_slice(body)?;
         self.count = self.count.saturating_add(1);
         let answer = Frame::Refused {
-            place: self.count,
+            frame_number: self.count,
             code: refusal.code(),
             field: refusal.field(),
         };
