@@ -13,7 +13,7 @@ use Rattle.wire_out.specs.declared.message.Stamped.{Stamped}
 use Rattle.symbol_core.specs.declared.symbol.MarketView.{MarketView}
 use Rattle.rulebook.specs.declared.event.Event.{Event}
 use Rattle.rulebook.proofs.Ids.{same_id}
-use Rattle.symbol_core.specs.Rests.{Held, Rests}
+use Rattle.symbol_core.specs.Rests.{Rests, SymbolState}
 use Rattle.symbol_core.specs.Silent.{SaysNothing}
 use Rattle.market_core.specs.declared.lead.Today.{Today}
 use Rattle.market_core.specs.Applied.{Appends, AppendsBelow, AppendsOne, OneEvaluated, Evaluated, Ticks, ByTarget, Applies, Finds, Lists, OnToday}
@@ -45,14 +45,14 @@ at_each P s is xs at here others k x e = by (k == s) refl where
       subst (P k) element (subst (λ (j : ℕ). P j is) (sym index) here)
   by false apart = others k x apart e
 
-below_set : (n : ℕ) (market : MarketView) (x : Record) (old new : List Held) (i : ℕ) (v : Held) (before after : List Stamped) → n ≤ i
+below_set : (n : ℕ) (market : MarketView) (x : Record) (old new : List SymbolState) (i : ℕ) (v : SymbolState) (before after : List Stamped) → n ≤ i
     → AppendsBelow n market x old new before after → AppendsBelow n market x old (slice_set new i v) before after
 below_set zero market x old new i v before after le t = t
 below_set (suc n) market x old new i v before after le (middle, earlier, last) =
     (middle, below_set n market x old new i v before middle (omega arith) earlier, record { was = last.was; is = last.is; found = last.found; left = get-set_other new i v n (omega arith) ∙ last.left; appends = last.appends })
 
 -- the next symbol, where the code has it as the element at its index
-pub one_more : (r : Result (Unit {0}) NoMemory) (y : Unit {0}) (i : ℕ) (market : MarketView) (x : Record) (old new : List Held) (d is : Held) (before middle after : List Stamped) → i < length new
+pub one_more : (r : Result (Unit {0}) NoMemory) (y : Unit {0}) (i : ℕ) (market : MarketView) (x : Record) (old new : List SymbolState) (d is : SymbolState) (before middle after : List Stamped) → i < length new
     → ((k : ℕ) → i ≤ k → slice_get new k ≡ slice_get old k) → AppendsBelow i market x old new before middle
     → r ≡ Ok y → OnOk r (Appends market x (get_or new i d) is middle after) → AppendsBelow (i + 1) market x old (slice_set new i is) before after
 one_more (Ok u) y i market x old new d is before middle after lt later earlier e appends =
@@ -61,11 +61,11 @@ one_more (Ok u) y i market x old new d is before middle after lt later earlier e
     (middle, below_set i market x old new i is before middle (omega arith) earlier, record { was = get_or new i d; is = is; found = sym (later i (omega arith)) ∙ here; left = get-set_same new i is lt; appends = appends })
 one_more (Err u) y i market x old new d is before middle after lt later earlier e appends = absurd cc
 
-pub later_more : (i : ℕ) (old new : List Held) (is : Held) → ((k : ℕ) → i ≤ k → slice_get new k ≡ slice_get old k) → (k : ℕ) → i + 1 ≤ k → slice_get (slice_set new i is) k ≡ slice_get old k
+pub later_more : (i : ℕ) (old new : List SymbolState) (is : SymbolState) → ((k : ℕ) → i ≤ k → slice_get new k ≡ slice_get old k) → (k : ℕ) → i + 1 ≤ k → slice_get (slice_set new i is) k ≡ slice_get old k
 later_more i old new is later k le = get-set_other new i is k (omega arith) ∙ later k (omega arith)
 
 -- one symbol of a market is evaluated, and the others are left as they were
-pub one_evaluated : (r : Result (Unit {0}) NoMemory) (s : ℕ) (x : Record) (old : MarketState) (directory : List (List ℕ)) (on : Option Today) (symbols with : List Held) (market : MarketView)
+pub one_evaluated : (r : Result (Unit {0}) NoMemory) (s : ℕ) (x : Record) (old : MarketState) (directory : List (List ℕ)) (on : Option Today) (symbols with : List SymbolState) (market : MarketView)
     (begun before after : List Stamped) → record { directory = directory; today = on; symbols = symbols } ≡ old → option_map view_of on ≡ Some market
     → begun ≡ before → OnOk r (AppendsOne s market x symbols with begun after)
     → OnOk r (Evaluated s x old (record { directory = directory; today = on; symbols = with }) before after)
@@ -137,13 +137,13 @@ get-last [] y z (suc k) le e = absurd cc
 get-last (x ∷ xs) y z zero le e = absurd (omega arith)
 get-last (x ∷ xs) y z (suc k) le e = let rest = get-last xs y z k (omega arith) e in (ap suc rest.0, rest.1)
 
-pub makes : (name : List ℕ) (id index : ℕ) (old : MarketState) (directory with_name : List (List ℕ)) (on : Option Today) (symbols with_symbol : List Held) (held : Held)
+pub makes : (name : List ℕ) (id index : ℕ) (old : MarketState) (directory with_name : List (List ℕ)) (on : Option Today) (symbols with_symbol : List SymbolState) (held : SymbolState)
     → record { directory = directory; today = on; symbols = symbols } ≡ old → position (bytes_eq name) old.directory ≡ None → length symbols ≡ length directory → id ≡ length directory → index ≡ length directory
     → held.kept.id ≡ index → ((own : List ℕ → Bool) (h : List Event) → SaysNothing own index h → Rests own held h) → with_name ≡ directory ++ name ∷ []
     → with_symbol ≡ symbols ++ held ∷ []
     → Finds name id old (record { directory = with_name; today = on; symbols = with_symbol })
 makes name id index old directory with_name on symbols with_symbol held seen fresh as_many id_is index_is held_is rests named last =
-    subst (λ (xs : List Held). Finds name id old (record { directory = with_name; today = on; symbols = xs })) (sym last)
+    subst (λ (xs : List SymbolState). Finds name id old (record { directory = with_name; today = on; symbols = xs })) (sym last)
     (subst (λ (k : MarketState). Finds name id k (record { directory = with_name; today = on; symbols = symbols ++ held ∷ [] })) seen found)
   where
     new : position (bytes_eq name) directory ≡ None
@@ -160,7 +160,7 @@ makes name id index old directory with_name on symbols with_symbol held seen fre
           let at = get-last symbols held other k behind e in
           let is_index : index ≡ k = index_is ∙ sym as_many ∙ sym at.0 in
           record {
-            id = ap (λ (q : Held). q.kept.id) at.1 ∙ held_is ∙ is_index;
-            rests = λ own h nothing. subst (λ (q : Held). Rests own q h) (sym at.1) (rests own h (subst (λ (n : ℕ). SaysNothing own n h) (sym is_index) nothing));
+            id = ap (λ (q : SymbolState). q.kept.id) at.1 ∙ held_is ∙ is_index;
+            rests = λ own h nothing. subst (λ (q : SymbolState). Rests own q h) (sym at.1) (rests own h (subst (λ (n : ℕ). SaysNothing own n h) (sym is_index) nothing));
           };
     }

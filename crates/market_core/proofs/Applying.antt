@@ -34,7 +34,7 @@ use Rattle.rulebook.proofs.Lawful.{passes}
 use Rattle.rulebook.proofs.OtherRecords.{day_record-same, names-same}
 use Rattle.rulebook.proofs.Positions.{is_some-position}
 use Rattle.rulebook.proofs.OfSymbol.{AllOfSymbols, of_symbol, own_part-by, by_other, parts-of_symbols, greatest-publish, market_halt-publish}
-use Rattle.symbol_core.specs.Rests.{Held, Rests}
+use Rattle.symbol_core.specs.Rests.{Rests, SymbolState}
 use Rattle.symbol_core.specs.Silent.{SaysNothing}
 use Rattle.market_core.specs.declared.lead.Today.{Today}
 use Rattle.market_core.specs.AdmissionState.{lacks_room, added}
@@ -273,11 +273,11 @@ found-stand A name s old middle stands f =
     less : (a b : ℕ) → nat_le a b ≡ false → b < a
     less a b e = grind (arith, nat_tests)
 
-    id_one : (k : ℕ) (held : Held) → slice_get middle.symbols k ≡ Some held → (later : Bool) → nat_le (length old.symbols) k ≡ later → held.kept.id ≡ k
+    id_one : (k : ℕ) (held : SymbolState) → slice_get middle.symbols k ≡ Some held → (later : Bool) → nat_le (length old.symbols) k ≡ later → held.kept.id ≡ k
     id_one k held e true later = (f.later k held (at_least (length old.symbols) k later) e).id
     id_one k held e false later = stands.symbols.ids k held (sym (f.earlier k (less (length old.symbols) k later)) ∙ e)
 
-    rests_one : (k : ℕ) (held : Held) → slice_get middle.symbols k ≡ Some held → (later : Bool) → nat_le (length old.symbols) k ≡ later → Rests (named A k).own held (history A)
+    rests_one : (k : ℕ) (held : SymbolState) → slice_get middle.symbols k ≡ Some held → (later : Bool) → nat_le (length old.symbols) k ≡ later → Rests (named A k).own held (history A)
     rests_one k held e true later =
         let behind : length (names A) ≤ k = subst (λ (n : ℕ). n ≤ k) stands.count (at_least (length old.symbols) k later) in
         (f.later k held (at_least (length old.symbols) k later) e).rests (named A k).own (history A) (stands.others k behind)
@@ -363,7 +363,7 @@ tick_goes capacity x A old new before after no_day tick same stands passed ticks
     told : ToldBelow n x A new.symbols (before ++ stamped t (ruling x (day_of A d))) after
     told = told_below n x A d (view_of (ruled x (day_of A d))) old.symbols new.symbols (before ++ stamped t (ruling x (day_of A d))) after ticked stands.symbols each.appends
 
-    within : (k : ℕ) (held : Held) → slice_get new.symbols k ≡ Some held → k < n
+    within : (k : ℕ) (held : SymbolState) → slice_get new.symbols k ≡ Some held → k < n
     within k held e = subst (λ (m : ℕ). k < m) each.count (slice_get_within new.symbols k held e)
 
 -- A day.
@@ -372,7 +372,7 @@ day_goes : (t : ℕ) (day : Day) (c : ℕ) (A : List Record) (old new : MarketSt
     → EachEvaluated (record { day = day; breaker = started c }) (in_.Day t day c) old new before after → Goes (in_.Day t day c) A new before after
 day_goes t day c A old new before after stands each =
     let told = day_below (length old.symbols) t day c A (view_of (record { day = day; breaker = started c })) old.symbols new.symbols before after stands.symbols each.appends in
-    let within : (k : ℕ) (held : Held) → slice_get new.symbols k ≡ Some held → k < length old.symbols = λ k held e. subst (λ (m : ℕ). k < m) each.count (slice_get_within new.symbols k held e) in (
+    let within : (k : ℕ) (held : SymbolState) → slice_get new.symbols k ≡ Some held → k < length old.symbols = λ k held e. subst (λ (m : ℕ). k < m) each.count (slice_get_within new.symbols k held e) in (
       told.items ∙ sym (append-nil before),
       record {
         directory = each.directory ∙ stands.directory;

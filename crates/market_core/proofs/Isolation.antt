@@ -31,7 +31,7 @@ use Rattle.rulebook.proofs.OtherRecords.{day_record-same}
 use Rattle.rulebook.proofs.OfSymbol.{AllOfSymbols, NoneBy, NoneBy-append, by_market, greatest-publish, market_halt-publish, market_part-by, of_symbol, own_part-by, parts-below, parts-of_symbols}
 use Rattle.symbol_core.specs.declared.symbol.MarketView.{MarketView}
 use Rattle.symbol_core.specs.Evaluates.{Opens, part_of, step_of}
-use Rattle.symbol_core.specs.Rests.{Held, Rests}
+use Rattle.symbol_core.specs.Rests.{Rests, SymbolState}
 use Rattle.symbol_core.specs.Silent.{IsOfOthers}
 use Rattle.symbol_core.proofs.Resting.{rests-new}
 use Rattle.symbol_core.proofs.Twins.{Alike, Twins, twins-day, twins-step}
@@ -204,7 +204,7 @@ part-isolated s x A d ms k =
     (ap day_record (records-publish ms (opened_alone x s A)) ∙ day_record-same x (records (solo s A)) k.no_day ∙ k.isolated)
 
 -- the kept state is ready for the record in both
-record Ready (s : ℕ) (x : Record) (A : List Record) (d : Day × ℕ) (others more : List Message) (held : Held) : Type 0 where
+record Ready (s : ℕ) (x : Record) (A : List Record) (d : Day × ℕ) (others more : List Message) (held : SymbolState) : Type 0 where
   pub market : MarketView
   pub day : market.day ≡ d.0
   pub whole : Opens (named (x ∷ A) s).own held market x others (history A)
@@ -342,7 +342,7 @@ another_goes s x A d no_tick apart e so k a =
     H : List Event
     H = opened x A
 
-    held : Held
+    held : SymbolState
     held = so.twins.held
 
     view_is : view (x ∷ A) s ≡ view A s

@@ -24,7 +24,7 @@ use Rattle.rulebook.proofs.OtherRecords.{leaves}
 use Rattle.rulebook.proofs.OfSymbol.{AllBy, NoneBy, NoneBy-append, by_market, by_other, all_obeyed-by, rules_speak, market_part-by, parts-append, parts-below, parts-of_symbols, market_halt-publish}
 use Rattle.symbol_core.specs.declared.symbol.MarketView.{MarketView}
 use Rattle.symbol_core.specs.Evaluates.{Opens, open_history, part_of}
-use Rattle.symbol_core.specs.Rests.{Held, Rests}
+use Rattle.symbol_core.specs.Rests.{Rests, SymbolState}
 use Rattle.symbol_core.specs.Stands as symbol
 use Rattle.market_core.specs.Applied.{AppendsAt, AppendsBelow}
 use Rattle.market_core.specs.MarketState.{SymbolsRepresent}
@@ -128,12 +128,12 @@ parts-more x A d market n k =
     by false = refl
 
 -- the symbols of the ids below n have been evaluated
-pub record ToldBelow (n : ℕ) (x : Record) (A : List Record) (new : List Held) (before after : List Stamped) : Type 0 where
+pub record ToldBelow (n : ℕ) (x : Record) (A : List Record) (new : List SymbolState) (before after : List Stamped) : Type 0 where
   pub items : after ≡ before ++ stamped (moment_of x) (parts_to n x A)
-  pub ids : (k : ℕ) (held : Held) → k < n → slice_get new k ≡ Some held → held.kept.id ≡ k
-  pub rests : (k : ℕ) (held : Held) → k < n → slice_get new k ≡ Some held → Rests (named (x ∷ A) k).own held (history_to n x A)
+  pub ids : (k : ℕ) (held : SymbolState) → k < n → slice_get new k ≡ Some held → held.kept.id ≡ k
+  pub rests : (k : ℕ) (held : SymbolState) → k < n → slice_get new k ≡ Some held → Rests (named (x ∷ A) k).own held (history_to n x A)
 
-one_told : (n : ℕ) (x : Record) (A : List Record) (d : Day × ℕ) (market : MarketView) (old new : List Held) (before middle after : List Stamped) → Ticked x A d market → SymbolsRepresent old A
+one_told : (n : ℕ) (x : Record) (A : List Record) (d : Day × ℕ) (market : MarketView) (old new : List SymbolState) (before middle after : List Stamped) → Ticked x A d market → SymbolsRepresent old A
     → AppendsAt n market x old new middle after → ToldBelow n x A new before middle → ToldBelow (suc n) x A new before after
 one_told n x A d market old new before middle after tick stand at told =
     record {
@@ -186,7 +186,7 @@ one_told n x A d market old new before middle after tick stand at told =
         (subst (λ (ms : List Message). Rests S.own at.is (publish ms (publish (before_id n x A) (opened x A)))) (said-tick x A d market n at.was.kept.id tick id_is)
         (at.appends.evaluates.rests S.own (before_id n x A) (history A) opens))
 
-    rests_other : (k : ℕ) (held : Held) → (k == n) ≡ false → slice_get new k ≡ Some held → k < suc n
+    rests_other : (k : ℕ) (held : SymbolState) → (k == n) ≡ false → slice_get new k ≡ Some held → k < suc n
         → Rests (named (x ∷ A) k).own held (publish said (history_to n x A))
     rests_other k held apart e below =
         let ne : k ≢ n = apart_ids k n apart in
@@ -194,7 +194,7 @@ one_told n x A d market old new before middle after tick stand at told =
         (subst (λ (j : ℕ). NoneBy j said) (sym (told.ids k held (omega arith) e))
         (said_if-by (is_listed (x ∷ A) n) d.0 S x (history_to n x A) k (swap_ids k n apart))) (told.rests k held (omega arith) e)
 
-pub told_below : (n : ℕ) (x : Record) (A : List Record) (d : Day × ℕ) (market : MarketView) (old new : List Held) (before after : List Stamped) → Ticked x A d market → SymbolsRepresent old A
+pub told_below : (n : ℕ) (x : Record) (A : List Record) (d : Day × ℕ) (market : MarketView) (old new : List SymbolState) (before after : List Stamped) → Ticked x A d market → SymbolsRepresent old A
     → AppendsBelow n market x old new before after → ToldBelow n x A new before after
 told_below zero x A d market old new before after tick stand unsaid =
     record { items = unsaid ∙ sym (append-nil before); ids = λ k held below e. absurd (omega arith); rests = λ k held below e. absurd (omega arith) }
@@ -203,12 +203,12 @@ told_below (suc n) x A d market old new before after tick stand (middle, earlier
 
 -- At a day each symbol begins it, and says nothing.
 
-pub record DayBelow (n t : ℕ) (day : Day) (close : ℕ) (A : List Record) (new : List Held) (before after : List Stamped) : Type 0 where
+pub record DayBelow (n t : ℕ) (day : Day) (close : ℕ) (A : List Record) (new : List SymbolState) (before after : List Stamped) : Type 0 where
   pub items : after ≡ before
-  pub ids : (k : ℕ) (held : Held) → k < n → slice_get new k ≡ Some held → held.kept.id ≡ k
-  pub rests : (k : ℕ) (held : Held) → k < n → slice_get new k ≡ Some held → Rests (named A k).own held (Accepted (in_.Day t day close) ∷ history A)
+  pub ids : (k : ℕ) (held : SymbolState) → k < n → slice_get new k ≡ Some held → held.kept.id ≡ k
+  pub rests : (k : ℕ) (held : SymbolState) → k < n → slice_get new k ≡ Some held → Rests (named A k).own held (Accepted (in_.Day t day close) ∷ history A)
 
-one_day : (n t : ℕ) (day : Day) (close : ℕ) (A : List Record) (market : MarketView) (old new : List Held) (before middle after : List Stamped) → SymbolsRepresent old A
+one_day : (n t : ℕ) (day : Day) (close : ℕ) (A : List Record) (market : MarketView) (old new : List SymbolState) (before middle after : List Stamped) → SymbolsRepresent old A
     → AppendsAt n market (in_.Day t day close) old new middle after → DayBelow n t day close A new before middle → DayBelow (suc n) t day close A new before after
 one_day n t day close A market old new before middle after stand at told =
     record {
@@ -221,7 +221,7 @@ one_day n t day close A market old new before middle after stand at told =
           (λ k held apart e below. let ne : k ≢ n = apart_ids k n apart in told.rests k held (omega arith) e) k held e below;
     }
 
-pub day_below : (n t : ℕ) (day : Day) (close : ℕ) (A : List Record) (market : MarketView) (old new : List Held) (before after : List Stamped) → SymbolsRepresent old A
+pub day_below : (n t : ℕ) (day : Day) (close : ℕ) (A : List Record) (market : MarketView) (old new : List SymbolState) (before after : List Stamped) → SymbolsRepresent old A
     → AppendsBelow n market (in_.Day t day close) old new before after → DayBelow n t day close A new before after
 day_below zero t day close A market old new before after stand unsaid = record { items = unsaid; ids = λ k held below e. absurd (omega arith); rests = λ k held below e. absurd (omega arith) }
 day_below (suc n) t day close A market old new before after stand (middle, earlier, at) =

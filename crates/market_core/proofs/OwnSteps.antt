@@ -21,7 +21,7 @@ use Rattle.rulebook.proofs.OtherRecords.{day_record-same}
 use Rattle.rulebook.proofs.OfSymbol.{NoneBy, by_other, own_part-by}
 use Rattle.symbol_core.specs.declared.symbol.MarketView.{MarketView}
 use Rattle.symbol_core.specs.Evaluates.{Opens, part_of, step_of}
-use Rattle.symbol_core.specs.Rests.{Held, Rests}
+use Rattle.symbol_core.specs.Rests.{Rests, SymbolState}
 use Rattle.symbol_core.specs.Silent.{IsOfOthers}
 use Rattle.symbol_core.specs.Stands as symbol
 use Rattle.market_core.specs.Applied.{AppendsAt}
@@ -69,7 +69,7 @@ pub record Begun (x : Record) (A : List Record) (d : Day × ℕ) (market : Marke
   pub later : now (history A) ≤ moment_of x
 
 -- a symbol that rests on the history is ready for the record
-pub ready : (x : Record) (A : List Record) (d : Day × ℕ) (market : MarketView) (s : ℕ) (held : Held) (others : List Message) → Begun x A d market others → NoneBy s others → held.kept.id ≡ s
+pub ready : (x : Record) (A : List Record) (d : Day × ℕ) (market : MarketView) (s : ℕ) (held : SymbolState) (others : List Message) → Begun x A d market others → NoneBy s others → held.kept.id ≡ s
     → option_map_or (named (x ∷ A) s).own (name_of x) true ≡ true → Rests (named A s).own held (history A) → Opens (named (x ∷ A) s).own held market x others (history A)
 ready x A d market s held others b none id name r =
     record {
@@ -105,7 +105,7 @@ own_said x A d market s id b no_tick is =
     ∙ ap (λ (t : Bool). cond (t && not (is_some (terms (opened x A) S.own))) [] (step_of d.0 S x (opened x A))) no_tick
     ∙ ap (λ (ms : List Message). said ++ ms) (sym (part-on x S said A d b.no_day b.on))
 
-pub own_symbol : (x : Record) (A : List Record) (d : Day × ℕ) (market : MarketView) (s : ℕ) (old new : List Held) (before after : List Stamped) → Begun x A d market [] → is_tick x ≡ false → target (x ∷ A) x ≡ Some s
+pub own_symbol : (x : Record) (A : List Record) (d : Day × ℕ) (market : MarketView) (s : ℕ) (old new : List SymbolState) (before after : List Stamped) → Begun x A d market [] → is_tick x ≡ false → target (x ∷ A) x ≡ Some s
     → SymbolsRepresent old A → AppendsAt s market x old new before after → ((k : ℕ) → k ≢ s → slice_get new k ≡ slice_get old k)
     → (after ≡ before ++ stamped (moment_of x) (own_part x (named (x ∷ A) s) (opened x A))) × SymbolsRepresent new (x ∷ A)
 own_symbol x A d market s old new before after b no_tick own stand at others = (
@@ -140,7 +140,7 @@ own_symbol x A d market s old new before after b no_tick own stand at others = (
       subst (λ (said : List Message). Rests own_names at.is (publish said (opened x A))) said_is
       (at.appends.evaluates.rests own_names [] (history A) opens)
 
-  rests_other : (k : ℕ) (held : Held) → (k == s) ≡ false → slice_get new k ≡ Some held → Rests (named (x ∷ A) k).own held (publish ms (opened x A))
+  rests_other : (k : ℕ) (held : SymbolState) → (k == s) ≡ false → slice_get new k ≡ Some held → Rests (named (x ∷ A) k).own held (publish ms (opened x A))
   rests_other k held apart e =
       let before_is : slice_get old k ≡ Some held = sym (others k (apart_ids k s apart)) ∙ e in
       let id : held.kept.id ≡ k = stand.ids k held before_is in

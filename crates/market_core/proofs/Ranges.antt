@@ -4,7 +4,7 @@ use Rattle.std.specs.Prelude.{slice_get}
 use Rattle.wire_in.specs.declared.record.Record.{Record}
 use Rattle.wire_out.specs.declared.message.Stamped.{Stamped}
 use Rattle.symbol_core.specs.declared.symbol.MarketView.{MarketView}
-use Rattle.symbol_core.specs.Rests.{Held}
+use Rattle.symbol_core.specs.Rests.{SymbolState}
 use Rattle.market_core.specs.Applied.{AppendsBelow}
 use Rattle.market_core.specs.Ranges.{OneOfARangeIsOneOfAll, RangesInTurnAreAll}
 
@@ -20,7 +20,7 @@ get-behind (x ∷ xs) ys k =
     ap (slice_get (x ∷ xs ++ ys)) (sym place) ∙ get-behind xs ys k
 
 -- the stocks of a front of all
-widen : (n : ℕ) (market : MarketView) (x : Record) (old new old_rest new_rest : List Held) (before after : List Stamped)
+widen : (n : ℕ) (market : MarketView) (x : Record) (old new old_rest new_rest : List SymbolState) (before after : List Stamped)
     → AppendsBelow n market x old new before after → AppendsBelow n market x (old ++ old_rest) (new ++ new_rest) before after
 widen zero market x old new old_rest new_rest before after unsaid = unsaid
 widen (suc n) market x old new old_rest new_rest before after (middle, earlier, at) = (
@@ -30,7 +30,7 @@ widen (suc n) market x old new old_rest new_rest before after (middle, earlier, 
 )
 
 -- and those of the next range behind them
-behind : (n : ℕ) (market : MarketView) (x : Record) (first first' second second' : List Held) (before middle after : List Stamped) → length first' ≡ length first
+behind : (n : ℕ) (market : MarketView) (x : Record) (first first' second second' : List SymbolState) (before middle after : List Stamped) → length first' ≡ length first
     → AppendsBelow (length first) market x first first' before middle → AppendsBelow n market x second second' middle after
     → AppendsBelow (length first + n) market x (first ++ second) (first' ++ second') before after
 behind zero market x first first' second second' before middle after same earlier unsaid =

@@ -18,7 +18,7 @@ use Rattle.rulebook.proofs.Listings.{among_own}
 use Rattle.rulebook.proofs.OfSymbol.{is_by, NoneBy}
 use Rattle.rulebook.specs.Symbol.{prior_close_of}
 use Rattle.symbol_core.proofs.Resting.{rests-silent, rests-apart}
-use Rattle.symbol_core.specs.Rests.{Held, Rests}
+use Rattle.symbol_core.specs.Rests.{Rests, SymbolState}
 use Rattle.symbol_core.specs.Silent.{IsSilent, AllSilent, IsOfOthers, SaysNothing}
 
 is_silent : (s : ℕ) (m : Message) → is_by s m ≡ false → IsSilent s m
@@ -47,7 +47,7 @@ silent s (m ∷ ms) none = (is_silent s m none.0, silent s ms none.1)
 
 -- Tests of names that agree on the listed ones.
 
-pub rests-agree : (own other : List ℕ → Bool) (held : Held) (h : List Event) → Agree own other (records h) → Rests own held h → Rests other held h
+pub rests-agree : (own other : List ℕ → Bool) (held : SymbolState) (h : List Event) → Agree own other (records h) → Rests own held h → Rests other held h
 rests-agree own other held h e r =
     record {
       terms = r.terms ∙ terms_in-agree own other (records h) e;
@@ -88,10 +88,10 @@ pub says-on : (own other : List ℕ → Bool) (s : ℕ) (x : Record) (ms : List 
 says-on own other s x ms h e apart none n = says-publish other s ms (Accepted x ∷ h) (silent s ms none) (apart, says-agree own other s h e n)
 
 -- what is kept rests on more messages of others
-pub rests-publish : (own : List ℕ → Bool) (held : Held) (ms : List Message) (h : List Event) → NoneBy held.kept.id ms → Rests own held h → Rests own held (publish ms h)
+pub rests-publish : (own : List ℕ → Bool) (held : SymbolState) (ms : List Message) (h : List Event) → NoneBy held.kept.id ms → Rests own held h → Rests own held (publish ms h)
 rests-publish own held ms h none r = rests-silent own held ms h (silent held.kept.id ms none) r
 
-pub rests-on : (own other : List ℕ → Bool) (held : Held) (x : Record) (ms : List Message) (h : List Event) → Agree own other (records h) → IsOfOthers other held.kept.id x → is_day x ≡ false
+pub rests-on : (own other : List ℕ → Bool) (held : SymbolState) (x : Record) (ms : List Message) (h : List Event) → Agree own other (records h) → IsOfOthers other held.kept.id x → is_day x ≡ false
     → now h ≤ moment_of x → NoneBy held.kept.id ms → Rests own held h → Rests other held (publish ms (Accepted x ∷ h))
 rests-on own other held x ms h e apart no_day later none r =
     rests-apart other held x ms h no_day apart (silent held.kept.id ms none) later (rests-agree own other held h e r)

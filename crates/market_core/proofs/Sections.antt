@@ -12,7 +12,7 @@ use Rattle.wire_out.specs.declared.message.Message.{Message}
 use Rattle.wire_out.specs.declared.message.Stamped.{Stamped}
 use Rattle.symbol_core.specs.declared.symbol.MarketView.{MarketView}
 use Rattle.symbol_core.specs.Evaluates.{Evaluates}
-use Rattle.symbol_core.specs.Rests.{Held}
+use Rattle.symbol_core.specs.Rests.{SymbolState}
 use Rattle.market_core.specs.declared.since.Since.{Since}
 use Rattle.market_core.specs.Applied.{AppendsBelow, AppendsOne}
 use Rattle.market_core.specs.Sections.{EachIdles, Idles, IdlesUntil, NoneMoves, SectionState}
@@ -20,27 +20,27 @@ use Rattle.market_core.proofs.Appending.{get-before, get-last}
 
 -- An alarm that holds from one moment on holds from a later one on.
 
-pub idles-included : (a b : Since) (alarm : ℕ) (held : Held) → a.from ≤ b.from → a.market ≡ b.market → Idles a.market a.from alarm held → Idles b.market b.from alarm held
+pub idles-included : (a b : Since) (alarm : ℕ) (held : SymbolState) → a.from ≤ b.from → a.market ≡ b.market → Idles a.market a.from alarm held → Idles b.market b.from alarm held
 idles-included a b alarm held le same idles = λ x tick from until said. subst (λ (m : MarketView). Evaluates m x held held said said) same (idles x tick (omega arith) until said)
 
-pub idles-later : (since : Option Since) (s : Since) (t alarm : ℕ) (held : Held) → since ≡ Some s → s.from ≤ t → IdlesUntil since alarm held → Idles s.market t alarm held
+pub idles-later : (since : Option Since) (s : Since) (t alarm : ℕ) (held : SymbolState) → since ≡ Some s → s.from ≤ t → IdlesUntil since alarm held → Idles s.market t alarm held
 idles-later since s t alarm held e le idles =
     let own : Idles s.market s.from alarm held = subst (λ (o : Option Since). IdlesUntil o alarm held) e idles in
     λ x tick from until said. own x tick (omega arith) until said
 
 -- and one that is always due holds in any case
-pub idles-always : (since : Option Since) (alarm : ℕ) (held : Held) → alarm ≡ 0 → IdlesUntil since alarm held
+pub idles-always : (since : Option Since) (alarm : ℕ) (held : SymbolState) → alarm ≡ 0 → IdlesUntil since alarm held
 idles-always None alarm held none = tt
 idles-always (Some s) alarm held none = λ x tick from until said. absurd (omega arith)
 
-pub each-always : (since : Option Since) (alarms : List ℕ) (stocks : List Held) (n : ℕ) → alarms ≡ replicate n 0 → EachIdles since alarms stocks
+pub each-always : (since : Option Since) (alarms : List ℕ) (stocks : List SymbolState) (n : ℕ) → alarms ≡ replicate n 0 → EachIdles since alarms stocks
 each-always since alarms stocks n filled = λ place held e. idles-always since (slice_index alarms place) held (ap (λ (xs : List ℕ). slice_index xs place) filled ∙ index-none n place) where
   index-none : (n place : ℕ) → slice_index (replicate n 0) place ≡ 0
   index-none zero place = refl
   index-none (suc n) zero = refl
   index-none (suc n) (suc place) = index-none n place
 
-pub each-pass : (before after : Option Since) (alarms : List ℕ) (stocks : List Held) → ((alarm : ℕ) (held : Held) → IdlesUntil before alarm held → IdlesUntil after alarm held)
+pub each-pass : (before after : Option Since) (alarms : List ℕ) (stocks : List SymbolState) → ((alarm : ℕ) (held : SymbolState) → IdlesUntil before alarm held → IdlesUntil after alarm held)
     → EachIdles before alarms stocks → EachIdles after alarms stocks
 each-pass before after alarms stocks pass each = λ place held e. pass (slice_index alarms place) held (each place held e)
 
@@ -52,10 +52,10 @@ at_least a b e = grind (arith, nat_tests)
 less : (a b : ℕ) → nat_le a b ≡ false → b < a
 less a b e = grind (arith, nat_tests)
 
-pub each-push : (since : Option Since) (alarms with : List ℕ) (stocks : List Held) (stock : Held) (index : ℕ) → index ≡ length stocks → index < length alarms → with ≡ slice_set alarms index 0
+pub each-push : (since : Option Since) (alarms with : List ℕ) (stocks : List SymbolState) (stock : SymbolState) (index : ℕ) → index ≡ length stocks → index < length alarms → with ≡ slice_set alarms index 0
     → EachIdles since alarms stocks → EachIdles since with (stocks ++ stock ∷ [])
 each-push since alarms with stocks stock index is within set each = λ place held e. by place held e (nat_le (length stocks) place) refl where
-  by : (place : ℕ) (held : Held) → slice_get (stocks ++ stock ∷ []) place ≡ Some held → (b : Bool) → nat_le (length stocks) place ≡ b → IdlesUntil since (slice_index with place) held
+  by : (place : ℕ) (held : SymbolState) → slice_get (stocks ++ stock ∷ []) place ≡ Some held → (b : Bool) → nat_le (length stocks) place ≡ b → IdlesUntil since (slice_index with place) held
   by place held e true behind =
       let at = get-last stocks stock held place (at_least (length stocks) place behind) e in
       let own : place ≡ index = at.0 ∙ sym is in
@@ -68,7 +68,7 @@ each-push since alarms with stocks stock index is within set each = λ place hel
 
 -- Of which no alarm is due, the tick brings nothing.
 
-pub none-moves : (state : SectionState) (stocks : List Held) (spare : ℕ) (since : Option Since) (alarms : List ℕ) (market : MarketView) (x : Record) (t from before : ℕ)
+pub none-moves : (state : SectionState) (stocks : List SymbolState) (spare : ℕ) (since : Option Since) (alarms : List ℕ) (market : MarketView) (x : Record) (t from before : ℕ)
     → record { symbols = stocks; spare = spare; since = since } ≡ state → length stocks ≤ length alarms → EachIdles since alarms stocks → is_tick x ≡ true
     → state.since ≡ Some (record { from = moment_of x; market = market }) → t ≡ moment_of x → NoneDue t from before alarms → NoneMoves market x from before state.symbols
 none-moves state stocks spare since alarms market x t from before seen covers each tick now at none =
@@ -87,10 +87,10 @@ none-within [] i lt e = omega arith
 none-within (x ∷ xs) zero lt e = cc
 none-within (x ∷ xs) (suc i) lt e = none-within xs i (omega arith) e
 
-skip_one : (i : ℕ) (market : MarketView) (x : Record) (old new : List Held) (before after : List Stamped) → i < length new → ((k : ℕ) → i ≤ k → slice_get new k ≡ slice_get old k)
-    → ((held : Held) → slice_get new i ≡ Some held → (said : List Message) → Evaluates market x held held said said) → AppendsBelow i market x old new before after → AppendsBelow (suc i) market x old new before after
+skip_one : (i : ℕ) (market : MarketView) (x : Record) (old new : List SymbolState) (before after : List Stamped) → i < length new → ((k : ℕ) → i ≤ k → slice_get new k ≡ slice_get old k)
+    → ((held : SymbolState) → slice_get new i ≡ Some held → (said : List Message) → Evaluates market x held held said said) → AppendsBelow i market x old new before after → AppendsBelow (suc i) market x old new before after
 skip_one i market x old new before after within later idles earlier = by (slice_get new i) refl where
-  by : (o : Option Held) → slice_get new i ≡ o → AppendsBelow (suc i) market x old new before after
+  by : (o : Option SymbolState) → slice_get new i ≡ o → AppendsBelow (suc i) market x old new before after
   by None e = absurd (none-within new i within e)
   by (Some held) e = (
     after,
@@ -98,7 +98,7 @@ skip_one i market x old new before after within later idles earlier = by (slice_
     record { was = held; is = held; found = sym (later i (omega arith)) ∙ e; left = e; appends = record { said = []; evaluates = idles held e []; items = sym (append-nil after) } },
   )
 
-skips : (n i : ℕ) (market : MarketView) (x : Record) (old new : List Held) (before after : List Stamped) → i + n ≤ length new → ((k : ℕ) → i ≤ k → slice_get new k ≡ slice_get old k)
+skips : (n i : ℕ) (market : MarketView) (x : Record) (old new : List SymbolState) (before after : List Stamped) → i + n ≤ length new → ((k : ℕ) → i ≤ k → slice_get new k ≡ slice_get old k)
     → NoneMoves market x i (i + n) new → AppendsBelow i market x old new before after → AppendsBelow (i + n) market x old new before after
 skips zero i market x old new before after le later none earlier = subst (λ (m : ℕ). AppendsBelow m market x old new before after) (omega arith) earlier
 skips (suc n) i market x old new before after le later none earlier =
@@ -106,7 +106,7 @@ skips (suc n) i market x old new before after le later none earlier =
     (skips n (suc i) market x old new before after (omega arith) (λ k from. later k (omega arith)) (λ place held from before e said. none place held (omega arith) (omega arith) e said)
     (skip_one i market x old new before after (omega arith) later (λ held e said. none i held (omega arith) (omega arith) e said) earlier))
 
-pub skip_to : (i j : ℕ) (market : MarketView) (x : Record) (old new : List Held) (before after : List Stamped) → i ≤ j → j ≤ length new → ((k : ℕ) → i ≤ k → slice_get new k ≡ slice_get old k)
+pub skip_to : (i j : ℕ) (market : MarketView) (x : Record) (old new : List SymbolState) (before after : List Stamped) → i ≤ j → j ≤ length new → ((k : ℕ) → i ≤ k → slice_get new k ≡ slice_get old k)
     → NoneMoves market x i j new → AppendsBelow i market x old new before after → AppendsBelow j market x old new before after
 skip_to i j market x old new before after le within later none earlier =
     let more : i + (j - i) ≡ j = omega arith in
@@ -114,12 +114,12 @@ skip_to i j market x old new before after le within later none earlier =
     (skips (j - i) i market x old new before after (omega arith) later (λ place held from until e said. none place held from (omega arith) e said) earlier)
 
 -- at the start of a tick
-pub first_on : (j : ℕ) (market : MarketView) (x : Record) (old begun new : List Held) (before : List Stamped) → begun ≡ old → new ≡ begun → j ≤ length begun → NoneMoves market x 0 j begun → AppendsBelow j market x old new before before
+pub first_on : (j : ℕ) (market : MarketView) (x : Record) (old begun new : List SymbolState) (before : List Stamped) → begun ≡ old → new ≡ begun → j ≤ length begun → NoneMoves market x 0 j begun → AppendsBelow j market x old new before before
 first_on j market x old begun new before as_begun same within none =
-    subst (λ (stocks : List Held). AppendsBelow j market x stocks new before before) as_begun
-    (subst (λ (stocks : List Held). AppendsBelow j market x begun stocks before before) (sym same) (skip_to 0 j market x begun begun before before (omega arith) within (λ k from. refl) none refl))
+    subst (λ (stocks : List SymbolState). AppendsBelow j market x stocks new before before) as_begun
+    (subst (λ (stocks : List SymbolState). AppendsBelow j market x begun stocks before before) (sym same) (skip_to 0 j market x begun begun before before (omega arith) within (λ k from. refl) none refl))
 
-below_others : (n s : ℕ) (market : MarketView) (x : Record) (old new next : List Held) (before after : List Stamped) → n ≤ s → ((k : ℕ) → k ≢ s → slice_get next k ≡ slice_get new k)
+below_others : (n s : ℕ) (market : MarketView) (x : Record) (old new next : List SymbolState) (before after : List Stamped) → n ≤ s → ((k : ℕ) → k ≢ s → slice_get next k ≡ slice_get new k)
     → AppendsBelow n market x old new before after → AppendsBelow n market x old next before after
 below_others zero s market x old new next before after le others t = t
 below_others (suc n) s market x old new next before after le others (middle, earlier, last) = (
@@ -129,7 +129,7 @@ below_others (suc n) s market x old new next before after le others (middle, ear
 )
 
 -- and from one stock that is due to the next
-pub next_on : (r : Result (Unit {0}) NoMemory) (y : Unit {0}) (i j : ℕ) (market : MarketView) (x : Record) (old now next new : List Held) (before middle after : List Stamped) → ((k : ℕ) → i ≤ k → slice_get now k ≡ slice_get old k)
+pub next_on : (r : Result (Unit {0}) NoMemory) (y : Unit {0}) (i j : ℕ) (market : MarketView) (x : Record) (old now next new : List SymbolState) (before middle after : List Stamped) → ((k : ℕ) → i ≤ k → slice_get now k ≡ slice_get old k)
     → AppendsBelow i market x old now before middle → r ≡ Ok y → OnOk r (AppendsOne i market x now next middle after) → new ≡ next → i + 1 ≤ j → j ≤ length next → NoneMoves market x (i + 1) j next
     → AppendsBelow j market x old new before after
 next_on (Err u) y i j market x old now next new before middle after later earlier e one same le within none = absurd cc
@@ -137,14 +137,14 @@ next_on (Ok u) y i j market x old now next new before middle after later earlier
     let at = one.at in
     let own : AppendsBelow (i + 1) market x old next before after = subst (λ (n : ℕ). AppendsBelow n market x old next before after) (sym (add-one i))
     (middle, below_others i i market x old now next before middle (omega arith) one.others earlier, record { was = at.was; is = at.is; found = sym (later i (omega arith)) ∙ at.found; left = at.left; appends = at.appends }) in
-    subst (λ (stocks : List Held). AppendsBelow j market x old stocks before after) (sym same)
+    subst (λ (stocks : List SymbolState). AppendsBelow j market x old stocks before after) (sym same)
     (skip_to (i + 1) j market x old next before after le within (λ k from. one.others k (omega arith) ∙ later k (omega arith)) none own)
 
-pub later_on : (r : Result (Unit {0}) NoMemory) (y : Unit {0}) (i j : ℕ) (market : MarketView) (x : Record) (old now next new : List Held) (middle after : List Stamped) → ((k : ℕ) → i ≤ k → slice_get now k ≡ slice_get old k)
+pub later_on : (r : Result (Unit {0}) NoMemory) (y : Unit {0}) (i j : ℕ) (market : MarketView) (x : Record) (old now next new : List SymbolState) (middle after : List Stamped) → ((k : ℕ) → i ≤ k → slice_get now k ≡ slice_get old k)
     → r ≡ Ok y → OnOk r (AppendsOne i market x now next middle after) → new ≡ next → i + 1 ≤ j → (k : ℕ) → j ≤ k → slice_get new k ≡ slice_get old k
 later_on (Err u) y i j market x old now next new middle after later e one same le = absurd cc
-later_on (Ok u) y i j market x old now next new middle after later e one same le = λ k from. ap (λ (stocks : List Held). slice_get stocks k) same ∙ one.others k (omega arith) ∙ later k (omega arith)
+later_on (Ok u) y i j market x old now next new middle after later e one same le = λ k from. ap (λ (stocks : List SymbolState). slice_get stocks k) same ∙ one.others k (omega arith) ∙ later k (omega arith)
 
-pub count_on : (r : Result (Unit {0}) NoMemory) (y : Unit {0}) (i : ℕ) (market : MarketView) (x : Record) (now next : List Held) (middle after : List Stamped) → r ≡ Ok y → OnOk r (AppendsOne i market x now next middle after) → length next ≡ length now
+pub count_on : (r : Result (Unit {0}) NoMemory) (y : Unit {0}) (i : ℕ) (market : MarketView) (x : Record) (now next : List SymbolState) (middle after : List Stamped) → r ≡ Ok y → OnOk r (AppendsOne i market x now next middle after) → length next ≡ length now
 count_on (Err u) y i market x now next middle after e one = absurd cc
 count_on (Ok u) y i market x now next middle after e one = one.count

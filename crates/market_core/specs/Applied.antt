@@ -10,7 +10,7 @@ use Rattle.breaker_core.specs.BreakerState.{started}
 use Rattle.rulebook.specs.declared.event.Event.{Event}
 use Rattle.symbol_core.specs.declared.symbol.MarketView.{MarketView}
 use Rattle.symbol_core.specs.Evaluates.{Evaluates}
-use Rattle.symbol_core.specs.Rests.{Held, Rests}
+use Rattle.symbol_core.specs.Rests.{Rests, SymbolState}
 use Rattle.symbol_core.specs.Silent.{SaysNothing}
 use Rattle.market_core.specs.declared.lead.Today.{Today}
 use Rattle.market_core.specs.AdmissionState.{added}
@@ -18,27 +18,27 @@ use Rattle.market_core.specs.MarketState.{MarketState}
 use Rattle.market_core.specs.Ruled.{ruled, ruling, stamped, view_of}
 
 -- a symbol is evaluated, and what it says is stamped
-pub record Appends (market : MarketView) (x : Record) (old new : Held) (before after : List Stamped) : Type 0 where
+pub record Appends (market : MarketView) (x : Record) (old new : SymbolState) (before after : List Stamped) : Type 0 where
   pub said : List Message
   pub evaluates : Evaluates market x old new [] said
   pub items : after ≡ before ++ stamped (moment_of x) said
 
 -- the symbol of an id is evaluated
-pub record AppendsAt (s : ℕ) (market : MarketView) (x : Record) (old new : List Held) (before after : List Stamped) : Type 0 where
-  pub was : Held
-  pub is : Held
+pub record AppendsAt (s : ℕ) (market : MarketView) (x : Record) (old new : List SymbolState) (before after : List Stamped) : Type 0 where
+  pub was : SymbolState
+  pub is : SymbolState
   pub found : slice_get old s ≡ Some was
   pub left : slice_get new s ≡ Some is
   pub appends : Appends market x was is before after
 
 -- the symbols of the ids below n are evaluated, one after the other
-abbrev pub AppendsBelow : ℕ → MarketView → Record → List Held → List Held → List Stamped → List Stamped → Type 0
+abbrev pub AppendsBelow : ℕ → MarketView → Record → List SymbolState → List SymbolState → List Stamped → List Stamped → Type 0
 AppendsBelow zero market x old new before after = after ≡ before
 AppendsBelow (suc n) market x old new before after =
     (middle : List Stamped) × AppendsBelow n market x old new before middle × AppendsAt n market x old new middle after
 
 -- the symbol of an id is evaluated, and the others are left as they were
-pub record AppendsOne (s : ℕ) (market : MarketView) (x : Record) (old new : List Held) (before after : List Stamped) : Type 0 where
+pub record AppendsOne (s : ℕ) (market : MarketView) (x : Record) (old new : List SymbolState) (before after : List Stamped) : Type 0 where
   pub count : length new ≡ length old
   pub at : AppendsAt s market x old new before after
   pub others : (k : ℕ) → k ≢ s → slice_get new k ≡ slice_get old k
@@ -59,7 +59,7 @@ pub record OneEvaluated (s : ℕ) (today : Today) (x : Record) (old new : Market
   pub others : (k : ℕ) → k ≢ s → slice_get new.symbols k ≡ slice_get old.symbols k
 
 -- a symbol of which nothing was said
-pub record IsNew (s : ℕ) (held : Held) : Type 0 where
+pub record IsNew (s : ℕ) (held : SymbolState) : Type 0 where
   pub id : held.kept.id ≡ s
   pub rests : (own : List ℕ → Bool) (h : List Event) → SaysNothing own s h → Rests own held h
 
@@ -70,7 +70,7 @@ pub record Finds (name : List ℕ) (s : ℕ) (old new : MarketState) : Type 0 wh
   pub today : new.today ≡ old.today
   pub count : length new.symbols ≡ length new.directory
   pub earlier : (k : ℕ) → k < length old.symbols → slice_get new.symbols k ≡ slice_get old.symbols k
-  pub later : (k : ℕ) (held : Held) → length old.symbols ≤ k → slice_get new.symbols k ≡ Some held → IsNew k held
+  pub later : (k : ℕ) (held : SymbolState) → length old.symbols ≤ k → slice_get new.symbols k ≡ Some held → IsNew k held
 
 -- the symbol of a listed name is evaluated
 pub record Lists (name : List ℕ) (today : Today) (x : Record) (old new : MarketState) (before after : List Stamped) : Type 0 where

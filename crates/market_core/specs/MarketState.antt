@@ -6,7 +6,7 @@ use Rattle.rulebook.specs.Admission.{names, most_names}
 use Rattle.rulebook.specs.Book.{named, history}
 use Rattle.rulebook.specs.Market.{day_record, market_halt, greatest_declared}
 use Rattle.symbol_core.specs.Evaluates.{most_of_symbol}
-use Rattle.symbol_core.specs.Rests.{Held, Rests}
+use Rattle.symbol_core.specs.Rests.{Rests, SymbolState}
 use Rattle.symbol_core.specs.Silent.{SaysNothing}
 use Rattle.market_core.specs.declared.lead.Today.{Today}
 
@@ -14,7 +14,7 @@ use Rattle.market_core.specs.declared.lead.Today.{Today}
 pub record MarketState : Type 0 where
   pub directory : List (List ℕ)
   pub today : Option Today
-  pub symbols : List Held
+  pub symbols : List SymbolState
 
 -- the most messages of a record, where so many names were ever listed: two of the market, and those of each symbol
 abbrev pub most_of_names : ℕ → ℕ
@@ -32,9 +32,9 @@ day_of applied (day, index_close) = record {
 }
 
 -- what is kept of each symbol is what the history says of the names with its id
-pub record SymbolsRepresent (symbols : List Held) (applied : List Record) : Type 0 where
-  pub ids : (s : ℕ) (held : Held) → slice_get symbols s ≡ Some held → held.kept.id ≡ s
-  pub rests : (s : ℕ) (held : Held) → slice_get symbols s ≡ Some held → Rests (named applied s).own held (history applied)
+pub record SymbolsRepresent (symbols : List SymbolState) (applied : List Record) : Type 0 where
+  pub ids : (s : ℕ) (held : SymbolState) → slice_get symbols s ≡ Some held → held.kept.id ≡ s
+  pub rests : (s : ℕ) (held : SymbolState) → slice_get symbols s ≡ Some held → Rests (named applied s).own held (history applied)
 
 -- each kept value is the one that the list of applied records gives, and of an id that no name has there is nothing to keep
 pub record Represents (kept : MarketState) (applied : List Record) : Type 0 where

@@ -5,29 +5,29 @@ use Rattle.wire_in.specs.Records.{is_tick, moment_of}
 use Rattle.wire_out.specs.declared.message.Message.{Message}
 use Rattle.symbol_core.specs.declared.symbol.MarketView.{MarketView}
 use Rattle.symbol_core.specs.Evaluates.{Evaluates}
-use Rattle.symbol_core.specs.Rests.{Held}
+use Rattle.symbol_core.specs.Rests.{SymbolState}
 use Rattle.market_core.specs.declared.since.Since.{Since}
 
 -- the stocks of a section, for how many more there is room, and from when on and over which market its alarms hold
 pub record SectionState : Type 0 where
-  pub symbols : List Held
+  pub symbols : List SymbolState
   pub spare : ℕ
   pub since : Option Since
 
 -- ticks over that market from that moment on and before the other bring a stock nothing
-abbrev pub Idles : MarketView → ℕ → ℕ → Held → Type 0
+abbrev pub Idles : MarketView → ℕ → ℕ → SymbolState → Type 0
 Idles market from until held =
     (x : Record) → is_tick x ≡ true → from ≤ moment_of x → moment_of x < until → (before : List Message) → Evaluates market x held held before before
 
-abbrev pub IdlesUntil : Option Since → ℕ → Held → Type 0
+abbrev pub IdlesUntil : Option Since → ℕ → SymbolState → Type 0
 IdlesUntil None alarm held = Unit {0}
 IdlesUntil (Some since) alarm held = Idles since.market since.from alarm held
 
 -- each stock idles until its alarm
-abbrev pub EachIdles : Option Since → List ℕ → List Held → Type 0
-EachIdles since alarms symbols = (place : ℕ) (held : Held) → slice_get symbols place ≡ Some held → IdlesUntil since (slice_index alarms place) held
+abbrev pub EachIdles : Option Since → List ℕ → List SymbolState → Type 0
+EachIdles since alarms symbols = (place : ℕ) (held : SymbolState) → slice_get symbols place ≡ Some held → IdlesUntil since (slice_index alarms place) held
 
 -- a tick brings the stocks of the places from one on and before another nothing
-abbrev pub NoneMoves : MarketView → Record → ℕ → ℕ → List Held → Type 0
+abbrev pub NoneMoves : MarketView → Record → ℕ → ℕ → List SymbolState → Type 0
 NoneMoves market x from before symbols =
-    (place : ℕ) (held : Held) → from ≤ place → place < before → slice_get symbols place ≡ Some held → (said : List Message) → Evaluates market x held held said said
+    (place : ℕ) (held : SymbolState) → from ≤ place → place < before → slice_get symbols place ≡ Some held → (said : List Message) → Evaluates market x held held said said

@@ -1,6 +1,6 @@
 // From when on, and over which market, alarms of stocks hold.
 ghost use Rattle.std.specs.Prelude.{◌≡◌, ℕ, true, Some, List, length};
-ghost use Rattle.symbol_core.specs.Rests.{Held};
+ghost use Rattle.symbol_core.specs.Rests.{SymbolState};
 ghost use Rattle.market_core.specs.Sections.{EachIdles, Idles, IdlesUntil};
 
 use alarms::Alarms;
@@ -19,14 +19,14 @@ pub(crate) const ALWAYS_DUE: u64 = 0;
 
 /// Whether what holds from a moment on over a market holds since another.
 fn includes(from: Moment, market: &MarketView, since: &Since) -> bool
-    ensures { result ≡ true → (alarm : ℕ) (held : Held) → Idles market.now from alarm held → IdlesUntil (Some since.now) alarm held }
+    ensures { result ≡ true → (alarm : ℕ) (held : SymbolState) → Idles market.now from alarm held → IdlesUntil (Some since.now) alarm held }
 {
     from.nanos() <= since.from.nanos() && market.is_same(since.market)
 }
 
 /// Whether the alarms that held hold from now on.
 fn still_holds(since: &Option<Since>, now: &Since) -> bool
-    ensures { result ≡ true → (alarm : ℕ) (held : Held) → IdlesUntil since.now alarm held → IdlesUntil (Some now.now) alarm held }
+    ensures { result ≡ true → (alarm : ℕ) (held : SymbolState) → IdlesUntil since.now alarm held → IdlesUntil (Some now.now) alarm held }
 {
     match since {
         Some(since) => includes(since.from, &since.market, now),
@@ -36,7 +36,7 @@ fn still_holds(since: &Option<Since>, now: &Since) -> bool
 
 /// Keeps alarms where they hold from now on, and makes each place due where they don't.
 pub(crate) fn renew(alarms: &mut Alarms, since: &Option<Since>, now: &Since)
-    ensures idles { (symbols : List Held) → EachIdles since.now alarms.old symbols → EachIdles (Some now.now) alarms.new symbols }
+    ensures idles { (symbols : List SymbolState) → EachIdles since.now alarms.old symbols → EachIdles (Some now.now) alarms.new symbols }
     ensures len { length alarms.new ≡ length alarms.old }
 {
     if still_holds(since, now) {
@@ -47,7 +47,7 @@ pub(crate) fn renew(alarms: &mut Alarms, since: &Option<Since>, now: &Since)
 
 /// Lets time pass: what holds from one moment on holds from a later one on.
 pub(crate) fn pass(since: &mut Option<Since>, t: Moment)
-    ensures idles { (alarm : ℕ) (held : Held) → IdlesUntil since.old alarm held → IdlesUntil since.new alarm held }
+    ensures idles { (alarm : ℕ) (held : SymbolState) → IdlesUntil since.old alarm held → IdlesUntil since.new alarm held }
     ensures same { (market : MarketView) → since.old ≡ Some (record { from = t; market = market }) → since.new ≡ since.old }
 {
     if let Some(since) = since {

@@ -4,7 +4,7 @@ use Rattle.std.specs.Prelude.{map}
 use Rattle.wire_in.specs.declared.record.Record.{Record}
 use Rattle.wire_in.specs.Records.{moment_of}
 use Rattle.wire_out.specs.declared.message.Stamped.{Stamped}
-use Rattle.symbol_core.specs.Rests.{Held}
+use Rattle.symbol_core.specs.Rests.{SymbolState}
 use Rattle.market_core.specs.Leads.{LeadState, led, rulings}
 use Rattle.market_core.specs.MarketState.{Represents}
 use Rattle.market_core.specs.Ruled.{stamped}
@@ -18,12 +18,12 @@ use Rattle.shard_core.proofs.Markets.{applies, market_with}
 abbrev pub records_of : List Note → List Record
 records_of notes = map (λ note. note.record_of) notes
 
-pub block_gives : (capacity index : ℕ) (notes : List Note) (A : List Record) (lead last : LeadState) (old new : List Held) (market told : List (List Stamped)) → Represents (market_with lead old) A
+pub block_gives : (capacity index : ℕ) (notes : List Note) (A : List Record) (lead last : LeadState) (old new : List SymbolState) (market told : List (List Stamped)) → Represents (market_with lead old) A
     → AreAdmissible capacity A (records_of notes) → LeadsAll notes lead last market → TakesAll 0 true notes old new told
     → (tagged_from index (behind_each market told) ≡ given_from index A (records_of notes)) × Represents (market_with last new) (followed A (records_of notes))
 block_gives capacity index [] A lead last old new market told stands lawful (kept, unsaid) (same, untold) = (
   (λ i. tagged_from index (behind_each (unsaid i) (untold i))),
-  subst (λ (l : LeadState). Represents (market_with l new) A) (sym kept) (subst (λ (xs : List Held). Represents (market_with lead xs) A) (sym same) stands),
+  subst (λ (l : LeadState). Represents (market_with l new) A) (sym kept) (subst (λ (xs : List SymbolState). Represents (market_with lead xs) A) (sym same) stands),
 )
 block_gives capacity index (note ∷ notes) A lead last old new market told stands (passed, lawful) (later, leads, rest, is) (middle, said, later', takes, rest', is') =
     let x = note.record_of in

@@ -8,7 +8,7 @@ use Rattle.std.proofs.lemmas.List.{append-nil}
 use Rattle.std.proofs.lemmas.List.Elements.{All-nil, All-cons, All-append}
 use Rattle.wire_in.specs.declared.record.Record.{Record}
 use Rattle.wire_out.specs.declared.message.Stamped.{Stamped}
-use Rattle.symbol_core.specs.Rests.{Held}
+use Rattle.symbol_core.specs.Rests.{SymbolState}
 use Rattle.market_core.specs.Leads.{LeadState}
 use Rattle.market_core.specs.MarketState.{Represents}
 use Rattle.market_core.specs.Sections.{SectionState}
@@ -29,7 +29,7 @@ use Rattle.shard_core.proofs.Turning.{leads-length, length-noted, records-noted,
 abbrev pub tolds : Taken → List Taken → List (List (List Stamped))
 tolds first later = map (λ part. part.told) (first ∷ later)
 
-abbrev pub stocks_of : List SectionState → List Held
+abbrev pub stocks_of : List SectionState → List SymbolState
 stocks_of parts = flat_map (λ part. part.symbols) parts
 
 -- the parts as ranges that take records
@@ -41,7 +41,7 @@ pub record Gathers (start : ℕ) (notes : List Note) (olds news : List SectionSt
   pub new_is : (whole_of first later).new ≡ stocks_of news
   pub told_is : told ≡ map (tagged_from 0) (tolds first later)
 
-abbrev taken : (start : ℕ) (last : Bool) (notes : List Note) (old new : List Held) (items : List Tagged) → Tells start last notes old new items → Taken
+abbrev taken : (start : ℕ) (last : Bool) (notes : List Note) (old new : List SymbolState) (items : List Tagged) → Tells start last notes old new items → Taken
 taken start last notes old new items tells = record { old = old; new = new; told = tells.told }
 
 -- the parts behind the first one
@@ -83,8 +83,8 @@ gathers start notes (old ∷ older ∷ olds) (new ∷ news) (items ∷ told) som
       first = taken start false notes old.symbols new.symbols items own;
       later = rest.first ∷ rest.later;
       takes = (own.takes, rest.takes);
-      old_is = ap (λ (xs : List Held). old.symbols ++ xs) rest.old_is;
-      new_is = ap (λ (xs : List Held). new.symbols ++ xs) rest.new_is;
+      old_is = ap (λ (xs : List SymbolState). old.symbols ++ xs) rest.old_is;
+      new_is = ap (λ (xs : List SymbolState). new.symbols ++ xs) rest.new_is;
       told_is = λ i. own.items_are i ∷ rest.told_is i;
     }))
 
@@ -154,11 +154,11 @@ answered_by capacity applied notes lead last olds news market told leads g stand
     let said : (i : ℕ) → i < length all → flat_map (said_at i) lists ≡ said_at i all
     = λ i lt. ap (λ (ms : List Stamped). said_at i leads.told ++ ms) (said-whole i 0 notes g.first g.later g.takes) ∙ sym (said-behind i leads.told whole.told (own ∙ sym long)) in
     let gives = block_gives capacity 0 notes applied lead last whole.old whole.new leads.told whole.told
-    (subst (λ (xs : List Held). Represents (market_with lead xs) applied) (sym g.old_is) stands) lawful leads.leads takes in (
+    (subst (λ (xs : List SymbolState). Represents (market_with lead xs) applied) (sym g.old_is) stands) lawful leads.leads takes in (
       subst (AreOfFirst (length notes)) items (all_lists (length notes) lists (own, parts-long 0 notes g.first g.later g.takes)),
       subst (λ (ls : List (List Tagged)). merged (length notes) ls ≡ given applied (records_of notes)) items
           (subst (λ (n : ℕ). merged n (map (tagged_from 0) lists) ≡ given applied (records_of notes)) many (merged_is lists all said ∙ gives.0)),
-      subst (λ (xs : List Held). Represents (market_with last xs) (followed applied (records_of notes))) g.new_is gives.1,
+      subst (λ (xs : List SymbolState). Represents (market_with last xs) (followed applied (records_of notes))) g.new_is gives.1,
     )
 
 answered_prop : (applied xs : List Record) (last : LeadState) (news : List SectionState) (market : List Tagged) (told : List (List Tagged)) → IsProp (Answered applied xs last news market told)

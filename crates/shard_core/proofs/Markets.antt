@@ -12,7 +12,7 @@ use Rattle.wire_in.specs.Records.{moment_of}
 use Rattle.wire_out.specs.declared.message.Message.{Message}
 use Rattle.wire_out.specs.declared.message.Stamped.{Stamped}
 use Rattle.symbol_core.specs.declared.symbol.MarketView.{MarketView}
-use Rattle.symbol_core.specs.Rests.{Held}
+use Rattle.symbol_core.specs.Rests.{SymbolState}
 use Rattle.market_core.specs.declared.lead.Today.{Today}
 use Rattle.market_core.specs.AdmissionState.{added, is_full_for, lacks_room}
 use Rattle.market_core.specs.Applied.{Applies, AppendsAt, AppendsBelow, AppendsOne, Evaluated, IsNew, Lists, Ticks}
@@ -25,7 +25,7 @@ use Rattle.shard_core.specs.Parts.{TakesFor, is_for_all}
 use Rattle.shard_core.specs.Turns.{target_at, target_of}
 use Rattle.shard_core.proofs.Parts.{behind_said}
 
-abbrev pub market_with : LeadState → List Held → MarketState
+abbrev pub market_with : LeadState → List SymbolState → MarketState
 market_with lead symbols = record { directory = lead.directory; today = lead.today; symbols = symbols }
 
 seen_as : (today : Option Today) (day : Today) (view : MarketView) → today ≡ Some day → option_map view_of today ≡ Some view → view ≡ view_of day
@@ -35,7 +35,7 @@ seen_as today day view is seen =
 
 -- at a tick
 
-tick_applies : (x : Record) (lead : LeadState) (old new : List Held) (view : MarketView) (said : List Stamped) → option_map view_of (option_map (ruled x) lead.today) ≡ Some view
+tick_applies : (x : Record) (lead : LeadState) (old new : List SymbolState) (view : MarketView) (said : List Stamped) → option_map view_of (option_map (ruled x) lead.today) ≡ Some view
     → is_for_all x ≡ true → TakesFor Each 0 true view x old new said
     → Ticks x (market_with lead old) (market_with (record { directory = lead.directory; today = option_map (ruled x) lead.today }) new) [] (stamped (moment_of x) (rulings x lead.today) ++ said)
 tick_applies x lead old new view said seen wide (count, told) = λ today on.
@@ -53,7 +53,7 @@ tick_applies x lead old new view said seen wide (count, told) = λ today on.
 
 -- at a record of one stock, at which the market itself says nothing
 
-one_applies : (x : Record) (s : ℕ) (lead : LeadState) (old new : List Held) (view : MarketView) (said : List Stamped) → ((day : Today) → ruling x day ≡ []) → ((day : Today) → ruled x day ≡ day)
+one_applies : (x : Record) (s : ℕ) (lead : LeadState) (old new : List SymbolState) (view : MarketView) (said : List Stamped) → ((day : Today) → ruling x day ≡ []) → ((day : Today) → ruled x day ≡ day)
     → option_map view_of (option_map (ruled x) lead.today) ≡ Some view → TakesFor (One s) 0 true view x old new said
     → Evaluated s x (market_with lead old) (market_with (record { directory = lead.directory; today = option_map (ruled x) lead.today }) new) [] (stamped (moment_of x) (rulings x lead.today) ++ said)
 one_applies x s lead old new view said quiet keeps seen (before, after, one) = λ today on within.
@@ -72,7 +72,7 @@ one_applies x s lead old new view said quiet keeps seen (before, after, one) = �
 
 -- at a listing
 
-listing_applies : (t : ℕ) (n : List ℕ) (k : Tier) (l : ℕ) (c : Option ℕ) (lead : LeadState) (old new : List Held) (view : MarketView) (said : List Stamped) → length old ≡ length lead.directory
+listing_applies : (t : ℕ) (n : List ℕ) (k : Tier) (l : ℕ) (c : Option ℕ) (lead : LeadState) (old new : List SymbolState) (view : MarketView) (said : List Stamped) → length old ≡ length lead.directory
     → is_full_for lead.directory n ≡ false → option_map view_of (option_map (ruled (in_.Listing t n k l c)) lead.today) ≡ Some view → (o : Option ℕ) → position (bytes_eq n) lead.directory ≡ o
     → TakesFor (target_at o (length lead.directory)) 0 true view (in_.Listing t n k l c) old new said → (today : Today) → lead.today ≡ Some today
     → Lists n today (in_.Listing t n k l c) (market_with lead old) (market_with (led (in_.Listing t n k l c) lead) new) [] (stamped t (rulings (in_.Listing t n k l c) lead.today) ++ said)
@@ -125,7 +125,7 @@ listing_applies t n k l c lead old new view said as_many room seen None e (stays
         earlier = λ j lt. get-before old added_one.stock j lt;
         later = λ j held behind found.
             let last = get-last old added_one.stock held j behind found in
-            subst (λ (h : Held). IsNew j h) (sym last.1) (subst (λ (i : ℕ). IsNew i added_one.stock) (sym as_many ∙ sym last.0) added_one.is_new);
+            subst (λ (h : SymbolState). IsNew j h) (sym last.1) (subst (λ (i : ℕ). IsNew i added_one.stock) (sym as_many ∙ sym last.0) added_one.is_new);
       };
       evaluated = record {
         directory = ap (λ (b : Bool). cond b D (added D (position (bytes_eq n) D) n)) room ∙ ap (λ (o : Option ℕ). added D o n) e;
@@ -138,7 +138,7 @@ listing_applies t n k l c lead old new view said as_many room seen None e (stays
 
 -- at any record
 
-pub applies : (x : Record) (lead : LeadState) (old new : List Held) (view : MarketView) (said : List Stamped) → length old ≡ length lead.directory → lacks_room lead.directory x ≡ false
+pub applies : (x : Record) (lead : LeadState) (old new : List SymbolState) (view : MarketView) (said : List Stamped) → length old ≡ length lead.directory → lacks_room lead.directory x ≡ false
     → option_map view_of (today_led x lead.today) ≡ Some view → TakesFor (target_of x lead.directory) 0 true view x old new said
     → Applies x (market_with lead old) (market_with (led x lead) new) [] (stamped (moment_of x) (rulings x lead.today) ++ said)
 applies (in_.Day t d c) lead old new view said as_many room seen (count, told) =

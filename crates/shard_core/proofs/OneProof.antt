@@ -7,7 +7,7 @@ use Rattle.wire_in.specs.declared.record.Record.{Record}
 use Rattle.wire_out.specs.declared.message.Message.{Message}
 use Rattle.rulebook.specs.declared.event.Event.{Event}
 use Rattle.rulebook.specs.declared.event.Event.TheVariants.{Accepted, Published}
-use Rattle.symbol_core.specs.Rests.{Held, Rests}
+use Rattle.symbol_core.specs.Rests.{Rests, SymbolState}
 use Rattle.symbol_core.specs.Silent.{IsOfOthers, IsSilent, SaysNothing}
 use Rattle.market_core.specs.MarketState.{MarketState, Represents}
 
@@ -22,7 +22,7 @@ nothing_prop own s [] = Unit-prop
 nothing_prop own s (Accepted x ∷ h) = ×_prop (of_others_prop own s x) (nothing_prop own s h)
 nothing_prop own s (Published m ∷ h) = ×_prop (silent_prop s m) (nothing_prop own s h)
 
-rests_prop : (own : List ℕ → Bool) (held : Held) (h : List Event) → IsProp (Rests own held h)
+rests_prop : (own : List ℕ → Bool) (held : SymbolState) (h : List Event) → IsProp (Rests own held h)
 rests_prop own held h = hlevel (props, ⊎_set)
 
 pub represents_prop : (kept : MarketState) (applied : List Record) → IsProp (Represents kept applied)

@@ -5,7 +5,7 @@ use Rattle.std.proofs.lemmas.Bool.Decides.{nat_tests}
 use Rattle.wire_in.specs.declared.record.Record.{Record}
 use Rattle.wire_in.specs.Records.{is_day}
 use Rattle.rulebook.specs.Admission.{most_names}
-use Rattle.symbol_core.specs.Rests.{Held}
+use Rattle.symbol_core.specs.Rests.{SymbolState}
 use Rattle.market_core.specs.Leads.{IsLed, LeadState}
 use Rattle.market_core.specs.MarketState.{Represents, day_of}
 use Rattle.market_core.specs.Sections.{SectionState}
@@ -35,7 +35,7 @@ pub none_empty : AreEmpty 0 []
 none_empty = record { number = refl; none = λ k part found. absurd cc }
 
 pub few_empty : (n : ℕ) (parts : List SectionState) → AreEmpty n parts → AreFew parts
-few_empty n parts empty = λ k part found. subst (λ (xs : List Held). length xs ≤ most_names) (sym (empty.none k part found)) (omega arith)
+few_empty n parts empty = λ k part found. subst (λ (xs : List SymbolState). length xs ≤ most_names) (sym (empty.none k part found)) (omega arith)
 
 pub stocks_empty : (n : ℕ) (parts : List SectionState) → ((k : ℕ) (part : SectionState) → slice_get parts k ≡ Some part → part.symbols ≡ []) → stocks_of parts ≡ []
 stocks_empty n [] none = refl
@@ -43,7 +43,7 @@ stocks_empty n (p ∷ parts) none = λ i. none 0 p refl i ++ stocks_empty n part
 
 -- the first record of an admissible block begins a day where none has begun
 
-pub begins : (capacity : ℕ) (applied xs : List Record) (lead : LeadState) (stocks : List Held) → Represents (market_with lead stocks) applied → AreAdmissible capacity applied xs → is_begun xs lead.today ≡ true
+pub begins : (capacity : ℕ) (applied xs : List Record) (lead : LeadState) (stocks : List SymbolState) → Represents (market_with lead stocks) applied → AreAdmissible capacity applied xs → is_begun xs lead.today ≡ true
 begins capacity applied [] lead stocks stands lawful = refl
 begins capacity applied (x ∷ xs) lead stocks stands (passed, lawful) = by (is_day x) refl where
   by : (b : Bool) → is_day x ≡ b → (is_day x || is_some lead.today) ≡ true
@@ -52,8 +52,8 @@ begins capacity applied (x ∷ xs) lead stocks stands (passed, lawful) = by (is_
       let day = open_day capacity applied x e passed in
       ap (λ (b : Bool). b || is_some lead.today) e ∙ ap is_some (stands.today ∙ ap (option_map (day_of applied)) day.1)
 
-pub none_stand : (lead : LeadState) (stocks : List Held) → IsLed lead [] → stocks ≡ [] → Represents (market_with lead stocks) []
-none_stand lead stocks led none = subst (λ (xs : List Held). Represents (market_with lead xs) []) (sym none) (record {
+pub none_stand : (lead : LeadState) (stocks : List SymbolState) → IsLed lead [] → stocks ≡ [] → Represents (market_with lead stocks) []
+none_stand lead stocks led none = subst (λ (xs : List SymbolState). Represents (market_with lead xs) []) (sym none) (record {
   directory = led.directory;
   today = led.today;
   count = refl;

@@ -6,7 +6,7 @@ use Rattle.std.proofs.lemmas.List.{append-nil}
 use Rattle.wire_in.specs.declared.record.Record.{Record}
 use Rattle.wire_out.specs.declared.message.Stamped.{Stamped}
 use Rattle.symbol_core.specs.declared.symbol.MarketView.{MarketView}
-use Rattle.symbol_core.specs.Rests.{Held}
+use Rattle.symbol_core.specs.Rests.{SymbolState}
 use Rattle.market_core.specs.Applied.{AppendsBelow, AppendsOne, AppendsAt}
 use Rattle.market_core.proofs.Ranges.{one_of_all, ranges_in_turn}
 use Rattle.shard_core.specs.declared.turns.Target.{Target}
@@ -15,7 +15,7 @@ use Rattle.shard_core.specs.Parts.{Note, PartsTake, Stays, Taken, TakesAll, Take
 
 -- what is appended to no messages is appended to any
 
-shift-at : (s : ℕ) (view : MarketView) (x : Record) (old new : List Held) (prefix before after : List Stamped) → AppendsAt s view x old new before after → AppendsAt s view x old new (prefix ++ before) (prefix ++ after)
+shift-at : (s : ℕ) (view : MarketView) (x : Record) (old new : List SymbolState) (prefix before after : List Stamped) → AppendsAt s view x old new before after → AppendsAt s view x old new (prefix ++ before) (prefix ++ after)
 shift-at s view x old new prefix before after at = record {
   was = at.was;
   is = at.is;
@@ -24,26 +24,26 @@ shift-at s view x old new prefix before after at = record {
   appends = record { said = at.appends.said; evaluates = at.appends.evaluates; items = ap (λ (ms : List Stamped). prefix ++ ms) at.appends.items ∙ sym (append_assoc prefix before _) };
 }
 
-shift : (n : ℕ) (view : MarketView) (x : Record) (old new : List Held) (prefix before after : List Stamped) → AppendsBelow n view x old new before after → AppendsBelow n view x old new (prefix ++ before) (prefix ++ after)
+shift : (n : ℕ) (view : MarketView) (x : Record) (old new : List SymbolState) (prefix before after : List Stamped) → AppendsBelow n view x old new before after → AppendsBelow n view x old new (prefix ++ before) (prefix ++ after)
 shift zero view x old new prefix before after unsaid = ap (λ (ms : List Stamped). prefix ++ ms) unsaid
 shift (suc n) view x old new prefix before after (middle, earlier, at) = (prefix ++ middle, shift n view x old new prefix before middle earlier, shift-at n view x old new prefix middle after at)
 
-pub behind_said : (n : ℕ) (view : MarketView) (x : Record) (old new : List Held) (prefix said : List Stamped) → AppendsBelow n view x old new [] said → AppendsBelow n view x old new prefix (prefix ++ said)
+pub behind_said : (n : ℕ) (view : MarketView) (x : Record) (old new : List SymbolState) (prefix said : List Stamped) → AppendsBelow n view x old new [] said → AppendsBelow n view x old new prefix (prefix ++ said)
 behind_said n view x old new prefix said told = subst (λ (ms : List Stamped). AppendsBelow n view x old new ms (prefix ++ said)) (append-nil prefix) (shift n view x old new prefix [] said told)
 
 -- one stock of the first range, and one of the second
 
-one_in_first : (index : ℕ) (view : MarketView) (x : Record) (old new later : List Held) (said : List Stamped) → AppendsOne index view x old new [] said → AppendsOne index view x (old ++ later) (new ++ later) [] said
+one_in_first : (index : ℕ) (view : MarketView) (x : Record) (old new later : List SymbolState) (said : List Stamped) → AppendsOne index view x old new [] said → AppendsOne index view x (old ++ later) (new ++ later) [] said
 one_in_first index view x old new later said one = subst (λ (k : ℕ). AppendsOne k view x (old ++ later) (new ++ later) [] said) (omega arith) (one_of_all index view x [] old new later [] said one)
 
-one_in_second : (index : ℕ) (view : MarketView) (x : Record) (earlier old new : List Held) (said : List Stamped) → AppendsOne index view x old new [] said → AppendsOne (length earlier + index) view x (earlier ++ old) (earlier ++ new) [] said
+one_in_second : (index : ℕ) (view : MarketView) (x : Record) (earlier old new : List SymbolState) (said : List Stamped) → AppendsOne index view x old new [] said → AppendsOne (length earlier + index) view x (earlier ++ old) (earlier ++ new) [] said
 one_in_second index view x earlier old new said one =
-    subst (λ (xs : List Held). AppendsOne (length earlier + index) view x (earlier ++ xs) (earlier ++ new) [] said) (append-nil old)
-    (subst (λ (xs : List Held). AppendsOne (length earlier + index) view x (earlier ++ (old ++ [])) (earlier ++ xs) [] said) (append-nil new) (one_of_all index view x earlier old new [] [] said one))
+    subst (λ (xs : List SymbolState). AppendsOne (length earlier + index) view x (earlier ++ xs) (earlier ++ new) [] said) (append-nil old)
+    (subst (λ (xs : List SymbolState). AppendsOne (length earlier + index) view x (earlier ++ (old ++ [])) (earlier ++ xs) [] said) (append-nil new) (one_of_all index view x earlier old new [] [] said one))
 
 -- where neither says anything
 
-both_stay : (a a' b b' : List Held) (said told : List Stamped) → Stays a a' said → Stays b b' told → Stays (a ++ b) (a' ++ b') (said ++ told)
+both_stay : (a a' b b' : List SymbolState) (said told : List Stamped) → Stays a a' said → Stays b b' told → Stays (a ++ b) (a' ++ b') (said ++ told)
 both_stay a a' b b' said told (first, unsaid) (second, untold) = ((λ i. first i ++ second i), λ i. unsaid i ++ untold i)
 
 at_least : (a b : ℕ) → nat_le a b ≡ true → a ≤ b
@@ -53,7 +53,7 @@ less : (a b : ℕ) → nat_le a b ≡ false → b < a
 less a b e = grind (arith, nat_tests)
 
 -- the record is for one stock
-one_of_two : (id start : ℕ) (last : Bool) (view : MarketView) (x : Record) (a a' b b' : List Held) (said told : List Stamped)
+one_of_two : (id start : ℕ) (last : Bool) (view : MarketView) (x : Record) (a a' b b' : List SymbolState) (said told : List Stamped)
     → TakesFor (One id) start false view x a a' said → TakesFor (One id) (start + length a) last view x b b' told → TakesFor (One id) start last view x (a ++ b) (a' ++ b') (said ++ told)
 one_of_two id start last view x a a' b b' said told (before, after, first) (before', after', second) = (
   (λ early. both_stay a a' b b' said told (before early) (before' (omega arith))),
@@ -64,19 +64,19 @@ one_of_two id start last view x a a' b b' said told (before, after, first) (befo
   by index is within false e =
       let inside : index < length a = less (length a) index e in
       let rest = before' (omega arith) in
-      subst (λ (xs : List Held). AppendsOne index view x (a ++ b) (a' ++ xs) [] (said ++ told)) (sym rest.0)
+      subst (λ (xs : List SymbolState). AppendsOne index view x (a ++ b) (a' ++ xs) [] (said ++ told)) (sym rest.0)
       (subst (λ (ms : List Stamped). AppendsOne index view x (a ++ b) (a' ++ b) [] ms) (sym (append-nil said) ∙ ap (λ (ms : List Stamped). said ++ ms) (sym rest.1)) (one_in_first index view x a a' b said (first index is inside)))
   by index is within true e =
       let behind : length a ≤ index = at_least (length a) index e in
       let prefix = after (omega arith) in
       let own : index - length a < length b = omega (arith, within, length-append a b) in
       let there : length a + (index - length a) ≡ index = omega arith in
-      subst (λ (xs : List Held). AppendsOne index view x (a ++ b) (xs ++ b') [] (said ++ told)) (sym prefix.0)
+      subst (λ (xs : List SymbolState). AppendsOne index view x (a ++ b) (xs ++ b') [] (said ++ told)) (sym prefix.0)
       (subst (λ (ms : List Stamped). AppendsOne index view x (a ++ b) (a ++ b') [] (ms ++ told)) (sym prefix.1)
       (subst (λ (k : ℕ). AppendsOne k view x (a ++ b) (a ++ b') [] told) there (one_in_second (index - length a) view x a b b' told (second (index - length a) (omega arith) own))))
 
 -- or for a new one
-new_of_two : (id start : ℕ) (last : Bool) (view : MarketView) (x : Record) (a a' b b' : List Held) (said told : List Stamped)
+new_of_two : (id start : ℕ) (last : Bool) (view : MarketView) (x : Record) (a a' b b' : List SymbolState) (said told : List Stamped)
     → TakesFor (New id) start false view x a a' said → TakesFor (New id) (start + length a) last view x b b' told → TakesFor (New id) start last view x (a ++ b) (a' ++ b') (said ++ told)
 new_of_two id start last view x a a' b b' said told (stays, adds) (stays', adds') = (
   (λ e. both_stay a a' b b' said told (stays refl) (stays' e)),
@@ -87,15 +87,15 @@ new_of_two id start last view x a a' b b' said told (stays, adds) (stays', adds'
       record {
         stock = added.stock;
         is_new = added.is_new;
-        one = subst (λ (xs : List Held). AppendsOne (length (a ++ b)) view x ((a ++ b) ++ added.stock ∷ []) (xs ++ b') [] (said ++ told)) (sym prefix.0)
+        one = subst (λ (xs : List SymbolState). AppendsOne (length (a ++ b)) view x ((a ++ b) ++ added.stock ∷ []) (xs ++ b') [] (said ++ told)) (sym prefix.0)
             (subst (λ (ms : List Stamped). AppendsOne (length (a ++ b)) view x ((a ++ b) ++ added.stock ∷ []) (a ++ b') [] (ms ++ told)) (sym prefix.1)
             (subst (λ (k : ℕ). AppendsOne k view x ((a ++ b) ++ added.stock ∷ []) (a ++ b') [] told) (sym (length-append a b))
-            (subst (λ (xs : List Held). AppendsOne (length a + length b) view x xs (a ++ b') [] told) (sym (append_assoc a b (added.stock ∷ []))) one)));
+            (subst (λ (xs : List SymbolState). AppendsOne (length a + length b) view x xs (a ++ b') [] told) (sym (append_assoc a b (added.stock ∷ []))) one)));
       },
 )
 
 -- two ranges take a record as one
-pub two_take : (target : Target) (start : ℕ) (last : Bool) (view : MarketView) (x : Record) (a a' b b' : List Held) (said told : List Stamped)
+pub two_take : (target : Target) (start : ℕ) (last : Bool) (view : MarketView) (x : Record) (a a' b b' : List SymbolState) (said told : List Stamped)
     → TakesFor target start false view x a a' said → TakesFor target (start + length a) last view x b b' told → TakesFor target start last view x (a ++ b) (a' ++ b') (said ++ told)
 two_take Each start last view x a a' b b' said told (count, first) (count', second) = (
   length-append a' b' ∙ (λ i. count i + count' i) ∙ sym (length-append a b),
@@ -105,7 +105,7 @@ two_take (One id) start last view x a a' b b' said told first second = one_of_tw
 two_take (New id) start last view x a a' b b' said told first second = new_of_two id start last view x a a' b b' said told first second
 
 -- The first range keeps its length, since no new stock is its own.
-keeps_length : (target : Target) (start : ℕ) (view : MarketView) (x : Record) (a a' : List Held) (said : List Stamped) → TakesFor target start false view x a a' said → length a' ≡ length a
+keeps_length : (target : Target) (start : ℕ) (view : MarketView) (x : Record) (a a' : List SymbolState) (said : List Stamped) → TakesFor target start false view x a a' said → length a' ≡ length a
 keeps_length Each start view x a a' said takes = takes.0
 keeps_length (New id) start view x a a' said takes = ap length (takes.0 refl).0
 keeps_length (One id) start view x a a' said (before, after, one) = by (nat_le start id) refl (nat_le (start + length a) id) refl where
@@ -118,7 +118,7 @@ keeps_length (One id) start view x a a' said (before, after, one) = by (nat_le s
       (one (id - start) (omega arith) (omega arith)).count
 
 -- and so it is for all records
-pub two_take_all : (notes : List Note) (start : ℕ) (last : Bool) (a a' b b' : List Held) (said told : List (List Stamped))
+pub two_take_all : (notes : List Note) (start : ℕ) (last : Bool) (a a' b b' : List SymbolState) (said told : List (List Stamped))
     → TakesAll start false notes a a' said → TakesAll (start + length a) last notes b b' told → TakesAll start last notes (a ++ b) (a' ++ b') (behind_each said told)
 two_take_all [] start last a a' b b' said told (first, unsaid) (second, untold) = ((λ i. first i ++ second i), λ i. behind_each (unsaid i) (untold i))
 two_take_all (note ∷ notes) start last a a' b b' said told (middle, own, later, takes, rest, is) (middle', own', later', takes', rest', is') =

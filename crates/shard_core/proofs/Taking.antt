@@ -6,13 +6,13 @@ use Rattle.price_core.specs.declared.error.NoMemory.{NoMemory}
 use Rattle.wire_in.specs.declared.record.Record.{Record}
 use Rattle.wire_out.specs.declared.message.Stamped.{Stamped}
 use Rattle.symbol_core.specs.declared.symbol.MarketView.{MarketView}
-use Rattle.symbol_core.specs.Rests.{Held}
+use Rattle.symbol_core.specs.Rests.{SymbolState}
 use Rattle.shard_core.specs.declared.turns.Target.{Target}
 use Rattle.shard_core.specs.declared.turns.Target.TheVariants.{Each, One, New}
 use Rattle.shard_core.specs.Parts.{TakesFor, is_for}
 
 -- a record of the stock of an id
-pub one_takes : (r : Result (Unit {0}) NoMemory) (id start : ℕ) (last : Bool) (target : Target) (view : MarketView) (x : Record) (old new : List Held) (said : List Stamped) → target ≡ One id
+pub one_takes : (r : Result (Unit {0}) NoMemory) (id start : ℕ) (last : Bool) (target : Target) (view : MarketView) (x : Record) (old new : List SymbolState) (said : List Stamped) → target ≡ One id
     → OnOk r ((any : Bool) → TakesFor (One id) start any view x old new said) → OnOk r (TakesFor target start last view x old new said)
 one_takes (Err e) id start last target view x old new said is takes = tt
 one_takes (Ok u) id start last target view x old new said is takes = subst (λ (t : Target). TakesFor t start last view x old new said) (sym is) (takes last)
@@ -22,7 +22,7 @@ inside : (id start index count : ℕ) → id ≡ start + index → index < count
 inside id start index count is lt = grind (arith, nat_tests)
 
 -- a record that is for none of the stocks leaves them as they were
-pub none_takes : (target : Target) (start count : ℕ) (last : Bool) (view : MarketView) (x : Record) (old : List Held) → is_for target start last count ≡ false → length old ≡ count
+pub none_takes : (target : Target) (start count : ℕ) (last : Bool) (view : MarketView) (x : Record) (old : List SymbolState) → is_for target start last count ≡ false → length old ≡ count
     → TakesFor target start last view x old old []
 none_takes Each start count last view x old other many = absurd (true≢false other)
 none_takes (One id) start count last view x old other many =

@@ -6,7 +6,7 @@ use Rattle.std.proofs.Math.Seq.{take-suc}
 use Rattle.wire_in.specs.declared.record.Record.{Record}
 use Rattle.wire_in.specs.Records.{moment_of}
 use Rattle.wire_out.specs.declared.message.Stamped.{Stamped}
-use Rattle.symbol_core.specs.Rests.{Held}
+use Rattle.symbol_core.specs.Rests.{SymbolState}
 use Rattle.market_core.specs.Leads.{LeadState, led, rulings}
 use Rattle.market_core.specs.Ruled.{stamped}
 use Rattle.shard_core.specs.declared.tagged.Tagged.{Tagged}
@@ -91,17 +91,17 @@ one_led i xs turns with turn x lead middle new said before after lt count leads 
 
 -- one more record is taken
 
-pub takes-length : (start : ℕ) (last : Bool) (notes : List Note) (old new : List Held) (told : List (List Stamped)) → TakesAll start last notes old new told → length told ≡ length notes
+pub takes-length : (start : ℕ) (last : Bool) (notes : List Note) (old new : List SymbolState) (told : List (List Stamped)) → TakesAll start last notes old new told → length told ≡ length notes
 takes-length start last [] old new told (same, none) = ap length none
 takes-length start last (note ∷ notes) old new told (middle, said, later, takes, rest, is) = ap length is ∙ ap suc (takes-length start last notes middle new later rest)
 
-takes-append : (start : ℕ) (last : Bool) (notes : List Note) (note : Note) (old middle new : List Held) (told : List (List Stamped)) (said : List Stamped) → TakesAll start last notes old middle told
+takes-append : (start : ℕ) (last : Bool) (notes : List Note) (note : Note) (old middle new : List SymbolState) (told : List (List Stamped)) (said : List Stamped) → TakesAll start last notes old middle told
     → Takes start last note middle new said → TakesAll start last (notes ++ note ∷ []) old new (told ++ said ∷ [])
 takes-append start last [] note old middle new told said (same, none) takes = (
   new,
   said,
   [],
-  subst (λ (xs : List Held). Takes start last note xs new said) same takes,
+  subst (λ (xs : List SymbolState). Takes start last note xs new said) same takes,
   (refl, refl),
   ap (λ (all : List (List Stamped)). all ++ said ∷ []) none,
 )
@@ -114,10 +114,10 @@ takes-append start last (first ∷ notes) note old middle new told said (between
   ap (λ (all : List (List Stamped)). all ++ said ∷ []) is,
 )
 
-pub none_told : (start : ℕ) (last : Bool) (old new : List Held) (items : List Tagged) → new ≡ old → items ≡ [] → Tells start last [] old new items
+pub none_told : (start : ℕ) (last : Bool) (old new : List SymbolState) (items : List Tagged) → new ≡ old → items ≡ [] → Tells start last [] old new items
 none_told start last old new items same none = record { told = []; takes = (same, refl); items_are = none }
 
-pub one_told : (start : ℕ) (last : Bool) (i : ℕ) (xs : List Record) (turns : List Turn) (x : Record) (turn : Turn) (old middle new : List Held) (said : List Stamped) (before after : List Tagged)
+pub one_told : (start : ℕ) (last : Bool) (i : ℕ) (xs : List Record) (turns : List Turn) (x : Record) (turn : Turn) (old middle new : List SymbolState) (said : List Stamped) (before after : List Tagged)
     → i < length xs → length turns ≡ length xs → x ≡ get_or xs i x → turn ≡ get_or turns i turn
     → Tells start last (noted (take i xs) (take i turns)) old middle before → Takes start last (note_of x turn) middle new said → after ≡ before ++ tagged i said
     → Tells start last (noted (take (i + 1) xs) (take (i + 1) turns)) old new after
@@ -146,7 +146,7 @@ take-past (suc i) (x ∷ xs) le = ap (λ (ys : List _). x ∷ ys) (take-past i x
 pub all_led : (i : ℕ) (xs : List Record) (turns : List Turn) (lead new : LeadState) (market : List Tagged) → length xs ≤ i → LeadsTo (noted (take i xs) turns) lead new market → LeadsTo (noted xs turns) lead new market
 all_led i xs turns lead new market le leads = subst (λ (ys : List Record). LeadsTo (noted ys turns) lead new market) (take-past i xs le) leads
 
-pub all_told : (start : ℕ) (last : Bool) (i : ℕ) (xs : List Record) (turns : List Turn) (old new : List Held) (items : List Tagged) → length xs ≤ i → length turns ≡ length xs
+pub all_told : (start : ℕ) (last : Bool) (i : ℕ) (xs : List Record) (turns : List Turn) (old new : List SymbolState) (items : List Tagged) → length xs ≤ i → length turns ≡ length xs
     → Tells start last (noted (take i xs) (take i turns)) old new items → Tells start last (noted xs turns) old new items
 all_told start last i xs turns old new items le same tells =
     subst (λ (ys : List Record). Tells start last (noted ys turns) old new items) (take-past i xs le)

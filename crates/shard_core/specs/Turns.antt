@@ -6,7 +6,7 @@ use Rattle.wire_in.specs.declared.record.Record.TheVariants as in_
 use Rattle.wire_in.specs.Records.{is_day, moment_of}
 use Rattle.wire_out.specs.declared.message.Stamped.{Stamped}
 use Rattle.rulebook.specs.Admission.{most_names}
-use Rattle.symbol_core.specs.Rests.{Held}
+use Rattle.symbol_core.specs.Rests.{SymbolState}
 use Rattle.market_core.specs.declared.lead.Today.{Today}
 use Rattle.market_core.specs.Leads.{LeadState, led, rulings, today_led}
 use Rattle.market_core.specs.Ruled.{stamped, view_of}
@@ -71,7 +71,7 @@ pub record LeadsTo (notes : List Note) (lead last : LeadState) (market : List Ta
   pub items : market ≡ tagged_from 0 told
 
 -- the stocks of the ids from one on take records, and this is what is said
-pub record Tells (start : ℕ) (last : Bool) (notes : List Note) (old new : List Held) (items : List Tagged) : Type 0 where
+pub record Tells (start : ℕ) (last : Bool) (notes : List Note) (old new : List SymbolState) (items : List Tagged) : Type 0 where
   pub told : List (List Stamped)
   pub takes : TakesAll start last notes old new told
   pub items_are : items ≡ tagged_from 0 told

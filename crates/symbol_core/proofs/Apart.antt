@@ -14,7 +14,7 @@ use Rattle.session_core.specs.Durations.{five_minutes}
 use Rattle.rulebook.specs.Symbol.{begins_run, counted_in, is_times, phase_in, deals_in}
 use Rattle.pause_core.specs.Phases.{is_trading, is_limit}
 use Rattle.window_core.specs.declared.window.Deal.{Deal}
-use Rattle.symbol_core.specs.declared.kept.Step.{Step}
+use Rattle.symbol_core.specs.declared.state.Step.{Step}
 use Rattle.symbol_core.specs.InStep.{InStep}
 use Rattle.symbol_core.specs.Silent.{IsSilent, AllSilent}
 use Rattle.symbol_core.specs.Auctions.{auction_by}

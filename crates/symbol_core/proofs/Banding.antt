@@ -10,10 +10,10 @@ use Rattle.rulebook.specs.declared.symbol.Banded.{Banded}
 use Rattle.rulebook.specs.declared.symbol.Terms.{Terms}
 use Rattle.rulebook.specs.Rules.{differs}
 use Rattle.rulebook.specs.Symbol.{bands_of}
-use Rattle.symbol_core.specs.declared.kept.Kept.{Kept}
-use Rattle.symbol_core.specs.declared.kept.OpenStep.{OpenStep}
-use Rattle.symbol_core.specs.declared.kept.Run.{Run}
-use Rattle.symbol_core.specs.declared.kept.Step.{Step}
+use Rattle.symbol_core.specs.declared.state.Kept.{Kept}
+use Rattle.symbol_core.specs.declared.state.OpenStep.{OpenStep}
+use Rattle.symbol_core.specs.declared.state.Run.{Run}
+use Rattle.symbol_core.specs.declared.state.Step.{Step}
 use Rattle.symbol_core.specs.Idle.{WaitsAt, changes_bands}
 use Rattle.symbol_core.specs.InStep.{InStep, in_step}
 use Rattle.symbol_core.specs.Kept.{banded, run_banded}

@@ -13,7 +13,7 @@ use Rattle.rulebook.specs.Rules.{Context}
 use Rattle.rulebook.specs.Symbol.{phase}
 use Rattle.rulebook.proofs.Histories.{publish-append}
 use Rattle.window_core.specs.declared.window.Deal.{Deal}
-use Rattle.symbol_core.specs.declared.kept.Step.{Step}
+use Rattle.symbol_core.specs.declared.state.Step.{Step}
 use Rattle.symbol_core.specs.InStep.{InStep}
 use Rattle.symbol_core.specs.Stands.{named, phase_after, phase_said, Stands, Says, Obeys, ObeysWith, ObeysAll}
 

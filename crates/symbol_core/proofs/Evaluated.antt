@@ -14,11 +14,11 @@ use Rattle.rulebook.specs.declared.symbol.Terms.{Terms}
 use Rattle.rulebook.specs.History.{records}
 use Rattle.rulebook.specs.Symbol.{terms, terms_in}
 use Rattle.rulebook.proofs.Histories.{records-publish}
-use Rattle.symbol_core.specs.declared.kept.Kept.{Kept}
-use Rattle.symbol_core.specs.declared.kept.Step.{Step}
+use Rattle.symbol_core.specs.declared.state.Kept.{Kept}
+use Rattle.symbol_core.specs.declared.state.Step.{Step}
 use Rattle.symbol_core.specs.declared.symbol.MarketView.{MarketView}
 use Rattle.symbol_core.specs.Evaluates.{Evaluates, Opens, open_history, part_of, step_of}
-use Rattle.symbol_core.specs.Rests.{Held, Rests}
+use Rattle.symbol_core.specs.Rests.{Rests, SymbolState}
 use Rattle.symbol_core.specs.Silent.{IsOfOthers}
 use Rattle.symbol_core.specs.Stands.{named}
 use Rattle.symbol_core.specs.Steps.{Starts, Steps, step_for}
@@ -34,18 +34,18 @@ away-record mine x r =
     (λ y o. ap (λ (listed : Option Terms). away y listed) ((leaves y r o).terms mine)) x
 
 -- the same in the open history as in what is kept
-pub away-open : (mine : List ℕ → Bool) (held : Held) (x : Record) (others : List Message) (h : List Event) → Rests mine held h → away x (terms (open_history x others h) mine) ≡ away x held.kept.terms
+pub away-open : (mine : List ℕ → Bool) (held : SymbolState) (x : Record) (others : List Message) (h : List Event) → Rests mine held h → away x (terms (open_history x others h) mine) ≡ away x held.kept.terms
 away-open mine held x others h r =
     ap (λ (e : List Record). away x (terms_in mine e)) (records-publish others (Accepted x ∷ h))
     ∙ away-record mine x (records h)
     ∙ ap (λ (o : Option Terms). away x o) (sym r.terms)
 
-pub starts : (mine : List ℕ → Bool) (held : Held) (market : MarketView) (x : Record) (others : List Message) (h : List Event) → Opens mine held market x others h
+pub starts : (mine : List ℕ → Bool) (held : SymbolState) (market : MarketView) (x : Record) (others : List Message) (h : List Event) → Opens mine held market x others h
     → Starts mine held.kept held.deals (step_for market x) others h
 starts mine held market x others h p =
     record { rests = p.rests; silent = p.silent; no_day = p.no_day; name = p.name; index = p.index; day = p.day; moment = refl; stopped = p.stopped; later = p.later }
 
-pub step-evaluated : (market : MarketView) (x : Record) (held new : Held) (before after : List Message) → is_day x ≡ false → away x held.kept.terms ≡ false
+pub step-evaluated : (market : MarketView) (x : Record) (held new : SymbolState) (before after : List Message) → is_day x ≡ false → away x held.kept.terms ≡ false
     → Steps (step_for market x) held.kept new.kept held.deals new.deals before after → Evaluates market x held new before after
 step-evaluated market x held new before after no_day here s =
     record {
@@ -83,7 +83,7 @@ append_nothing [] = refl
 append_nothing (x ∷ xs) = ap (λ (ys : List Message). x ∷ ys) (append_nothing xs)
 
 -- a tick of a day on which it isn't listed
-pub evaluated-away : (market : MarketView) (x : Record) (held : Held) (before : List Message) → away x held.kept.terms ≡ true → Evaluates market x held held before before
+pub evaluated-away : (market : MarketView) (x : Record) (held : SymbolState) (before : List Message) → away x held.kept.terms ≡ true → Evaluates market x held held before before
 evaluated-away market x held before is_away =
     record {
       says = λ mine others h p. append_nothing before ∙ ap (λ (ms : List Message). before ++ ms) (sym (part_is mine others h p));
@@ -98,12 +98,12 @@ evaluated-away market x held before is_away =
         ap (λ (b : Bool). if b then [] else step_of market.day (named mine held.kept.id) x (open_history x others h)) (away-open mine held x others h p.rests ∙ is_away)
 
 -- the same, over what the code has
-pub step-obeyed : (market : MarketView) (x : Record) (held : Held) (k : Kept) (kept lent : List Deal) (new : Held) (before got after : List Message) (step : Step) → record { kept = k; deals = kept } ≡ held → step ≡ step_for market x → lent ≡ kept → got ≡ before
+pub step-obeyed : (market : MarketView) (x : Record) (held : SymbolState) (k : Kept) (kept lent : List Deal) (new : SymbolState) (before got after : List Message) (step : Step) → record { kept = k; deals = kept } ≡ held → step ≡ step_for market x → lent ≡ kept → got ≡ before
     → is_day x ≡ false → away x held.kept.terms ≡ false
     → Steps step k new.kept lent new.deals got after → Evaluates market x held new before after
 step-obeyed market x held k kept lent new before got after step v m l g no_day here s =
     step-evaluated market x held new before after no_day here
-    (subst (λ (a : Held). Steps (step_for market x) a.kept new.kept a.deals new.deals before after) v
+    (subst (λ (a : SymbolState). Steps (step_for market x) a.kept new.kept a.deals new.deals before after) v
     (subst (λ (u : Step). Steps u k new.kept kept new.deals before after) m
     (subst (λ (ds : List Deal). Steps step k new.kept ds new.deals before after) l
     (subst (λ (ms : List Message). Steps step k new.kept lent new.deals ms after) g s))))

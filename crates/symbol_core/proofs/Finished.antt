@@ -9,7 +9,7 @@ use Rattle.rulebook.specs.History.{now, records}
 use Rattle.rulebook.specs.Market.{day_record}
 use Rattle.rulebook.specs.Rules.{triggered_in}
 use Rattle.rulebook.specs.Symbol.{deals_of}
-use Rattle.symbol_core.specs.declared.kept.Step.{Step}
+use Rattle.symbol_core.specs.declared.state.Step.{Step}
 use Rattle.symbol_core.specs.InStep.{InStep}
 use Rattle.symbol_core.specs.Rests.{Rests}
 use Rattle.symbol_core.specs.Stands.{Stands}

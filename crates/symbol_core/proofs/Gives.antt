@@ -34,8 +34,8 @@ use Rattle.rulebook.specs.Market.{is_market_halted}
 use Rattle.rulebook.specs.Rules as rules
 use Rattle.rulebook.specs.Rules.{Context, at_band, meets, or_else}
 use Rattle.rulebook.specs.Symbol as of
-use Rattle.symbol_core.specs.declared.kept.Kept.{Kept}
-use Rattle.symbol_core.specs.declared.kept.Step.{Step}
+use Rattle.symbol_core.specs.declared.state.Kept.{Kept}
+use Rattle.symbol_core.specs.declared.state.Step.{Step}
 use Rattle.symbol_core.specs.InStep.{InStep}
 use Rattle.symbol_core.specs.Auctions.{auction_by, auction_of, auction_with}
 use Rattle.symbol_core.specs.Kept.{announcing, auction_begun, becoming, brakes, collars_of, pause_now, pausing, reopened, reopening, reopening_with, straddling}

@@ -20,8 +20,8 @@ use Rattle.rulebook.specs.declared.symbol.Banded.{Banded}
 use Rattle.rulebook.specs.declared.symbol.Terms.{Terms}
 use Rattle.rulebook.specs.Rules.{asks_to_pause, at_band}
 use Rattle.rulebook.specs.Symbol.{bands_of}
-use Rattle.symbol_core.specs.declared.kept.Kept.{Kept}
-use Rattle.symbol_core.specs.declared.kept.Step.{Step}
+use Rattle.symbol_core.specs.declared.state.Kept.{Kept}
+use Rattle.symbol_core.specs.declared.state.Step.{Step}
 use Rattle.symbol_core.specs.InStep.{InStep}
 use Rattle.symbol_core.specs.Kept.{auction_begun, collars_of, is_straddling_now, pausing, pausing_as, reopened, reopening, reopening_with, straddling}
 use Rattle.symbol_core.specs.Pricing.{band, band_by_time, banding, reference, time_changes}

@@ -16,8 +16,8 @@ use Rattle.rulebook.specs.declared.event.Event.TheVariants.{Accepted, Published}
 use Rattle.rulebook.specs.History.{Found, now, newest, open_step, today, last}
 use Rattle.rulebook.specs.Symbol.{begins_run, quote_in, is_times, deals_in, deals_of}
 use Rattle.window_core.specs.declared.window.Deal.{Deal}
-use Rattle.symbol_core.specs.declared.kept.Run.{Run}
-use Rattle.symbol_core.specs.declared.kept.Step.{Step}
+use Rattle.symbol_core.specs.declared.state.Run.{Run}
+use Rattle.symbol_core.specs.declared.state.Step.{Step}
 use Rattle.symbol_core.specs.InStep.{InStep}
 use Rattle.symbol_core.specs.Auctions.{auction_by, auction_of}
 use Rattle.symbol_core.specs.Kept.{in_round, straddled, with_auction, released, banded, restarts, run_banded}

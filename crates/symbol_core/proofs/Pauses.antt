@@ -15,8 +15,8 @@ use Rattle.price_core.specs.declared.quote.Cause.TheVariants.{First, Forced, Mov
 use Rattle.rulebook.specs.Rules.{or_else}
 use Rattle.rulebook.specs.Symbol.{is_times}
 use Rattle.rulebook.specs.Auction.{is_paused}
-use Rattle.symbol_core.specs.declared.kept.Kept.{Kept}
-use Rattle.symbol_core.specs.declared.kept.Step.{Step}
+use Rattle.symbol_core.specs.declared.state.Kept.{Kept}
+use Rattle.symbol_core.specs.declared.state.Step.{Step}
 use Rattle.symbol_core.specs.InStep.{InStep}
 use Rattle.symbol_core.specs.Kept.{begins_auction}
 use Rattle.symbol_core.specs.Pricing.{later_price, offered, reference, released_first}

@@ -9,7 +9,7 @@ use Rattle.rulebook.specs.History.{now, newest, step_record, today, last, Found}
 use Rattle.pause_core.specs.Phases.{is_trading, is_limit}
 use Rattle.rulebook.specs.Symbol.{begins_run, phase_in, quote_in, deals_in, deals_of}
 use Rattle.window_core.specs.declared.window.Deal.{Deal}
-use Rattle.symbol_core.specs.declared.kept.Step.{Step}
+use Rattle.symbol_core.specs.declared.state.Step.{Step}
 use Rattle.symbol_core.specs.InStep.{InStep}
 use Rattle.reopen_core.specs.declared.auction.Indication.{Indication}
 use Rattle.reopen_core.specs.declared.auction.Origin.{Origin}

@@ -12,8 +12,8 @@ use Rattle.rulebook.specs.History.{publish}
 use Rattle.rulebook.specs.Rules.{asks_to_pause}
 use Rattle.session_core.specs.declared.day.Day.{Day}
 use Rattle.symbol_core.specs.declared.due.Due.{Due}
-use Rattle.symbol_core.specs.declared.kept.Kept.{Kept}
-use Rattle.symbol_core.specs.declared.kept.Step.{Step}
+use Rattle.symbol_core.specs.declared.state.Kept.{Kept}
+use Rattle.symbol_core.specs.declared.state.Step.{Step}
 use Rattle.symbol_core.specs.declared.symbol.MarketView.{MarketView}
 use Rattle.symbol_core.specs.Idle.{IsDue, IsQuiet, IsSettled, Waits, WaitsAt, changes_bands, comes_often, is_out}
 use Rattle.symbol_core.specs.InStep.{InStep}

@@ -10,16 +10,16 @@ use Rattle.window_core.specs.declared.window.Deal.{Deal}
 use Rattle.window_core.specs.Deals.{live, mean_of}
 use Rattle.window_core.proofs.Deals.{live-live}
 use Rattle.symbol_core.specs.declared.due.Due.{Due}
-use Rattle.symbol_core.specs.declared.kept.Kept.{Kept}
-use Rattle.symbol_core.specs.declared.kept.Run.{Run}
-use Rattle.symbol_core.specs.declared.kept.Step.{Step}
+use Rattle.symbol_core.specs.declared.state.Kept.{Kept}
+use Rattle.symbol_core.specs.declared.state.Run.{Run}
+use Rattle.symbol_core.specs.declared.state.Step.{Step}
 use Rattle.symbol_core.specs.declared.symbol.MarketView.{MarketView}
 use Rattle.symbol_core.specs.Evaluates.{Evaluates}
 use Rattle.symbol_core.specs.Idle.{IsDue, IsIdle, IsSettled, IsSettledAt, WaitsAt, changes_bands, is_out}
 use Rattle.symbol_core.specs.InStep.{at_rest}
 use Rattle.symbol_core.specs.Kept.{quoted_by, requoted, with_quote}
 use Rattle.symbol_core.specs.Pricing.{reference}
-use Rattle.symbol_core.specs.Rests.{Held}
+use Rattle.symbol_core.specs.Rests.{SymbolState}
 use Rattle.symbol_core.specs.Steps.{Steps, step_for}
 use Rattle.symbol_core.specs.Taken.{leaves, taken}
 use Rattle.symbol_core.specs.Window.{SameLive, window}
@@ -35,7 +35,7 @@ pub settled-market : (k : Kept) (deals : List Deal) (due : Due) (market : Market
 settled-market k deals due market is inside same = let idle = is inside in subst (λ (m : MarketView). IsSettled k m.stopped) (sym same) idle.settled
 
 -- the symbol once a quotation of its run is taken in at a moment, and nothing else
-abbrev pub quoted : Held → ℕ → Quotation → Held
+abbrev pub quoted : SymbolState → ℕ → Quotation → SymbolState
 quoted held t quote = record { kept = with_quote held.kept quote; deals = live t held.deals }
 
 -- what a quotation leaves

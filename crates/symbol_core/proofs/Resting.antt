@@ -29,10 +29,10 @@ use Rattle.rulebook.specs.Rules.{or_else}
 use Rattle.rulebook.specs.Symbol as of
 use Rattle.rulebook.specs.Symbol.{begins_run, counted_in, deals_in, deals_of, is_under_regulatory_halt_in, is_times, phase_in, quote_in}
 use Rattle.rulebook.proofs.OtherRecords.{day_record-same}
-use Rattle.symbol_core.specs.declared.kept.Kept.{Kept}
+use Rattle.symbol_core.specs.declared.state.Kept.{Kept}
 use Rattle.symbol_core.specs.Auctions.{auction_by}
 use Rattle.symbol_core.specs.Kept.{heard}
-use Rattle.symbol_core.specs.Rests.{Held, Rests, deals_today}
+use Rattle.symbol_core.specs.Rests.{Rests, SymbolState, deals_today}
 use Rattle.symbol_core.specs.Runs.{adoption_by, run_adopted, run_band, run_begun, run_quote}
 use Rattle.symbol_core.specs.Silent.{AllSilent, IsOfOthers, IsSilent, SaysNothing}
 use Rattle.symbol_core.specs.Taken.{renewed}
@@ -44,7 +44,7 @@ use Rattle.symbol_core.proofs.Others.{deals-others, halted-others, indicated-oth
 use Rattle.symbol_core.proofs.Taken.{adoption-taken, auction-taken, auction_since, halted-taken, quote-taken, run_taken}
 
 -- one more message that says nothing of it
-rests-message : (mine : List ℕ → Bool) (held : Held) (m : Message) (h : List Event) → IsSilent held.kept.id m → Rests mine held h → Rests mine held (Published m ∷ h)
+rests-message : (mine : List ℕ → Bool) (held : SymbolState) (m : Message) (h : List Event) → IsSilent held.kept.id m → Rests mine held h → Rests mine held (Published m ∷ h)
 rests-message mine held m h q r =
     record {
       terms = r.terms;
@@ -104,7 +104,7 @@ rests-message mine held m h q r =
     deals_stay (Some day) = of_begun (deals_from day.0 s) s m h false none_begins (counts day.0)
 
 -- A symbol that rests does so after further messages that say nothing of it.
-pub rests-silent : (mine : List ℕ → Bool) (held : Held) (ms : List Message) (h : List Event) → AllSilent held.kept.id ms → Rests mine held h → Rests mine held (publish ms h)
+pub rests-silent : (mine : List ℕ → Bool) (held : SymbolState) (ms : List Message) (h : List Event) → AllSilent held.kept.id ms → Rests mine held h → Rests mine held (publish ms h)
 rests-silent mine held [] h q r = r
 rests-silent mine held (m ∷ ms) h q r = rests-silent mine held ms (Published m ∷ h) q.1 (rests-message mine held m h q.0 r)
 
@@ -129,7 +129,7 @@ rests-same mine k deals other h same r =
     }
 
 -- one more record of others
-rests-record : (mine : List ℕ → Bool) (held : Held) (x : Record) (h : List Event) → is_day x ≡ false → IsOfOthers mine held.kept.id x → SameLive (moment_of x) held.deals (deals_today held.kept.id h) → Rests mine held h
+rests-record : (mine : List ℕ → Bool) (held : SymbolState) (x : Record) (h : List Event) → is_day x ≡ false → IsOfOthers mine held.kept.id x → SameLive (moment_of x) held.deals (deals_today held.kept.id h) → Rests mine held h
     → Rests mine held (Accepted x ∷ h)
 rests-record mine held x h not_day o same r =
     record {
@@ -179,13 +179,13 @@ rests-record mine held x h not_day o same r =
 
 -- A symbol that rests does so after a record of others that is no day, as a clock or an index tick at which it isn't evaluated,
 -- and messages that say nothing of it.
-pub rests-apart : (mine : List ℕ → Bool) (held : Held) (x : Record) (others : List Message) (h : List Event) → is_day x ≡ false → IsOfOthers mine held.kept.id x → AllSilent held.kept.id others → now h ≤ moment_of x
+pub rests-apart : (mine : List ℕ → Bool) (held : SymbolState) (x : Record) (others : List Message) (h : List Event) → is_day x ≡ false → IsOfOthers mine held.kept.id x → AllSilent held.kept.id others → now h ≤ moment_of x
     → Rests mine held h → Rests mine held (publish others (Accepted x ∷ h))
 rests-apart mine held x others h not_day o q later r =
     rests-silent mine held others (Accepted x ∷ h) q (rests-record mine held x h not_day o (same_later (now h) (moment_of x) held.deals (deals_today held.kept.id h) later r.deals) r)
 
 -- A new day: nothing is kept but whether the day before triggered.
-pub rests-day : (mine : List ℕ → Bool) (held : Held) (t : ℕ) (day : Day) (index : ℕ) (h : List Event) → Rests mine held h
+pub rests-day : (mine : List ℕ → Bool) (held : SymbolState) (t : ℕ) (day : Day) (index : ℕ) (h : List Event) → Rests mine held h
     → Rests mine (record { kept = renewed held.kept.id held.kept.short.triggered; deals = [] }) (Accepted (in_.Day t day index) ∷ h)
 rests-day mine held t day index h r =
     record {
@@ -206,7 +206,7 @@ rests-day mine held t day index h r =
     }
 
 -- the same of a record that is a day
-pub rests-renewed : (mine : List ℕ → Bool) (held : Held) (x : Record) (h : List Event) → is_day x ≡ true → Rests mine held h
+pub rests-renewed : (mine : List ℕ → Bool) (held : SymbolState) (x : Record) (h : List Event) → is_day x ≡ true → Rests mine held h
     → Rests mine (record { kept = renewed held.kept.id held.kept.short.triggered; deals = [] }) (Accepted x ∷ h)
 rests-renewed mine held x h e r =
     by_listing (λ y. is_day y ≡ true → Rests mine (record { kept = renewed held.kept.id held.kept.short.triggered; deals = [] }) (Accepted y ∷ h))
@@ -253,7 +253,7 @@ rests-new mine s [] q = rests-empty mine s
 rests-new mine s (Published m ∷ h) q = rests-message mine (record { kept = renewed s false; deals = [] }) m h q.0 (rests-new mine s h q.1)
 rests-new mine s (Accepted x ∷ h) q = by (is_day x) refl (rests-new mine s h q.1)
   where
-    fresh : Held
+    fresh : SymbolState
     fresh = record { kept = renewed s false; deals = [] }
 
     by : (b : Bool) → is_day x ≡ b → Rests mine fresh h → Rests mine fresh (Accepted x ∷ h)

@@ -3,7 +3,7 @@ use Rattle.std.proofs.Common.{◌≡◌, Bool, true, false, refl}
 use Rattle.std.specs.Prelude.{Option, Some, None, if◌then◌else◌, is_some, option_and_then, option_map, unwrap_or}
 use Rattle.std.specs.Option.{option_map_or}
 use Rattle.refprice_core.specs.ReferenceState.{ReferenceState}
-use Rattle.symbol_core.specs.declared.kept.Run.{Run}
+use Rattle.symbol_core.specs.declared.state.Run.{Run}
 
 abbrev pub reference_in : Option Run → ReferenceState
 reference_in o = option_map_or (λ run. run.reference) o (record { begun = 0; last = None })

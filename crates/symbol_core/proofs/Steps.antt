@@ -13,8 +13,8 @@ use Rattle.rulebook.specs.Market.{day_record, is_market_halted}
 use Rattle.rulebook.specs.Symbol.{deals_in, deals_of}
 use Rattle.rulebook.proofs.Histories.{records-publish, publish-append}
 use Rattle.rulebook.proofs.OtherRecords.{day_record-same}
-use Rattle.symbol_core.specs.declared.kept.Kept.{Kept}
-use Rattle.symbol_core.specs.declared.kept.Step.{Step}
+use Rattle.symbol_core.specs.declared.state.Kept.{Kept}
+use Rattle.symbol_core.specs.declared.state.Step.{Step}
 use Rattle.symbol_core.specs.Evaluates.{open_history, step_of}
 use Rattle.symbol_core.specs.InStep.{InStep}
 use Rattle.symbol_core.specs.Kept.{announcing}

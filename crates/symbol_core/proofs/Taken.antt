@@ -23,9 +23,9 @@ use Rattle.rulebook.specs.Rules.{or_else}
 use Rattle.rulebook.specs.Symbol.{cancels, counted_in, is_under_regulatory_halt_in, quote_in, terms_in, deals_in, deals_of}
 use Rattle.eligible_core.specs.Conditions.{eligible}
 use Rattle.window_core.specs.declared.window.Deal.{Deal}
-use Rattle.symbol_core.specs.declared.kept.Kept.{Kept}
-use Rattle.symbol_core.specs.declared.kept.Run.{Run}
-use Rattle.symbol_core.specs.declared.kept.Step.{Step}
+use Rattle.symbol_core.specs.declared.state.Kept.{Kept}
+use Rattle.symbol_core.specs.declared.state.Run.{Run}
+use Rattle.symbol_core.specs.declared.state.Step.{Step}
 use Rattle.symbol_core.specs.Auctions.{auction_by}
 use Rattle.symbol_core.specs.Kept.{heard, quoted_by, requoted}
 use Rattle.symbol_core.specs.Runs.{adoption_by, run_adopted, run_band, run_begun, run_quote}

@@ -19,8 +19,8 @@ use Rattle.rulebook.specs.History.{publish}
 use Rattle.rulebook.specs.Rules as rules
 use Rattle.rulebook.specs.Rules.{Context}
 use Rattle.rulebook.specs.Symbol.{phase}
-use Rattle.symbol_core.specs.declared.kept.Kept.{Kept}
-use Rattle.symbol_core.specs.declared.kept.Step.{Step}
+use Rattle.symbol_core.specs.declared.state.Kept.{Kept}
+use Rattle.symbol_core.specs.declared.state.Step.{Step}
 use Rattle.symbol_core.specs.InStep.{InStep}
 use Rattle.symbol_core.specs.Kept.{becoming, brakes, states, turned}
 use Rattle.symbol_core.specs.Stands.{named, ObeysAll, Says, Stands, turning_rules}

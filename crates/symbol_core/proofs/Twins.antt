@@ -36,14 +36,14 @@ use Rattle.rulebook.specs.Rules.{Context, at_band}
 use Rattle.rulebook.specs.Symbol as of
 use Rattle.rulebook.specs.Symbol.{is_times}
 use Rattle.rulebook.proofs.Histories.{publish-append}
-use Rattle.symbol_core.specs.declared.kept.Kept.{Kept}
-use Rattle.symbol_core.specs.declared.kept.Step.{Step}
+use Rattle.symbol_core.specs.declared.state.Kept.{Kept}
+use Rattle.symbol_core.specs.declared.state.Step.{Step}
 use Rattle.symbol_core.specs.declared.symbol.MarketView.{MarketView}
 use Rattle.symbol_core.specs.Evaluates.{Opens, open_history, part_of, step_of}
 use Rattle.symbol_core.specs.Kept.{announcing, auction_begun, banded, becoming, begins_auction, brakes, collars_of, in_round, is_straddling_now, pause_now, pausing, pausing_as, released, reopened, reopening, reopening_with, straddled, straddling, turned, with_auction}
 use Rattle.symbol_core.specs.Pricing.{band, band_by_time, banding, reference, time_changes}
 use Rattle.symbol_core.specs.InStep.{InStep}
-use Rattle.symbol_core.specs.Rests.{Held, Rests}
+use Rattle.symbol_core.specs.Rests.{Rests, SymbolState}
 use Rattle.symbol_core.specs.Runs.{run_band, run_quote}
 use Rattle.symbol_core.specs.Stands.{named, Stands}
 use Rattle.symbol_core.specs.Steps.{Starts, step_for}
@@ -306,7 +306,7 @@ obeyed_pairs (rule ∷ later) all mine other step deals k h g s t =
 
 -- a kept state that rests on both
 pub record Twins (mine other : List ℕ → Bool) (s : ℕ) (h g : List Event) : Type 0 where
-  pub held : Held
+  pub held : SymbolState
   pub id : held.kept.id ≡ s
   pub one : Rests mine held h
   pub two : Rests other held g
@@ -355,7 +355,7 @@ step_twins mine other step k kept others more h g p q =
       };
     }
 
-own_twins : (mine other : List ℕ → Bool) (market : MarketView) (x : Record) (held : Held) (others more : List Message) (h g : List Event) → Opens mine held market x others h → Opens other held market x more g
+own_twins : (mine other : List ℕ → Bool) (market : MarketView) (x : Record) (held : SymbolState) (others more : List Message) (h g : List Event) → Opens mine held market x others h → Opens other held market x more g
     → Alike mine other held.kept.id (part_of market.day (named mine held.kept.id) x (open_history x others h)) (part_of market.day (named other held.kept.id) x (open_history x more g))
     (open_history x others h) (open_history x more g)
 own_twins mine other market x held others more h g p q = by (away x held.kept.terms) refl where
@@ -382,7 +382,7 @@ own_twins mine other market x held others more h g p q = by (away x held.kept.te
       (step_twins mine other (step_for market x) held.kept held.deals others more h g (starts mine held market x others h p) (starts other held market x more g q)))
 
 -- a record that isn't a day
-pub twins-step : (mine other : List ℕ → Bool) (market : MarketView) (x : Record) (s : ℕ) (held : Held) (others more : List Message) (h g : List Event) → held.kept.id ≡ s
+pub twins-step : (mine other : List ℕ → Bool) (market : MarketView) (x : Record) (s : ℕ) (held : SymbolState) (others more : List Message) (h g : List Event) → held.kept.id ≡ s
     → Opens mine held market x others h → Opens other held market x more g
     → Alike mine other s (part_of market.day (named mine s) x (open_history x others h)) (part_of market.day (named other s) x (open_history x more g)) (open_history x others h) (open_history x more g)
 twins-step mine other market x s held others more h g is p q =

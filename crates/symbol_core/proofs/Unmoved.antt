@@ -34,15 +34,15 @@ use Rattle.rulebook.specs.Rules as rules
 use Rattle.rulebook.specs.Rules.{Context, asks_to_pause, at_band}
 use Rattle.rulebook.specs.Symbol.{phase, terms}
 use Rattle.symbol_core.specs.declared.due.Due.{Due}
-use Rattle.symbol_core.specs.declared.kept.Kept.{Kept}
-use Rattle.symbol_core.specs.declared.kept.Step.{Step}
+use Rattle.symbol_core.specs.declared.state.Kept.{Kept}
+use Rattle.symbol_core.specs.declared.state.Step.{Step}
 use Rattle.symbol_core.specs.declared.symbol.MarketView.{MarketView}
 use Rattle.symbol_core.specs.Evaluates.{Evaluates, Opens, open_history, part_of}
 use Rattle.symbol_core.specs.Kept.{becoming, brakes, pausing_as, reopened, reopening, reopening_with}
 use Rattle.symbol_core.specs.Pricing.{band, band_by_time, reference, time_changes}
 use Rattle.symbol_core.specs.Idle.{IsDue, IsIdle, IsQuiet, IsSettled, Waits, changes_bands, reopens_at, starts_at}
 use Rattle.symbol_core.specs.InStep.{InStep, at_rest}
-use Rattle.symbol_core.specs.Rests.{Held}
+use Rattle.symbol_core.specs.Rests.{SymbolState}
 use Rattle.symbol_core.specs.Runs.{run_band, run_quote}
 use Rattle.symbol_core.specs.Silent.{IsOfOthers}
 use Rattle.symbol_core.specs.Stands.{named, Stands}
@@ -99,7 +99,7 @@ none_said : (day : Day) (s : Named) (x : Record) (h : List Event) (later : List 
 none_said day s x h [] n = refl
 none_said day s x h (rule ∷ later) n = (λ i. n.0 i ++ all_obeyed day s x later (publish (n.0 i) h)) ∙ none_said day s x h later n.1
 
-evaluated-none : (market : MarketView) (x : Record) (held : Held) (before : List Message) → is_tick x ≡ true
+evaluated-none : (market : MarketView) (x : Record) (held : SymbolState) (before : List Message) → is_tick x ≡ true
     → ((mine : List ℕ → Bool) (others : List Message) (h : List Event) → Opens mine held market x others h → NoneSaid market.day (named mine held.kept.id) x (open_history x others h) symbol_rules)
     → Evaluates market x held held before before
 evaluated-none market x held before tick none =
@@ -129,7 +129,7 @@ evaluated-none market x held before tick none =
 
 -- A closed symbol.
 
-pub evaluated-closed : (market : MarketView) (x : Record) (held : Held) (before : List Message) → is_tick x ≡ true → is_done held.kept.phase ≡ true → Evaluates market x held held before before
+pub evaluated-closed : (market : MarketView) (x : Record) (held : SymbolState) (before : List Message) → is_tick x ≡ true → is_done held.kept.phase ≡ true → Evaluates market x held held before before
 evaluated-closed market x held before tick done = evaluated-none market x held before tick (λ mine others h p. all symbol_rules mine others h (closed mine others h p)) where
   closed : (mine : List ℕ → Bool) (others : List Message) (h : List Event) → Opens mine held market x others h → is_done (phase (open_history x others h) held.kept.id) ≡ true
   closed mine others h p =
@@ -269,7 +269,7 @@ idle_quiet k deals due step idle tick from until day stopped =
     of_none : OfNone k.id step.input
     of_none = tick_of_none k.id step.input tick
 
-evaluated-idle : (market : MarketView) (x : Record) (held : Held) (due : Due) (before : List Message) → IsIdle held.kept held.deals due → is_tick x ≡ true → due.from ≤ moment_of x → moment_of x < due.until → market ≡ due.market
+evaluated-idle : (market : MarketView) (x : Record) (held : SymbolState) (due : Due) (before : List Message) → IsIdle held.kept held.deals due → is_tick x ≡ true → due.from ≤ moment_of x → moment_of x < due.until → market ≡ due.market
     → Evaluates market x held held before before
 evaluated-idle market x held due before idle tick from until same =
     evaluated-none market x held before tick
@@ -289,7 +289,7 @@ evaluated-idle market x held due before idle tick from until same =
     of_none = tick_of_none k.id x tick
 
 -- a tick before a symbol is due
-pub evaluated-due : (market : MarketView) (x : Record) (held : Held) (due : Due) (before : List Message) → IsDue (Some due) held.kept held.deals → is_tick x ≡ true → due.from ≤ moment_of x → moment_of x < due.until → market ≡ due.market
+pub evaluated-due : (market : MarketView) (x : Record) (held : SymbolState) (due : Due) (before : List Message) → IsDue (Some due) held.kept held.deals → is_tick x ≡ true → due.from ≤ moment_of x → moment_of x < due.until → market ≡ due.market
     → Evaluates market x held held before before
 evaluated-due market x held due before is tick from until same = by (is_done held.kept.phase) (is_some held.kept.terms) refl refl where
   by : (done listed : Bool) → is_done held.kept.phase ≡ done → is_some held.kept.terms ≡ listed → Evaluates market x held held before before
@@ -298,7 +298,7 @@ evaluated-due market x held due before is tick from until same = by (is_done hel
   by false true e f = evaluated-idle market x held due before (is (λ i. e i || not (f i))) tick from until same
 
 -- Deals that are five minutes old may go at a tick.
-pub evaluated-live : (market : MarketView) (x : Record) (held : Held) (before : List Message) → is_tick x ≡ true → Evaluates market x held held before before
+pub evaluated-live : (market : MarketView) (x : Record) (held : SymbolState) (before : List Message) → is_tick x ≡ true → Evaluates market x held held before before
     → Evaluates market x held (record { kept = held.kept; deals = live (moment_of x) held.deals }) before before
 evaluated-live market x held before tick e =
     record {
@@ -352,10 +352,10 @@ due-later k deals due t from is = λ inside. by (is inside) where
       }
 
 -- of a symbol that is due, if ever
-abbrev pub IsPassed : Option Due → Held → Type 0
+abbrev pub IsPassed : Option Due → SymbolState → Type 0
 IsPassed o held = IfSome o (λ due. (x : Record) → is_tick x ≡ true → due.from ≤ moment_of x → moment_of x < due.until → (before : List Message) → Evaluates due.market x held held before before)
 
-pub passed : (o : Option Due) (held : Held) → IsDue o held.kept held.deals → IsPassed o held
+pub passed : (o : Option Due) (held : SymbolState) → IsDue o held.kept held.deals → IsPassed o held
 passed None held is = tt
 passed (Some due) held is = λ x tick from until before. evaluated-due due.market x held due before is tick from until refl
 

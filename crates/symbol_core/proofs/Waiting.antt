@@ -30,8 +30,8 @@ use Rattle.rulebook.specs.declared.symbol.Terms.{Terms}
 use Rattle.rulebook.specs.Rules as rules
 use Rattle.rulebook.specs.Rules.{or_else}
 use Rattle.rulebook.specs.Symbol as of
-use Rattle.symbol_core.specs.declared.kept.Kept.{Kept}
-use Rattle.symbol_core.specs.declared.kept.Step.{Step}
+use Rattle.symbol_core.specs.declared.state.Kept.{Kept}
+use Rattle.symbol_core.specs.declared.state.Step.{Step}
 use Rattle.symbol_core.specs.Idle.{PricesFrom, changes_bands, pauses_at, reopens_at, starts_at}
 use Rattle.symbol_core.specs.InStep.{at_rest}
 use Rattle.symbol_core.specs.Pricing.{later_price, offered, priced_by, reference, time_changes}

@@ -12,7 +12,7 @@ use Rattle.rulebook.specs.History.{now, publish, records}
 use Rattle.rulebook.specs.Market.{day_record, is_market_halted}
 use Rattle.rulebook.specs.Symbol.{terms}
 use Rattle.symbol_core.specs.declared.symbol.MarketView.{MarketView}
-use Rattle.symbol_core.specs.Rests.{Held, Rests}
+use Rattle.symbol_core.specs.Rests.{Rests, SymbolState}
 use Rattle.symbol_core.specs.Silent.{AllSilent}
 use Rattle.symbol_core.specs.Stands.{named}
 
@@ -33,7 +33,7 @@ abbrev pub part_of : Day → Named → Record → List Event → List Message
 part_of day s x h = if is_tick x && not (is_some (terms h s.own)) then [] else step_of day s x h
 
 -- a record other than a day comes after a history that the symbol rests on
-pub record Opens (own : List ℕ → Bool) (held : Held) (market : MarketView) (x : Record) (others : List Message) (h : List Event) : Type 0 where
+pub record Opens (own : List ℕ → Bool) (held : SymbolState) (market : MarketView) (x : Record) (others : List Message) (h : List Event) : Type 0 where
   pub rests : Rests own held h
   pub silent : AllSilent held.kept.id others
   pub no_day : is_day x ≡ false
@@ -45,7 +45,7 @@ pub record Opens (own : List ℕ → Bool) (held : Held) (market : MarketView) (
 
 -- A record is evaluated: what the symbol says is its part of the step, and it then rests on the history with that. A day
 -- record begins its day, and it says nothing.
-pub record Evaluates (market : MarketView) (x : Record) (old new : Held) (before after : List Message) : Type 0 where
+pub record Evaluates (market : MarketView) (x : Record) (old new : SymbolState) (before after : List Message) : Type 0 where
   pub says : (own : List ℕ → Bool) (others : List Message) (h : List Event) → Opens own old market x others h
       → after ≡ before ++ part_of market.day (named own old.kept.id) x (open_history x others h)
   pub rests : (own : List ℕ → Bool) (others : List Message) (h : List Event) → Opens own old market x others h

@@ -16,8 +16,8 @@ use Rattle.window_core.specs.declared.window.Deal.{Deal}
 use Rattle.window_core.specs.Deals.{live, mean_of}
 use Rattle.rulebook.specs.Rules.{asks_to_pause, at_band}
 use Rattle.symbol_core.specs.declared.due.Due.{Due}
-use Rattle.symbol_core.specs.declared.kept.Kept.{Kept}
-use Rattle.symbol_core.specs.declared.kept.Step.{Step}
+use Rattle.symbol_core.specs.declared.state.Kept.{Kept}
+use Rattle.symbol_core.specs.declared.state.Step.{Step}
 use Rattle.symbol_core.specs.declared.symbol.MarketView.{MarketView}
 use Rattle.symbol_core.specs.InStep.{InStep, at_rest}
 use Rattle.symbol_core.specs.Kept.{straddles_at}

@@ -1,8 +1,8 @@
 -- A stock in an open step. Private words: no public clause cites them.
 use Rattle.std.specs.Prelude.{Bool, false, Option, None}
 use Rattle.window_core.specs.declared.window.Deal.{Deal}
-use Rattle.symbol_core.specs.declared.kept.Kept.{Kept}
-use Rattle.symbol_core.specs.declared.kept.OpenStep.{OpenStep}
+use Rattle.symbol_core.specs.declared.state.Kept.{Kept}
+use Rattle.symbol_core.specs.declared.state.OpenStep.{OpenStep}
 
 -- what is kept of it, and what belongs to the step alone
 pub record InStep : Type 0 where

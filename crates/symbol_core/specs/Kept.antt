@@ -27,9 +27,9 @@ use Rattle.rulebook.specs.declared.symbol.Banded.{Banded}
 use Rattle.rulebook.specs.Auction.{is_paused, indicated_by, origin_of}
 use Rattle.rulebook.specs.Rules.{asks_to_pause, collar, meets, or_else}
 use Rattle.rulebook.specs.Symbol.{is_times, opens_before}
-use Rattle.symbol_core.specs.declared.kept.Kept.{Kept}
-use Rattle.symbol_core.specs.declared.kept.Run.{Run}
-use Rattle.symbol_core.specs.declared.kept.Step.{Step}
+use Rattle.symbol_core.specs.declared.state.Kept.{Kept}
+use Rattle.symbol_core.specs.declared.state.Run.{Run}
+use Rattle.symbol_core.specs.declared.state.Step.{Step}
 use Rattle.symbol_core.specs.InStep.{InStep, in_step}
 use Rattle.symbol_core.specs.Runs.{run_band, run_begun, run_quote}
 

@@ -13,8 +13,8 @@ use Rattle.refprice_core.specs.ReferenceState.{ReferenceState}
 use Rattle.rulebook.specs.declared.symbol.Banded.{Banded}
 use Rattle.rulebook.specs.Rules.{or_else, opens_on_quotes, differs}
 use Rattle.rulebook.specs.Symbol.{bands_of, prior_close_of, opening_price}
-use Rattle.symbol_core.specs.declared.kept.Kept.{Kept}
-use Rattle.symbol_core.specs.declared.kept.Step.{Step}
+use Rattle.symbol_core.specs.declared.state.Kept.{Kept}
+use Rattle.symbol_core.specs.declared.state.Step.{Step}
 use Rattle.symbol_core.specs.InStep.{InStep}
 use Rattle.symbol_core.specs.Runs.{run_band, run_reference}
 

@@ -9,13 +9,13 @@ use Rattle.rulebook.specs.Rules as rules
 use Rattle.rulebook.specs.Rules.{triggered_in}
 use Rattle.rulebook.specs.Symbol as of
 use Rattle.rulebook.specs.Symbol.{deals_of}
-use Rattle.symbol_core.specs.declared.kept.Kept.{Kept}
+use Rattle.symbol_core.specs.declared.state.Kept.{Kept}
 use Rattle.symbol_core.specs.Auctions.{auction_of}
 use Rattle.symbol_core.specs.Runs.{adoption_by, run_adopted, run_band, run_begun, run_quote}
 use Rattle.symbol_core.specs.Window.{SameLive}
 
 -- the kept state and the kept deals
-pub record Held : Type 0 where
+pub record SymbolState : Type 0 where
   pub kept : Kept
   pub deals : List Deal
 
@@ -28,7 +28,7 @@ abbrev pub deals_today : ℕ → List Event → List Deal
 deals_today s h = option_map_or (λ day. deals_of day.0 h s) (day_record (records h)) []
 
 -- The kept state and the kept deals are what the history says of the symbol whose names are those of a test.
-pub record Rests (own : List ℕ → Bool) (held : Held) (h : List Event) : Type 0 where
+pub record Rests (own : List ℕ → Bool) (held : SymbolState) (h : List Event) : Type 0 where
   pub terms : held.kept.terms ≡ of.terms h own
   pub phase : held.kept.phase ≡ of.phase h held.kept.id
   pub since : held.kept.since ≡ of.since h held.kept.id

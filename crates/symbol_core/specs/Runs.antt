@@ -5,7 +5,7 @@ use Rattle.price_core.specs.declared.quote.Quotation.{Quotation}
 use Rattle.refprice_core.specs.declared.reference.Adoption.{Adoption}
 use Rattle.refprice_core.specs.ReferenceState.{ReferenceState}
 use Rattle.rulebook.specs.declared.symbol.Banded.{Banded}
-use Rattle.symbol_core.specs.declared.kept.Kept.{Kept}
+use Rattle.symbol_core.specs.declared.state.Kept.{Kept}
 
 -- the moment at which the run began
 abbrev pub run_begun : Kept → Option ℕ

@@ -8,8 +8,8 @@ use Rattle.window_core.specs.declared.window.Deal.{Deal}
 use Rattle.rulebook.specs.declared.event.Event.{Event}
 use Rattle.rulebook.specs.History.{now, publish, records}
 use Rattle.rulebook.specs.Market.{day_record, is_market_halted}
-use Rattle.symbol_core.specs.declared.kept.Kept.{Kept}
-use Rattle.symbol_core.specs.declared.kept.Step.{Step}
+use Rattle.symbol_core.specs.declared.state.Kept.{Kept}
+use Rattle.symbol_core.specs.declared.state.Step.{Step}
 use Rattle.symbol_core.specs.declared.symbol.MarketView.{MarketView}
 use Rattle.symbol_core.specs.Evaluates.{open_history, step_of}
 use Rattle.symbol_core.specs.Rests.{Rests}

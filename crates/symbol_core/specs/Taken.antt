@@ -13,8 +13,8 @@ use Rattle.window_core.specs.declared.window.Deal.{Deal}
 use Rattle.rulebook.specs.declared.symbol.Terms.{Terms}
 use Rattle.rulebook.specs.Auction.{indicated_by}
 use Rattle.rulebook.specs.Symbol.{cancels}
-use Rattle.symbol_core.specs.declared.kept.Kept.{Kept}
-use Rattle.symbol_core.specs.declared.kept.Step.{Step}
+use Rattle.symbol_core.specs.declared.state.Kept.{Kept}
+use Rattle.symbol_core.specs.declared.state.Step.{Step}
 use Rattle.symbol_core.specs.InStep.{InStep, in_step, just_opened}
 use Rattle.symbol_core.specs.Kept.{heard, quoted_by, requoted}
 

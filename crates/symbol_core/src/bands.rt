@@ -16,10 +16,10 @@ ghost use Rattle.symbol_core.specs.Runs.{run_band, run_reference};
 ghost use Rattle.symbol_core.specs.Stands.{ObeysWith, Says};
 ghost use Rattle.symbol_core.specs.Window.{window};
 
-use crate::kept::{Kept, OpenStep, Step};
 use crate::messages::Messages;
-use crate::records::{opening_price, opens_on_quotes};
-use crate::says::midnight;
+use crate::publish::midnight;
+use crate::record_fields::{opening_price, opens_on_quotes};
+use crate::state::{Kept, OpenStep, Step};
 use pause_core::is_trading;
 use percent_core::{bands, category, percent, span};
 use price_core::{Bands, Cause, Price, moved_one_percent};

@@ -13,10 +13,10 @@ ghost use Rattle.symbol_core.specs.Pricing.{reference};
 ghost use Rattle.symbol_core.specs.Runs.{run_band, run_reference};
 ghost use Rattle.symbol_core.specs.Window.{window};
 
-use crate::kept::{Kept, OpenStep, Step};
-use crate::records::comes_often;
+use crate::phase_rules::at_band;
+use crate::record_fields::comes_often;
+use crate::state::{Kept, OpenStep, Step};
 use crate::symbol::MarketView;
-use crate::turns::at_band;
 use pause_core::{
     can_market_halt, can_start, is_done, is_in_regulatory_halt, is_limit, is_trading,
 };

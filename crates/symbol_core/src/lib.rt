@@ -2,21 +2,21 @@
 #![tactic(auto)]
 
 mod bands;
-mod chain;
 mod due;
-mod kept;
+mod ingest;
 mod messages;
 mod passing;
 mod pausing;
-mod records;
+mod phase_rules;
+mod publish;
+mod record_fields;
 mod reopening;
 mod restriction;
-mod says;
+mod rules;
+mod state;
 mod symbol;
-mod taking;
 #[cfg(test)]
 mod tests;
-mod turns;
 
 pub use due::Due;
 pub use messages::{MOST_OF_SYMBOL, Messages};

@@ -9,7 +9,7 @@ ghost use Rattle.symbol_core.specs.Runs.{run_band, run_reference};
 ghost use Rattle.symbol_core.specs.Taken.{deal_of, triggers_by};
 
 use crate::due::{Due, earlier};
-use crate::kept::Kept;
+use crate::state::Kept;
 use crate::symbol::MarketView;
 use eligible_core::eligible;
 use pause_core::is_trading;

@@ -10,10 +10,10 @@ ghost use Rattle.symbol_core.specs.InStep.{in_step};
 ghost use Rattle.symbol_core.specs.Kept.{pause_now, pausing, pausing_as};
 ghost use Rattle.symbol_core.specs.Stands.{Obeys, Says};
 
-use crate::kept::{Kept, OpenStep, Step};
 use crate::messages::Messages;
-use crate::records::asks_to_pause;
-use crate::says::is_paused;
+use crate::publish::is_paused;
+use crate::record_fields::asks_to_pause;
+use crate::state::{Kept, OpenStep, Step};
 use limit_core::LimitTimer;
 use pause_core::pause;
 use price_core::Side;

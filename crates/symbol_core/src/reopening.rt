@@ -8,8 +8,8 @@ ghost use Rattle.symbol_core.specs.InStep.{in_step};
 ghost use Rattle.symbol_core.specs.Kept.{becoming, reopened, reopening, reopening_with};
 ghost use Rattle.symbol_core.specs.Stands.{Obeys, Says};
 
-use crate::kept::{Kept, OpenStep, Step};
 use crate::messages::Messages;
+use crate::state::{Kept, OpenStep, Step};
 use price_core::Price;
 use reopen_core::{Auction, Trial};
 use session_core::{Phase, last_10};

@@ -7,8 +7,8 @@ ghost use Rattle.symbol_core.specs.Idle.{changes_bands};
 ghost use Rattle.symbol_core.specs.InStep.{in_step};
 ghost use Rattle.symbol_core.specs.Stands.{Obeys};
 
-use crate::kept::{Kept, OpenStep, Step};
 use crate::messages::Messages;
+use crate::state::{Kept, OpenStep, Step};
 
 impl Kept {
     /// The restriction begins with the first trade of the day that triggers it.

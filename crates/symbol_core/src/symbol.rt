@@ -14,11 +14,11 @@ ghost use Rattle.symbol_core.specs.Steps.{Steps, step_for};
 ghost use Rattle.symbol_core.specs.Taken.{deal_of};
 
 use crate::due::Due;
-use crate::kept::{Kept, OpenStep, Step};
+use crate::ingest::{drop_cancelled, keep_deals};
 use crate::messages::Messages;
 use crate::passing::{add_one, brings_deal_or_time, deal_in, drop_old, reserve_deal};
-use crate::records::{quoted_by, traded_price};
-use crate::taking::{drop_cancelled, keep_deals};
+use crate::record_fields::{quoted_by, traded_price};
+use crate::state::{Kept, OpenStep, Step};
 use price_core::NoMemory;
 use session_core::{Day, Moment, Phase};
 use std::alloc::Global;
@@ -56,9 +56,9 @@ pub struct Symbol {
 
 impl Model for Symbol {
     ghost use Rattle.symbol_core.specs.Idle.{IsDue};
-    ghost use Rattle.symbol_core.specs.Rests.{Held};
+    ghost use Rattle.symbol_core.specs.Rests.{SymbolState};
 
-    ghost Value = { Held };
+    ghost Value = { SymbolState };
 
     ghost view = { λ s. record { kept = s.kept; deals = s.deals.deals } };
 

@@ -2,7 +2,7 @@ use Rattle.std.proofs.Common.{◌≡◌, ℕ, ◌+◌, ◌-◌, ◌≤◌, ◌++
 use Rattle.std.specs.Prelude.{slice_set}
 use Rattle.std.proofs.lemmas.List.{length-set}
 use Rattle.rulebook.specs.Admission.{most_names}
-use Rattle.symbol_core.specs.Rests.{Held}
+use Rattle.symbol_core.specs.Rests.{SymbolState}
 use Rattle.shard_core.proofs.Dealing.{dealt_all, dealt_more, drop_fewer, none_dealt, take_fewer}
 use Rattle.shard_core.proofs.Gathered.{stocks_of}
 use Rattle.shard_core.proofs.Working.{few_on}
@@ -32,12 +32,12 @@ loop-k-preserved c =
     let fewer = take_fewer end left in
     let rest = drop_fewer end left in
     record {
-      all = ap (λ (xs : List Held). xs ++ stocks_of (drop (k - 1 + 1) (slice_set now k part))) earlier ∙ ap (λ (n : ℕ). take end left ++ stocks_of (drop n (slice_set now k part))) back
+      all = ap (λ (xs : List SymbolState). xs ++ stocks_of (drop (k - 1 + 1) (slice_set now k part))) earlier ∙ ap (λ (n : ℕ). take end left ++ stocks_of (drop n (slice_set now k part))) back
           ∙ dealt_more now k end left part inv.index later ∙ inv.all;
       index = omega (arith, length-set now k part, inv.index);
       parts = length-set now k part ∙ inv.parts;
-      stocks = subst (λ (xs : List Held). length xs ≤ most_names) (sym earlier) (omega (arith, fewer, inv.stocks));
-      few = few_on k now part inv.few (subst (λ (xs : List Held). length xs ≤ most_names) (sym later) (omega (arith, rest, inv.stocks)));
+      stocks = subst (λ (xs : List SymbolState). length xs ≤ most_names) (sym earlier) (omega (arith, fewer, inv.stocks));
+      few = few_on k now part inv.few (subst (λ (xs : List SymbolState). length xs ≤ most_names) (sym later) (omega (arith, rest, inv.stocks)));
     }
 
 pub returns-clause-all : goal.returns-clause-all

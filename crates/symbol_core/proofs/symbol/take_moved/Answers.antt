@@ -1,8 +1,8 @@
 use Rattle.std.proofs.Common.{◌≡◌, ap, subst, ℕ}
 use Rattle.rulebook.specs.Book.{symbol_rules}
 use Rattle.window_core.specs.Deals.{live}
-use Rattle.symbol_core.specs.declared.kept.OpenStep.{OpenStep}
-use Rattle.symbol_core.specs.declared.kept.Step.{Step}
+use Rattle.symbol_core.specs.declared.state.OpenStep.{OpenStep}
+use Rattle.symbol_core.specs.declared.state.Step.{Step}
 use Rattle.symbol_core.specs.InStep.{in_step}
 use Rattle.symbol_core.specs.Stands.{ObeysAll}
 use Rattle.symbol_core.proofs.Dealt.{moved-recent, moved-steps}

@@ -1,7 +1,7 @@
 use Rattle.std.proofs.Common.{refl, sym, ap, subst, ◌∙◌}
 use Rattle.symbol_core.proofs.Live.{live-taken}
 use Rattle.std.specs.Prelude.{IfSome}
-use Rattle.symbol_core.specs.declared.kept.Kept.{Kept}
+use Rattle.symbol_core.specs.declared.state.Kept.{Kept}
 use Rattle.symbol_core.specs.Idle.{IsSettled, WaitsAt}
 use Rattle.symbol_core.specs.InStep.{InStep, in_step}
 use Rattle.symbol_core.proofs.Quiet.{waits-left, waits-taken}

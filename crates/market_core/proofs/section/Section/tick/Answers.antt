@@ -1,6 +1,6 @@
 use Rattle.std.proofs.Common.{ℕ, List, Some, length, ap, ◌∙◌, arith}
 use Rattle.std.specs.Prelude.{slice_get}
-use Rattle.symbol_core.specs.Rests.{Held}
+use Rattle.symbol_core.specs.Rests.{SymbolState}
 use Rattle.market_core.proofs.Sections.{count_on, first_on, later_on, next_on}
 use Rattle.market_core.proofs.section.Section.tick.Goals as goal
 
@@ -11,7 +11,7 @@ loop-index-init c =
     record {
       appends = first_on first.result c.args.market.now c.args.x.now c.args.self.now.symbols c.begin_tick.new.self.symbols first.new.self.symbols c.args.out.now.items
           c.begin_tick.ensures.symbols first.ensures.symbols first.ensures.end first.ensures.none;
-      later = λ k from. ap (λ (stocks : List Held). slice_get stocks k) same;
+      later = λ k from. ap (λ (stocks : List SymbolState). slice_get stocks k) same;
       count = ap length same;
       within = omega (arith, first.ensures.end, c.len-count.ensures);
       since = first.ensures.since ∙ c.begin_tick.ensures.since ∙ ap (λ (t : ℕ). Some (record { from = t; market = c.args.market.now })) c.moment.ensures;

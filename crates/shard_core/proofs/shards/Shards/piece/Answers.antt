@@ -1,7 +1,7 @@
 use Rattle.std.proofs.Common.{◌≡◌, List, ◌∷◌, ◌++◌, length, map, Vec, Global, true≢false, sym, ap, subst, ◌∙◌, arith}
 use Rattle.std.specs.Vec.{with_items}
 use Rattle.std.proofs.lemmas.List.{with_items_is}
-use Rattle.symbol_core.specs.Rests.{Held}
+use Rattle.symbol_core.specs.Rests.{SymbolState}
 use Rattle.market_core.specs.MarketState.{Represents}
 use Rattle.market_core.specs.Sections.{SectionState}
 use Rattle.shard_core.specs.declared.tagged.Tagged.{Tagged}
@@ -39,7 +39,7 @@ returns-clause-given g c = λ capacity applied stands lawful.
     let even = c.in_ok-even_out.ensures in
     let as_many : length olds ≡ c.self.inside.parts.len = omega (arith, even.parts, ap length c.deref_mut.ensures.value, c.self.inside.parts.ok.0) in
     let was = subst (λ (s : ShardsState). Represents (market_of s) applied) (sym c.self.view_is) stands in
-    let now = subst (λ (stocks : List Held). Represents (market_with c.self.inside.lead stocks) applied) (sym (even.stocks ∙ ap stocks_of c.deref_mut.ensures.value)) was in
+    let now = subst (λ (stocks : List SymbolState). Represents (market_with c.self.inside.lead stocks) applied) (sym (even.stocks ∙ ap stocks_of c.deref_mut.ensures.value)) was in
     let work = c.in_ok-work_parts.ensures in
     let parts : c.deref_mut-2.result.now ≡ olds = c.deref_mut-2.ensures.value ∙ with_items_is c.self.inside.parts olds as_many in
     let tells = subst (λ (ts : List Turn). PartsTell 0 (length olds) (noted xs ts) olds news told) c.deref-3.ensures.value
@@ -64,7 +64,7 @@ returns-clause-stands g c = λ capacity applied stands lawful.
     let even = c.in_ok-even_out.ensures in
     let as_many : length olds ≡ c.self.inside.parts.len = omega (arith, even.parts, ap length c.deref_mut.ensures.value, c.self.inside.parts.ok.0) in
     let was = subst (λ (s : ShardsState). Represents (market_of s) applied) (sym c.self.view_is) stands in
-    let now = subst (λ (stocks : List Held). Represents (market_with c.self.inside.lead stocks) applied) (sym (even.stocks ∙ ap stocks_of c.deref_mut.ensures.value)) was in
+    let now = subst (λ (stocks : List SymbolState). Represents (market_with c.self.inside.lead stocks) applied) (sym (even.stocks ∙ ap stocks_of c.deref_mut.ensures.value)) was in
     let work = c.in_ok-work_parts.ensures in
     let parts : c.deref_mut-2.result.now ≡ olds = c.deref_mut-2.ensures.value ∙ with_items_is c.self.inside.parts olds as_many in
     let tells = subst (λ (ts : List Turn). PartsTell 0 (length olds) (noted xs ts) olds news told) c.deref-3.ensures.value

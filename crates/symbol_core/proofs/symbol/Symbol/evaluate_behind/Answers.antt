@@ -1,13 +1,13 @@
 use Rattle.std.proofs.Common.{sym, subst, ◌∙◌}
 use Rattle.symbol_core.specs.Evaluates.{Evaluates}
-use Rattle.symbol_core.specs.Rests.{Held}
+use Rattle.symbol_core.specs.Rests.{SymbolState}
 use Rattle.symbol_core.proofs.Evaluated.{evaluated-away}
 use Rattle.symbol_core.proofs.symbol.Symbol.evaluate_behind.Goals as goal
 use Rattle.symbol_core.proofs.symbol.Symbol.evaluate_behind.Goals.{then-pass-via-then-pass, then-pass-via-else-pass+then-pass_quote}
 
 pub returns-then-is_away-clause-ok : goal.returns-then-is_away-clause-ok
 returns-then-is_away-clause-ok c =
-    subst (λ (held : Held). Evaluates c.args.market.now c.args.x.now c.args.self.now held c.args.out.now c.args.out.now) (sym c.stay_away.ensures)
+    subst (λ (held : SymbolState). Evaluates c.args.market.now c.args.x.now c.args.self.now held c.args.out.now c.args.out.now) (sym c.stay_away.ensures)
     (evaluated-away c.args.market.now c.args.x.now c.args.self.now c.args.out.now (sym c.is_away.ensures ∙ c.if-is_away.true))
 
 pub returns-then-brings_deal_or_time-clause-recent : goal.returns-then-brings_deal_or_time-clause-recent
@@ -15,9 +15,9 @@ returns-then-brings_deal_or_time-clause-recent c = λ listed. c.take_deal_or_tim
 
 pub returns-then-pass-clause-ok : goal.returns-then-pass-clause-ok
 returns-then-pass-clause-ok c =
-    let is : Held → Type 0 = λ held. Evaluates c.args.market.now c.args.x.now c.args.self.now held c.args.out.now c.args.out.now in
+    let is : SymbolState → Type 0 = λ held. Evaluates c.args.market.now c.args.x.now c.args.self.now held c.args.out.now c.args.out.now in
     elim c.then-pass.branch [
       | then-pass-via-then-pass w ↦ subst is (sym w.self-is) (c.pass.ensures.nothing w.if-pass.true c.args.out.now)
       | then-pass-via-else-pass+then-pass_quote w ↦ subst is (sym w.self-is)
-          (subst (λ (old : Held). Evaluates c.args.market.now c.args.x.now old w.pass_quote.new.self c.args.out.now c.args.out.now) (c.pass.ensures.others w.if-pass.false) (w.pass_quote.ensures.nothing w.if-pass_quote.true c.args.out.now))
+          (subst (λ (old : SymbolState). Evaluates c.args.market.now c.args.x.now old w.pass_quote.new.self c.args.out.now c.args.out.now) (c.pass.ensures.others w.if-pass.false) (w.pass_quote.ensures.nothing w.if-pass_quote.true c.args.out.now))
     ]

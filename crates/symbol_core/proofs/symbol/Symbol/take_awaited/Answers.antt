@@ -5,7 +5,7 @@ use Rattle.window_core.specs.declared.window.Deal.{Deal}
 use Rattle.window_core.specs.Deals.{live}
 use Rattle.symbol_core.specs.Evaluates.{Evaluates}
 use Rattle.symbol_core.specs.Idle.{IsAwaited}
-use Rattle.symbol_core.specs.Rests.{Held}
+use Rattle.symbol_core.specs.Rests.{SymbolState}
 use Rattle.symbol_core.specs.Steps.{step_for}
 use Rattle.symbol_core.proofs.Dealt.{awaited-here, awaited-no_day, dealt-evaluated, dealt-recent, due-still, keeps-at}
 use Rattle.symbol_core.proofs.Evaluated.{step-obeyed}
@@ -13,7 +13,7 @@ use Rattle.symbol_core.proofs.symbol.Symbol.take_awaited.Goals as goal
 
 pub stay_due-requires : goal.stay_due-requires
 stay_due-requires c =
-    let w = subst (λ (held : Held). IsAwaited held.kept c.args.market.now c.args.x.now c.args.deal.now) (sym c.self.view_is) c.requires.awaited in
+    let w = subst (λ (held : SymbolState). IsAwaited held.kept c.args.market.now c.args.x.now c.args.deal.now) (sym c.self.view_is) c.requires.awaited in
     due-still c.self.inside.due c.self.inside.kept c.self.inside.deals.deals c.self.invariant w.inside
 
 pub returns-then-keeps_price-clause-ok : goal.returns-then-keeps_price-clause-ok
@@ -26,9 +26,9 @@ returns-then-keeps_price-clause-ok c =
     let before = c.args.out.now in
     let gone : c.drop_old.new.deals.deals ≡ live (moment_of x) deals = c.drop_old.ensures.deals ∙ (λ i. live (c.moment-t.ensures i) (c.reserve_deal.ensures.deals i)) in
     let added : c.add_one.new.deals.deals ≡ live (moment_of x) deals ++ option_to_list deal = c.add_one.ensures ∙ ap (λ (ds : List Deal). ds ++ option_to_list deal) gone in
-    let w = subst (λ (held : Held). IsAwaited held.kept market x deal) (sym c.self.view_is) c.requires.awaited in
+    let w = subst (λ (held : SymbolState). IsAwaited held.kept market x deal) (sym c.self.view_is) c.requires.awaited in
     subst (λ (ds : List Deal). Evaluates market x c.args.self.now (record { kept = k; deals = ds }) before before) (sym added)
-    (subst (λ (held : Held). Evaluates market x held (record { kept = k; deals = live (moment_of x) deals ++ option_to_list deal }) before before) c.self.view_is
+    (subst (λ (held : SymbolState). Evaluates market x held (record { kept = k; deals = live (moment_of x) deals ++ option_to_list deal }) before before) c.self.view_is
     (dealt-evaluated market x k deals deal w (keeps-at k c.drop_old.new.deals.deals (live (moment_of x) deals) deal c.moment-t.result (moment_of x) c.keeps_price.result c.moment-t.ensures gone c.keeps_price.ensures c.if-keeps_price.true) before))
 
 pub returns-then-keeps_price-clause-recent : goal.returns-then-keeps_price-clause-recent
@@ -40,7 +40,7 @@ returns-then-keeps_price-clause-recent c =
     let deal = c.args.deal.now in
     let gone : c.drop_old.new.deals.deals ≡ live (moment_of x) deals = c.drop_old.ensures.deals ∙ (λ i. live (c.moment-t.ensures i) (c.reserve_deal.ensures.deals i)) in
     let added : c.add_one.new.deals.deals ≡ live (moment_of x) deals ++ option_to_list deal = c.add_one.ensures ∙ ap (λ (ds : List Deal). ds ++ option_to_list deal) gone in
-    let w = subst (λ (held : Held). IsAwaited held.kept market x deal) (sym c.self.view_is) c.requires.awaited in
+    let w = subst (λ (held : SymbolState). IsAwaited held.kept market x deal) (sym c.self.view_is) c.requires.awaited in
     ap (live (moment_of x)) added
     ∙ dealt-recent market x k deals deal w (keeps-at k c.drop_old.new.deals.deals (live (moment_of x) deals) deal c.moment-t.result (moment_of x) c.keeps_price.result c.moment-t.ensures gone c.keeps_price.ensures c.if-keeps_price.true)
     ∙ sym added
@@ -60,4 +60,4 @@ returns-clause-ok c =
 
 pub take_moved-self-inside-requires-clause-awaited : goal.take_moved-self-inside-requires-clause-awaited
 take_moved-self-inside-requires-clause-awaited c =
-    subst (λ (held : Held). IsAwaited held.kept c.args.market.now c.args.x.now c.args.deal.now) (sym c.self.view_is) c.requires.awaited
+    subst (λ (held : SymbolState). IsAwaited held.kept c.args.market.now c.args.x.now c.args.deal.now) (sym c.self.view_is) c.requires.awaited

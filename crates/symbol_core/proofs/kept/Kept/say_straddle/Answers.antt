@@ -1,7 +1,0 @@
-use Rattle.std.proofs.Common.{refl}
-use Rattle.symbol_core.proofs.OtherMessages.{stands-straddled}
-use Rattle.symbol_core.specs.InStep.{in_step}
-use Rattle.symbol_core.proofs.kept.Kept.say_straddle.Goals as goal
-
-pub returns-clause-says : goal.returns-clause-says
-returns-clause-says c = λ opened. record { items = c.push.ensures.items; stands = λ mine deals h s. stands-straddled mine (in_step c.args.self.now opened) deals c.args.step.now c.args.on h s; phase = refl; id = refl }
