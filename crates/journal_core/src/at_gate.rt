@@ -1,6 +1,6 @@
 //! What stands at the offset of a gate.
 
-ghost use Rattle.std.specs.Prelude.{◌≡◌, ◌≢◌, ◌+◌, ◌≤◌, ◌<◌, ◌++◌, [], ℕ, List, false, IsTrue, MatchOption, length, drop};
+ghost use Rattle.std.specs.Prelude.{◌≡◌, ◌≢◌, ◌+◌, ◌≤◌, ◌<◌, ◌++◌, ◌∷◌, [], ℕ, List, false, IsTrue, MatchOption, length, drop};
 ghost use Rattle.wire_in.specs.declared.record.Record.{Record};
 ghost use Rattle.journal_core.specs.Layout.{IsBatch, frame_of, frames_of, content};
 ghost use Rattle.wire_in.specs.Laws.{IsSound};
@@ -65,28 +65,30 @@ fn read_frames(frames: &[u8], into: &mut Batch) -> bool
         if into.is_full() {
             return false;
         }
-        let Some((x, after)) = read_frame(rest) else {
+        let Some(after) = take_frame(rest, into) else {
             return false;
         };
-        into.push(x);
         rest = after;
     }
     !into.is_empty()
 }
 
-/// The record of the frame at the prefix, and what follows it; none exactly where no frame of a record stands there.
-fn read_frame(frames: &[u8]) -> Option<(Record, &[u8])>
-    requires { 0 < length frames.now }
+/// Adds the record of the frame at the prefix to a batch that has room, and answers what follows it; none exactly where no
+/// frame of a record stands there. The record is copied once, from where it was decoded.
+fn take_frame<'a>(frames: &'a [u8], into: &mut Batch) -> Option<&'a [u8]>
+    requires some { 0 < length frames.now }
+    requires room { length into.old < 64 }
     ensures { MatchOption result
         ((x : Record) (rest : List ℕ) → IsSound x → frames.now ≢ frame_of x ++ rest)
-        (λ found. IsSound found.0 × (frames.now ≡ frame_of found.0 ++ found.1.now)) }
+        (λ after. (x : Record) × IsSound x × (frames.now ≡ frame_of x ++ after.now) × (into.new ≡ into.old ++ x ∷ [])) }
 {
     let end = frames[0] as usize + 1;
     if frames.len() < end {
         return None;
     }
-    let Ok(x) = decode(&frames[1..end]) else {
-        return None;
-    };
-    Some((x, &frames[end..]))
+    match &decode(&frames[1..end]) {
+        Ok(x) => into.copy(x),
+        Err(_) => return None,
+    }
+    Some(&frames[end..])
 }

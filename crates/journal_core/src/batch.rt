@@ -4,6 +4,7 @@ ghost use Rattle.wire_in.specs.Spelling.{InRange};
 use price_core::NoMemory;
 use std::alloc::Global;
 use std::marker::Model;
+use std::slice;
 use wire_in::Record;
 
 /// The most records of a batch.
@@ -43,8 +44,17 @@ impl Batch {
         requires range { InRange x }
         ensures { self.new ≡ self.old ++ x ∷ [] }
     {
+        self.copy(&x);
+    }
+
+    /// The same of a record that is copied from where it lies.
+    pub(crate) fn copy(&mut self, x: &Record)
+        requires room { length self.old < BATCH_MAX }
+        requires range { InRange x.now }
+        ensures { self.new ≡ self.old ++ x.now ∷ [] }
+    {
         // It has room for them all.
-        self.records.extend_from_slice(&[x]).unwrap();
+        self.records.extend_from_slice(slice::from_ref(x)).unwrap();
     }
 
     /// The records, the oldest first.

@@ -26,10 +26,12 @@ pub loop-rest-preserved : goal.loop-rest-preserved
 loop-rest-preserved c =
     let before = c.loop-rest.invariant in
     let found = c.in-Some.ensures in
+    let x = found.0 in
+    let taken = found.3 in
     record {
-      read = rw c.push.ensures (read_on c.loop-rest.into c.in-Some.x c.args.frames.now c.loop-rest.rest.now c.in-Some.after.now before.read found.1);
-      sound = rw c.push.ensures (All-push IsSound c.loop-rest.into c.in-Some.x before.sound found.0);
-      most = rw c.push.ensures (grind (arith, common_steps));
+      read = rw taken (read_on c.loop-rest.into x c.args.frames.now c.loop-rest.rest.now c.in-Some.after.now before.read found.2);
+      sound = rw taken (All-push IsSound c.loop-rest.into x before.sound found.1);
+      most = rw taken (grind (arith, common_steps));
     }
 
 pub returns-clause-refused : goal.returns-clause-refused
