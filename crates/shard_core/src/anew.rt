@@ -10,11 +10,13 @@ use price_core::NoMemory;
 use rulebook::MOST_NAMES;
 use std::alloc::Global;
 
-/// How many records each id had since the ranges were last looked at, and how many all records were.
+/// How many records each id had since the ranges were last looked at, how many all records were, and whether names were
+/// listed.
 #[derive(Drop)]
 pub struct Counts {
     of_ids: Vec<u32>,
     records: usize,
+    listed: bool,
     ghost few: { length of_ids.items ≤ most_names },
 }
 
@@ -46,6 +48,7 @@ impl Counts {
         Counts {
             of_ids: Vec::new(alloc),
             records: 0,
+            listed: true,
         }
     }
 
@@ -55,17 +58,26 @@ impl Counts {
             match turn.target {
                 Target::Each => {}
                 Target::One(id) => add(&mut self.of_ids, id),
-                Target::New(_) => begin(&mut self.of_ids)?,
+                Target::New(_) => {
+                    begin(&mut self.of_ids)?;
+                    self.listed = true;
+                }
             }
         }
         self.records = self.records.saturating_add(turns.len());
         Ok(())
     }
 
+    /// Whether names were listed since the ranges were last looked at, or these never were.
+    pub fn awaits_cut(&self) -> bool {
+        self.listed
+    }
+
     /// Forgets the records of each id.
     fn forget(&mut self) {
         self.of_ids.fill(0);
         self.records = 0;
+        self.listed = false;
     }
 }
 

@@ -29,10 +29,10 @@ pub fn pieces<Rt: Threads + Sync, G: Gate>(
     ensures working { shards.new.working ≡ is_ok result }
     ensures parts { length shards.new.parts ≡ length shards.old.parts }
 {
-    let most = shards.most_of_piece();
     let mut rest = xs;
     let mut first = 0u32;
     while !rest.is_empty() {
+        let most = shards.most_of_piece();
         let (piece, later) = rest.split_at(most.min(rest.len()));
         shards.piece(rt, piece, first, gate, out)?;
         first += piece.len() as u32;

@@ -24,7 +24,10 @@ use yard_core::Gate;
 const PIECE_OF_ONE: usize = 256;
 
 /// The most records of a piece that several parts take. Threads begin anew for each piece, and ranges are cut anew before it.
-const PIECE_OF_SEVERAL: usize = 16_384;
+const PIECE_OF_SEVERAL: usize = 65_536;
+
+/// The same while names are listed, which all go to the last part: so few that they are done here, before ranges are cut anew.
+const PIECE_OF_LISTINGS: usize = 1_000;
 
 /// One market in parts: the market's part, and sections of symbols whose ranges of ids lie one behind the other. New names
 /// belong to the last part. A block is taken piece by piece, and between pieces the ranges are cut anew where their loads are
@@ -120,6 +123,8 @@ impl Shards {
     {
         if self.parts.len() == 1 {
             PIECE_OF_ONE
+        } else if self.counts.awaits_cut() {
+            PIECE_OF_LISTINGS
         } else {
             PIECE_OF_SEVERAL
         }

@@ -1,9 +1,10 @@
 // What the market's part notes of a block, before its symbols are evaluated.
-ghost use Rattle.std.specs.Prelude.{◌≡◌, ◌+◌, ◌<◌, ◌≤◌, ◌++◌, ◌∷◌, [], true, false, IfOk, OnOk, IsSome, length, vec_len, vec_capacity};
+ghost use Rattle.std.specs.Prelude.{◌≡◌, ◌+◌, ◌<◌, ◌≤◌, ◌++◌, ◌∷◌, [], true, false, Some, IfOk, OnOk, IsSome, length, option_map, vec_len, vec_capacity};
 ghost use Rattle.wire_in.specs.Records.{is_day, moment_of};
 ghost use Rattle.market_core.specs.Leads.{led, rulings};
-ghost use Rattle.market_core.specs.Ruled.{stamped};
+ghost use Rattle.market_core.specs.Ruled.{stamped, view_of};
 ghost use Rattle.shard_core.specs.Block.{tagged};
+ghost use Rattle.shard_core.specs.declared.turns.Target.TheVariants as target;
 ghost use Rattle.shard_core.specs.Turns.{Leads, LeadsTo, is_begun, note_of, noted, target_of};
 
 use crate::tagged::Tagged;
@@ -91,6 +92,18 @@ pub fn is_begun(xs: &[Record], lead: &Lead) -> bool
     }
 }
 
+/// The turn of a record of the symbol of an id.
+fn own_turn(lead: &Lead, id: u16) -> Turn
+    requires day { IsSome lead.now.today }
+    ensures seen { option_map view_of lead.now.today ≡ Some result.view }
+    ensures whom { result.target ≡ target.One id }
+{
+    Turn {
+        view: lead.view().unwrap(),
+        target: Target::One(id),
+    }
+}
+
 /// Leads a record, and notes what symbols need to know of it. The list has the market's messages at this record alone.
 fn lead_one(lead: &mut Lead, x: &Record, said: &mut Vec<Stamped>) -> Result<Turn, NoMemory>
     requires day { is_day x.now ≡ false → IsSome lead.old.today }
@@ -100,6 +113,10 @@ fn lead_one(lead: &mut Lead, x: &Record, said: &mut Vec<Stamped>) -> Result<Turn
     ensures said { OnOk result (said.new.items ≡ stamped (moment_of x.now) (rulings x.now lead.old.today)) }
 {
     said.clear();
+    if let Some(id) = x.symbol() {
+        // The market-wide rules say nothing at it, and change nothing.
+        return Ok(own_turn(lead, id));
+    }
     let target = target_of(x, lead);
     let view = lead.lead(x, said)?;
     Ok(Turn { view, target })
