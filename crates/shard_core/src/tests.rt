@@ -347,7 +347,7 @@ fn two_pieces_meet(rt: HostRuntime) -> Result<(), Fail> {
         here: [AtomicBool::new(false), AtomicBool::new(false)],
         met: [AtomicBool::new(false), AtomicBool::new(false)],
     };
-    let xs = session(rt.alloc(), 8, 2_000)?;
+    let xs = session(rt.alloc(), 8, 4_000)?;
     let mut shards = Shards::new(rt.alloc(), 2)?;
     let mut out = Vec::new(rt.alloc());
     assert!(rt; shards.working() && xs.len() <= 65_536);

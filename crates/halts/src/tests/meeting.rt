@@ -31,12 +31,12 @@ impl Gate for Meeting {
     }
 }
 
-/// The day of the fall with 1,100 clocks before it: so many records are worked by threads.
+/// The day of the fall with 4,000 clocks before it. Behind two short pieces, so many records are worked by threads.
 fn long_fall(alloc: Global) -> Result<Vec<Line>, Fail> {
     let t = at(10, 0, 0);
     let mut lines = Vec::new(alloc);
     lines.extend_from_slice(&[day(3)])?;
-    for _clock in 0..1_100u32 {
+    for _clock in 0..4_000u32 {
         lines.extend_from_slice(&[clock(at(9, 30, 0))])?;
     }
     lines.extend_from_slice(&[
