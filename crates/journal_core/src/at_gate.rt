@@ -74,7 +74,7 @@ fn read_frames(frames: &[u8], into: &mut Batch) -> bool
 }
 
 /// Adds the record of the frame at the prefix to a batch that has room, and answers what follows it; none exactly where no
-/// frame of a record stands there. The record is copied once, from where it was decoded.
+/// frame of a record stands there. The record is handed on where it was decoded.
 fn take_frame<'a>(frames: &'a [u8], into: &mut Batch) -> Option<&'a [u8]>
     requires some { 0 < length frames.now }
     requires room { length into.old < 64 }
