@@ -109,3 +109,8 @@ record_of (t ∷ rest) =
     else if t == 8 then notice_of (t ∷ rest)
     else if t == 9 then indication_of (t ∷ rest)
     else Err UnknownType
+
+-- what was put where a record is wanted, or why nothing was
+abbrev pub placed : Record → Result (Unit {0}) Refusal → Result Record Refusal
+placed x (Ok _) = Ok x
+placed x (Err refusal) = Err refusal

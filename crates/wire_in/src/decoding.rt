@@ -1,7 +1,7 @@
 //! From a body to its record.
 
-ghost use Rattle.std.specs.Prelude.{◌≡◌, ◌+◌, ◌≤◌, length, IfOk, Ok};
-ghost use Rattle.wire_in.specs.Reading.{date_at, day_of, listing_of, trade_of, cancel_of, quote_of, index_tick_of, clock_of, notice_of, indication_of, record_of};
+ghost use Rattle.std.specs.Prelude.{◌≡◌, ◌+◌, ◌≤◌, length, IfOk, OnOk, Ok};
+ghost use Rattle.wire_in.specs.Reading.{date_at, day_of, listing_of, trade_of, cancel_of, quote_of, index_tick_of, clock_of, notice_of, indication_of, placed, record_of};
 ghost use Rattle.wire_in.specs.Spelling.{Spells};
 ghost use Rattle.wire_in.specs.declared.record.Record.{Record};
 
@@ -10,7 +10,7 @@ use crate::code::{
     unmatched_of_byte,
 };
 use crate::record::{Record, Refusal};
-use session_core::{BadDate, Date, Day};
+use session_core::{BadDate, Date, Day, Moment};
 use wire_core::{index_at, moment_at, name_at, optional_price_at, price_at, u16_at, u32_at};
 
 #[tactic(auto, unfolding(crate::specs::Reading::date_at))]
@@ -26,12 +26,12 @@ fn date_at(body: &[u8], at: usize) -> Result<Date, Refusal>
     }
 }
 
-// Each of the readers below stays a call of its own, which writes its record where it is wanted. Joined into `decode`, they
-// would bring every record's fields together by parts first.
+// Each of the readers below stays a call of its own, which writes its record where it is wanted. Joined into one, they would
+// bring every record's fields together by parts first.
 #[tactic(auto, unfolding(crate::specs::Reading::day_of))]
 #[inline(never)]
-fn day(body: &[u8]) -> Result<Record, Refusal>
-    ensures { result ≡ day_of body.now }
+fn day(body: &[u8], into: &mut Record) -> Result<(), Refusal>
+    ensures { placed into.new result ≡ day_of body.now }
 {
     if body.len() != 19 {
         return Err(Refusal::BadLength);
@@ -46,17 +46,18 @@ fn day(body: &[u8]) -> Result<Record, Refusal>
         close,
         profile,
     };
-    Ok(Record::Day {
+    *into = Record::Day {
         moment,
         day,
         index_close,
-    })
+    };
+    Ok(())
 }
 
 #[tactic(auto, unfolding(crate::specs::Reading::listing_of))]
 #[inline(never)]
-fn listing(body: &[u8]) -> Result<Record, Refusal>
-    ensures { result ≡ listing_of body.now }
+fn listing(body: &[u8], into: &mut Record) -> Result<(), Refusal>
+    ensures { placed into.new result ≡ listing_of body.now }
 {
     if body.len() != 27 {
         return Err(Refusal::BadLength);
@@ -66,19 +67,20 @@ fn listing(body: &[u8]) -> Result<Record, Refusal>
     let tier = tier_of_byte(body[17]).ok_or(Refusal::BadField(3))?;
     let leverage = leverage_of_byte(body[18]).ok_or(Refusal::BadField(4))?;
     let close = optional_price_at(body, 19).ok_or(Refusal::BadField(5))?;
-    Ok(Record::Listing {
+    *into = Record::Listing {
         moment,
         name,
         tier,
         leverage,
         close,
-    })
+    };
+    Ok(())
 }
 
 #[tactic(auto, unfolding(crate::specs::Reading::trade_of))]
 #[inline(never)]
-fn trade(body: &[u8]) -> Result<Record, Refusal>
-    ensures { result ≡ trade_of body.now }
+fn trade(body: &[u8], into: &mut Record) -> Result<(), Refusal>
+    ensures { placed into.new result ≡ trade_of body.now }
 {
     if body.len() != 29 {
         return Err(Refusal::BadLength);
@@ -86,36 +88,38 @@ fn trade(body: &[u8]) -> Result<Record, Refusal>
     let moment = moment_at(body, 1).ok_or(Refusal::BadField(1))?;
     let price = price_at(body, 15).ok_or(Refusal::BadField(4))?;
     let flags = flags_of_number(u16_at(body, 27)).ok_or(Refusal::BadField(6))?;
-    Ok(Record::Trade {
+    *into = Record::Trade {
         moment,
         symbol: u16_at(body, 9),
         number: u32_at(body, 11),
         price,
         size: u32_at(body, 23),
         flags,
-    })
+    };
+    Ok(())
 }
 
 #[tactic(auto, unfolding(crate::specs::Reading::cancel_of))]
 #[inline(never)]
-fn cancel(body: &[u8]) -> Result<Record, Refusal>
-    ensures { result ≡ cancel_of body.now }
+fn cancel(body: &[u8], into: &mut Record) -> Result<(), Refusal>
+    ensures { placed into.new result ≡ cancel_of body.now }
 {
     if body.len() != 15 {
         return Err(Refusal::BadLength);
     }
     let moment = moment_at(body, 1).ok_or(Refusal::BadField(1))?;
-    Ok(Record::Cancel {
+    *into = Record::Cancel {
         moment,
         symbol: u16_at(body, 9),
         number: u32_at(body, 11),
-    })
+    };
+    Ok(())
 }
 
 #[tactic(auto, unfolding(crate::specs::Reading::quote_of))]
 #[inline(never)]
-fn quote(body: &[u8]) -> Result<Record, Refusal>
-    ensures { result ≡ quote_of body.now }
+fn quote(body: &[u8], into: &mut Record) -> Result<(), Refusal>
+    ensures { placed into.new result ≡ quote_of body.now }
 {
     if body.len() != 35 {
         return Err(Refusal::BadLength);
@@ -123,62 +127,66 @@ fn quote(body: &[u8]) -> Result<Record, Refusal>
     let moment = moment_at(body, 1).ok_or(Refusal::BadField(1))?;
     let bid = optional_price_at(body, 11).ok_or(Refusal::BadField(3))?;
     let offer = optional_price_at(body, 19).ok_or(Refusal::BadField(4))?;
-    Ok(Record::Quote {
+    *into = Record::Quote {
         moment,
         symbol: u16_at(body, 9),
         bid,
         offer,
         bid_size: u32_at(body, 27),
         offer_size: u32_at(body, 31),
-    })
+    };
+    Ok(())
 }
 
 #[tactic(auto, unfolding(crate::specs::Reading::index_tick_of))]
 #[inline(never)]
-fn index_tick(body: &[u8]) -> Result<Record, Refusal>
-    ensures { result ≡ index_tick_of body.now }
+fn index_tick(body: &[u8], into: &mut Record) -> Result<(), Refusal>
+    ensures { placed into.new result ≡ index_tick_of body.now }
 {
     if body.len() != 13 {
         return Err(Refusal::BadLength);
     }
     let moment = moment_at(body, 1).ok_or(Refusal::BadField(1))?;
     let value = index_at(body, 9).ok_or(Refusal::BadField(2))?;
-    Ok(Record::IndexTick { moment, value })
+    *into = Record::IndexTick { moment, value };
+    Ok(())
 }
 
 #[tactic(auto, unfolding(crate::specs::Reading::clock_of))]
 #[inline(never)]
-fn clock(body: &[u8]) -> Result<Record, Refusal>
-    ensures { result ≡ clock_of body.now }
+fn clock(body: &[u8], into: &mut Record) -> Result<(), Refusal>
+    ensures { placed into.new result ≡ clock_of body.now }
 {
     if body.len() != 9 {
         return Err(Refusal::BadLength);
     }
     let moment = moment_at(body, 1).ok_or(Refusal::BadField(1))?;
-    Ok(Record::Clock { moment })
+    *into = Record::Clock { moment };
+    Ok(())
 }
 
 #[tactic(auto, unfolding(crate::specs::Reading::notice_of))]
 #[inline(never)]
-fn notice(body: &[u8]) -> Result<Record, Refusal>
-    ensures { result ≡ notice_of body.now }
+fn notice(body: &[u8], into: &mut Record) -> Result<(), Refusal>
+    ensures { placed into.new result ≡ notice_of body.now }
 {
     if body.len() != 12 {
         return Err(Refusal::BadLength);
     }
     let moment = moment_at(body, 1).ok_or(Refusal::BadField(1))?;
     let kind = kind_of_byte(body[11]).ok_or(Refusal::BadField(3))?;
-    Ok(Record::Notice {
+    *into = Record::Notice {
         moment,
         symbol: u16_at(body, 9),
         kind,
-    })
+    };
+    Ok(())
 }
 
 #[tactic(auto, unfolding(crate::specs::Reading::indication_of))]
 #[inline(never)]
-fn indication(body: &[u8]) -> Result<Record, Refusal>
-    ensures { result ≡ indication_of body.now }
+fn indication(body: &[u8], into: &mut Record) -> Result<(), Refusal>
+    ensures { placed into.new result ≡ indication_of body.now }
 {
     if body.len() != 20 {
         return Err(Refusal::BadLength);
@@ -186,37 +194,59 @@ fn indication(body: &[u8]) -> Result<Record, Refusal>
     let moment = moment_at(body, 1).ok_or(Refusal::BadField(1))?;
     let price = price_at(body, 11).ok_or(Refusal::BadField(3))?;
     let unmatched = unmatched_of_byte(body[19]).ok_or(Refusal::BadField(4))?;
-    Ok(Record::Indication {
+    *into = Record::Indication {
         moment,
         symbol: u16_at(body, 9),
         price,
         unmatched,
-    })
+    };
+    Ok(())
 }
 
-// A function of its own: the other clauses of `decode` follow from its one.
+// A function of its own: the other clauses of `decode_into` follow from its one.
 #[tactic(auto, unfolding(crate::specs::Reading::record_of))]
 #[inline(always)]
-fn record(body: &[u8]) -> Result<Record, Refusal>
-    ensures { result ≡ record_of body.now }
+fn record(body: &[u8], into: &mut Record) -> Result<(), Refusal>
+    ensures { placed into.new result ≡ record_of body.now }
 {
     match body {
         [] => Err(Refusal::BadLength),
-        [1, ..] => day(body),
-        [2, ..] => listing(body),
-        [3, ..] => trade(body),
-        [4, ..] => cancel(body),
-        [5, ..] => quote(body),
-        [6, ..] => index_tick(body),
-        [7, ..] => clock(body),
-        [8, ..] => notice(body),
-        [9, ..] => indication(body),
+        [1, ..] => day(body, into),
+        [2, ..] => listing(body, into),
+        [3, ..] => trade(body, into),
+        [4, ..] => cancel(body, into),
+        [5, ..] => quote(body, into),
+        [6, ..] => index_tick(body, into),
+        [7, ..] => clock(body, into),
+        [8, ..] => notice(body, into),
+        [9, ..] => indication(body, into),
         [_, ..] => Err(Refusal::UnknownType),
     }
 }
 
-/// The record that a body says, or the first refusal: of its type, of its length, or of its first field that is outside
-/// its range. An empty body has a bad length. Each record has one body, and each body that decodes is that of its record.
+/// A record to decode another one into: a clock at midnight.
+pub fn blank() -> Record
+    ensures { result ≡ Record.Clock 0 }
+{
+    Record::Clock {
+        moment: Moment::new(0).unwrap(),
+    }
+}
+
+/// Puts the record that a body says in the place of another one, so that it isn't copied; or answers the first refusal: of
+/// its type, of its length, or of its first field that is outside its range. An empty body has a bad length. Each record has
+/// one body, and each body that decodes is that of its record. What is there after a refusal isn't said.
+#[inline(always)]
+pub fn decode_into(body: &[u8], into: &mut Record) -> Result<(), Refusal>
+    requires { length body.now ≤ 255 }
+    ensures exact { placed into.new result ≡ record_of body.now }
+    ensures found { OnOk result (Spells body.now into.new) }
+    ensures only { (x : Record) → Spells body.now x → placed into.new result ≡ Ok x }
+{
+    record(body, into)
+}
+
+/// The record that a body says, or the first refusal, as of `decode_into`.
 #[inline(always)]
 pub fn decode(body: &[u8]) -> Result<Record, Refusal>
     requires { length body.now ≤ 255 }
@@ -224,5 +254,7 @@ pub fn decode(body: &[u8]) -> Result<Record, Refusal>
     ensures found { IfOk result (Spells body.now) }
     ensures only { (x : Record) → Spells body.now x → result ≡ Ok x }
 {
-    record(body)
+    let mut x = blank();
+    decode_into(body, &mut x)?;
+    Ok(x)
 }

@@ -11,7 +11,7 @@ mod record;
 mod tests;
 
 pub use cutter::{Cut, Cutter};
-pub use decoding::decode;
+pub use decoding::{blank, decode, decode_into};
 pub use encoding::encode;
 pub use law::{cutting_goes_on, frames_differ, there_is_one_cut, there_is_one_kind};
 pub use record::{NoticeKind, Record, RecordKind, Refusal};
