@@ -3,6 +3,7 @@ pub mod Images
 pub mod OneList
 pub mod Torns
 pub mod Offsets
+pub mod Places
 pub mod Appended
 pub mod Extending
 mod AtGateLemmas

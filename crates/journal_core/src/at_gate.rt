@@ -7,7 +7,7 @@ ghost use Rattle.wire_in.specs.Laws.{IsSound};
 
 use crate::batch::Batch;
 use wire_core::u32_at;
-use wire_in::{Record, decode};
+use wire_in::Record;
 
 /// What stands at the prefix of some bytes: a closed gate, a batch of so many bytes with its gate, or neither.
 #[derive(Clone, Copy, Debug, PartialEq, Eq)]
@@ -74,7 +74,7 @@ fn read_frames(frames: &[u8], into: &mut Batch) -> bool
 }
 
 /// Adds the record of the frame at the prefix to a batch that has room, and answers what follows it; none exactly where no
-/// frame of a record stands there. The record is handed on where it was decoded.
+/// frame of a record stands there. The record is decoded where it then lies.
 fn take_frame<'a>(frames: &'a [u8], into: &mut Batch) -> Option<&'a [u8]>
     requires some { 0 < length frames.now }
     requires room { length into.old < 64 }
@@ -86,9 +86,8 @@ fn take_frame<'a>(frames: &'a [u8], into: &mut Batch) -> Option<&'a [u8]>
     if frames.len() < end {
         return None;
     }
-    match &decode(&frames[1..end]) {
-        Ok(x) => into.copy(x),
-        Err(_) => return None,
+    if !into.decode(&frames[1..end]) {
+        return None;
     }
     Some(&frames[end..])
 }

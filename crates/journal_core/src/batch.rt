@@ -1,31 +1,53 @@
-ghost use Rattle.std.specs.Prelude.{◌≡◌, ◌<◌, ◌≤◌, ◌==◌, ◌++◌, ◌∷◌, [], All, IfOk, IsTrue, ◌↔◌, length};
-ghost use Rattle.wire_in.specs.Spelling.{InRange};
+ghost use Rattle.std.specs.Prelude.{◌≡◌, ◌+◌, ◌<◌, ◌≤◌, ◌++◌, ◌∷◌, [], All, IfOk, IsTrue, false, ◌↔◌, length, vec_len, vec_capacity};
+ghost use Rattle.wire_in.specs.declared.record.Record.{Record};
+ghost use Rattle.wire_in.specs.Spelling.{InRange, Spells};
 
 use price_core::NoMemory;
 use std::alloc::Global;
 use std::marker::Model;
-use std::slice;
-use wire_in::Record;
+use wire_in::{Record, blank, decode_into};
 
 /// The most records of a batch.
 pub const BATCH_MAX: usize = 64;
 
-/// Up to 64 records, the oldest first, which are appended together. Its room is taken when it is made.
+/// Up to 64 records, the oldest first, which are appended together. Their places are made when it is made; how many are taken
+/// is a number of its own, so that a record is decoded where it then lies.
 #[derive(Debug, Drop)]
 pub struct Batch {
-    records: Vec<Record>,
+    places: Vec<Record>,
+    count: usize,
 }
 
 impl Model for Batch {
-    ghost use Rattle.std.specs.Prelude.{List, vec_capacity};
+    ghost use Rattle.std.specs.Prelude.{List, take};
     ghost use Rattle.wire_in.specs.declared.record.Record.{Record};
     ghost use Rattle.journal_core.specs.Batch.{IsBatchState};
 
     ghost Value = { List Record };
 
-    ghost view = { λ b. b.records.items };
+    ghost view = { λ b. take b.count b.places.items };
 
-    ghost invariant = { λ b. IsBatchState b.records.items (vec_capacity b.records) };
+    ghost invariant = { λ b. IsBatchState b.count b.places.items };
+}
+
+/// Adds a place behind the others, where there is room for it.
+fn add_place(places: &mut Vec<Record>)
+    requires { vec_len places.old + 1 ≤ vec_capacity places.old }
+    ensures len { vec_len places.new ≡ vec_len places.old + 1 }
+    ensures capacity { vec_capacity places.old ≤ vec_capacity places.new }
+{
+    places.extend_from_slice(&[blank()]).unwrap();
+}
+
+/// 64 places for records.
+fn places(alloc: Global) -> Result<Vec<Record>, NoMemory>
+    ensures { IfOk result (λ places. length places.items ≡ BATCH_MAX) }
+{
+    let mut places = Vec::with_capacity(alloc, BATCH_MAX)?;
+    for _place in 0..BATCH_MAX {
+        add_place(&mut places);
+    }
+    Ok(places)
 }
 
 impl Batch {
@@ -34,7 +56,8 @@ impl Batch {
         ensures { IfOk result (λ batch. batch ≡ []) }
     {
         Ok(Batch {
-            records: Vec::with_capacity(alloc, BATCH_MAX)?,
+            places: places(alloc)?,
+            count: 0,
         })
     }
 
@@ -44,17 +67,23 @@ impl Batch {
         requires range { InRange x }
         ensures { self.new ≡ self.old ++ x ∷ [] }
     {
-        self.copy(&x);
+        self.places[self.count] = x;
+        self.count += 1;
     }
 
-    /// The same of a record that is copied from where it lies.
-    pub(crate) fn copy(&mut self, x: &Record)
+    /// Adds the record of a body behind the others. False: the body is of no record, and all is as it was.
+    pub(crate) fn decode(&mut self, body: &[u8]) -> bool
         requires room { length self.old < BATCH_MAX }
-        requires range { InRange x.now }
-        ensures { self.new ≡ self.old ++ x.now ∷ [] }
+        requires short { length body.now ≤ 255 }
+        ensures taken { IsTrue result → (x : Record) × Spells body.now x × (self.new ≡ self.old ++ x ∷ []) }
+        ensures refused { result ≡ false → (x : Record) → ¬ Spells body.now x }
+        ensures none { result ≡ false → self.new ≡ self.old }
     {
-        // It has room for them all.
-        self.records.extend_from_slice(slice::from_ref(x)).unwrap();
+        if decode_into(body, &mut self.places[self.count]).is_err() {
+            return false;
+        }
+        self.count += 1;
+        true
     }
 
     /// The records, the oldest first.
@@ -63,7 +92,7 @@ impl Batch {
         ensures most { length self.now ≤ BATCH_MAX }
         ensures ranges { All InRange self.now }
     {
-        &self.records
+        &self.places[..self.count]
     }
 
     /// How many records it holds.
@@ -71,14 +100,14 @@ impl Batch {
         ensures len { result ≡ length self.now }
         ensures most { length self.now ≤ BATCH_MAX }
     {
-        self.records.len()
+        self.count
     }
 
     /// Whether it holds no record.
     pub fn is_empty(&self) -> bool
         ensures { IsTrue result ↔ (self.now ≡ []) }
     {
-        self.records.is_empty()
+        self.count == 0
     }
 
     /// Whether it takes no further record.
@@ -86,13 +115,13 @@ impl Batch {
         ensures full { IsTrue result ↔ (length self.now ≡ BATCH_MAX) }
         ensures most { length self.now ≤ BATCH_MAX }
     {
-        self.records.len() == BATCH_MAX
+        self.count == BATCH_MAX
     }
 
-    /// Removes all records. The room stays.
+    /// Removes all records. The places stay.
     pub fn clear(&mut self)
         ensures { self.new ≡ [] }
     {
-        self.records.clear();
+        self.count = 0;
     }
 }

@@ -1,0 +1,8 @@
+-- Records in the first of some places.
+use Rattle.std.proofs.Common.{◌≡◌, ◌<◌, ℕ, List, length, take, ap, arith}
+use Rattle.std.proofs.lemmas.List.{length-take}
+use Rattle.wire_in.specs.declared.record.Record.{Record}
+
+-- one more has a place
+pub within : (count : ℕ) (places records : List Record) → length places ≡ 64 → records ≡ take count places → length records < 64 → count < length places
+within count places records room is few = omega (arith, ap length is, length-take count places)
