@@ -1,12 +1,14 @@
 //! A session: from pieces of the input to what is kept and sent.
 
-ghost use Rattle.std.specs.Prelude.{◌≡◌, ◌≢◌, ◌-◌, ◌+◌, ◌*◌, ◌<◌, ◌≤◌, ◌^◌, ◌++◌, ◌∷◌, [], ℕ, List, Option, None, Err, OnOk, IfOk, IfSome, IsSome, length, take};
+ghost use Rattle.std.specs.Prelude.{◌≡◌, ◌≢◌, ◌-◌, ◌+◌, ◌*◌, ◌<◌, ◌≤◌, ◌^◌, ◌++◌, ◌∷◌, [], ℕ, List, Option, None, Err, OnOk, IfOk, IfSome, IsOk, IsSome, length, take};
 ghost use Rattle.host_core.specs.Outside.{Elapses};
 ghost use Rattle.host_core.specs.Frames.{OnlySends, OnlyWrites};
 ghost use Rattle.host_core.specs.Faults.{Causes};
 ghost use Rattle.wire_in.specs.declared.record.Record.{Record};
 ghost use Rattle.wire_core.specs.Frames.{framed};
 ghost use Rattle.wire_in.specs.Cutting.{pending};
+ghost use Rattle.wire_in.specs.Reading.{record_of};
+ghost use Rattle.wire_in.specs.Spelling.{InRange};
 ghost use Rattle.journal_core.specs.Layout.{with_batch};
 ghost use Rattle.rulebook.specs.Sent.{with_record};
 ghost use Rattle.market_core.specs.AdmissionState.{refusal_of};
@@ -25,7 +27,7 @@ use crate::round::{Outcome, ROUND_MAX, Round};
 use host_core::{Fault, Host};
 use std::thread::Threads;
 use stream_core::Outbox;
-use wire_in::{Cutter, decode};
+use wire_in::{Cutter, blank, decode_into};
 use yard_core::Gate;
 
 /// What is kept from piece to piece: the frame begun, the accepted records' engine, the frames that were judged and wait to
@@ -69,6 +71,23 @@ fn whole_frame<'a>(cutter: &Cutter, piece: &'a [u8]) -> Option<&'a [u8]>
     rest.get(..usize::from(*len))
 }
 
+/// Puts the record of a body in the place of another one, or the first refusal: it is read and judged where it then lies.
+#[inline(always)]
+fn decode_at(body: &[u8], outcome: &mut Outcome)
+    requires short { length body.now ≤ 255 }
+    requires is_record { IsOk outcome.old }
+    ensures exact { outcome.new ≡ record_of body.now }
+    ensures range { IfOk outcome.new InRange }
+{
+    let refusal = match outcome {
+        Ok(x) => decode_into(body, x).err(),
+        Err(_) => None,
+    };
+    if let Some(refusal) = refusal {
+        *outcome = Err(refusal);
+    }
+}
+
 /// Judges the frame of a body, and admits its record where it is accepted. It waits to be answered.
 fn judge_next(engine: &mut Engine, round: &mut Round, body: &[u8])
     requires short { length body.now ≤ 255 }
@@ -81,7 +100,8 @@ fn judge_next(engine: &mut Engine, round: &mut Round, body: &[u8])
     ensures rest { engine.new ≡ record engine.old { admission = engine.new.admission } }
     ensures capacity { engine.new.admission.capacity ≡ engine.old.admission.capacity }
 {
-    let mut outcome = decode(body);
+    let mut outcome = Ok(blank());
+    decode_at(body, &mut outcome);
     judge(&engine.admission, &mut outcome);
     admit(engine, &outcome);
     round.push(&outcome);

@@ -16,7 +16,7 @@ returns-clause-answers c start answered all after number outbox sent whole answe
     let body = c.args.body.now in
     let is : c.judge.new.outcome ≡ judged start.capacity held body =
     c.judge.ensures.exact held answers.evaluates.engine_is.admission
-    ∙ (λ i. admitted (answers.evaluates.engine_is.within i) held (c.decode-outcome.ensures.exact i)) in
+    ∙ (λ i. admitted (answers.evaluates.engine_is.within i) held (c.decode_at.ensures.exact i)) in
     let waits = answers.waits in
     record {
       waits = record {
