@@ -20,7 +20,7 @@ use Rattle.symbol_core.specs.declared.state.Kept.{Kept}
 use Rattle.symbol_core.specs.declared.state.Step.{Step}
 use Rattle.symbol_core.specs.declared.symbol.MarketView.{MarketView}
 use Rattle.symbol_core.specs.Evaluates.{Evaluates}
-use Rattle.symbol_core.specs.Idle.{IsDue, IsIdle, IsSettled, IsAwaited, IsStill, Waits, WaitsAt, brings_deal_or_time, comes_often, is_out, keeps_price}
+use Rattle.symbol_core.specs.Idle.{AwaitsPrice, IsDue, IsIdle, IsSettled, IsAwaited, IsStill, Waits, WaitsAt, brings_deal_or_time, comes_often, is_out, keeps_price}
 use Rattle.symbol_core.specs.InStep.{InStep, in_step, just_opened}
 use Rattle.symbol_core.specs.Kept.{heard, quoted_by, requoted}
 use Rattle.symbol_core.specs.Pricing.{later_price, offered, priced_by, reference}
@@ -251,3 +251,16 @@ pub moved-recent : (k : Kept) (market : MarketView) (x : Record) (deal : Option 
 moved-recent k market x deal t w at =
     subst (λ (u : ℕ). live u (option_to_list deal) ≡ option_to_list deal) (sym at)
     (subst (λ (o : Option Deal). live (moment_of x) (option_to_list o) ≡ option_to_list o) (sym w.own) (live-own market.day k.id x))
+
+-- and before whose bands no rule says anything
+pub awaits-price : (k : Kept) (market : MarketView) (x : Record) (deal : Option Deal) (step : Step) → step ≡ step_for market x → IsAwaited k market x deal → is_trading k.phase ≡ true → AwaitsPrice k step
+awaits-price k market x deal step is w trading = subst (AwaitsPrice k) (sym is) (record {
+  goes_on = goes_on (is_done k.phase) (is_some k.terms) w.inside;
+  trading = trading;
+  settled = w.settled;
+  until = w.until;
+  waits = record { often = (plain k x w.kind).often; later = w.later; waits = w.waits };
+}) where
+  goes_on : (done listed : Bool) → (done || not listed) ≡ false → done ≡ false
+  goes_on false listed e = refl
+  goes_on true listed e = absurd cc

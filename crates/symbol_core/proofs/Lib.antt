@@ -1,5 +1,6 @@
 pub mod Histories
 pub mod Runs
+mod Settled
 pub mod Deals
 pub mod Phases
 pub mod Pauses

@@ -15,16 +15,16 @@ use Rattle.symbol_core.specs.declared.due.Due.{Due}
 use Rattle.symbol_core.specs.declared.state.Kept.{Kept}
 use Rattle.symbol_core.specs.declared.state.Step.{Step}
 use Rattle.symbol_core.specs.declared.symbol.MarketView.{MarketView}
-use Rattle.symbol_core.specs.Idle.{IsDue, IsQuiet, IsSettled, Waits, WaitsAt, changes_bands, comes_often, is_out}
+use Rattle.symbol_core.specs.Idle.{AwaitsPrice, IsDue, IsQuiet, IsSettled, Waits, WaitsAt, changes_bands, comes_often, is_out}
 use Rattle.symbol_core.specs.InStep.{InStep}
 use Rattle.symbol_core.specs.Kept.{announcing, quoted_by, requoted}
 use Rattle.symbol_core.specs.Pricing.{reference}
 use Rattle.symbol_core.specs.Stands.{ObeysAll, Says, Speaks, Stands}
 use Rattle.symbol_core.specs.Taken.{taken}
 use Rattle.symbol_core.specs.Window.{window}
-use Rattle.symbol_core.proofs.Chains.{none}
+use Rattle.symbol_core.proofs.Chains.{none, obeys_all}
 use Rattle.symbol_core.proofs.Runs.{run_keeps}
-use Rattle.symbol_core.proofs.Unmoved.{quiet-nothing}
+use Rattle.symbol_core.proofs.Unmoved.{IsQuietEarly, early-nothing, early_rules, quiet-nothing}
 
 announces_nothing : (k : Kept) (x : Record) → comes_often x ≡ true → announcing k x ≡ []
 announces_nothing held (in_.Day t d c) e = absurd cc
@@ -135,3 +135,20 @@ waits-known k step due before (Some until) is inside w = λ deals d. w k deals (
 pub waits-held : (k : Kept) (deals : List Deal) (step : Step) (before : Option Due) (o : Option ℕ) → IsDue before k deals → IfSome o (λ until. (deals : List Deal) → IsDue before k deals → WaitsAt k step until) → IfSome o (λ until. WaitsAt k step until)
 waits-held k deals step before None d w = tt
 waits-held k deals step before (Some until) d w = w deals d
+
+-- Only a new reference price is awaited.
+
+early_at : (k : Kept) (step : Step) → AwaitsPrice k step → IsQuietEarly k step
+early_at k step awaits =
+    let w = awaits.waits in
+    record {
+      settled = awaits.settled;
+      closes = w.waits.closes step.moment w.later;
+      starts = w.waits.starts step.moment w.later;
+      pauses = w.waits.pauses step.moment w.later;
+      asks = asks_nothing k.id step.input w.often;
+      reopens = w.waits.reopens step.moment w.later;
+    }
+
+pub obeys-early : (k : InStep) (deals : List Deal) (step : Step) (before : List Message) → AwaitsPrice k.kept step → ObeysAll deals early_rules step k k before before
+obeys-early k deals step before awaits = obeys_all deals early_rules (none step k before) (early-nothing k deals step (early_at k.kept step awaits))

@@ -40,7 +40,7 @@ use Rattle.symbol_core.specs.declared.symbol.MarketView.{MarketView}
 use Rattle.symbol_core.specs.Evaluates.{Evaluates, Opens, open_history, part_of}
 use Rattle.symbol_core.specs.Kept.{becoming, brakes, pausing_as, reopened, reopening, reopening_with}
 use Rattle.symbol_core.specs.Pricing.{band, band_by_time, reference, time_changes}
-use Rattle.symbol_core.specs.Idle.{IsDue, IsIdle, IsQuiet, IsSettled, Waits, changes_bands, reopens_at, starts_at}
+use Rattle.symbol_core.specs.Idle.{IsDue, IsIdle, IsQuiet, IsSettled, Waits, changes_bands, pauses_at, reopens_at, starts_at}
 use Rattle.symbol_core.specs.InStep.{InStep, at_rest}
 use Rattle.symbol_core.specs.Rests.{SymbolState}
 use Rattle.symbol_core.specs.Runs.{run_band, run_quote}
@@ -184,62 +184,95 @@ bands_none k step e = by (run_band k) e where
 pub window_rested : (k : Kept) (deals : List Deal) → window (at_rest k) deals ≡ deals
 window_rested k deals = ap (λ (ds : List Deal). deals ++ ds) (quote_stays (is_some k.run) []) ∙ append-nil deals
 
-quiet_rules : (k : InStep) (deals : List Deal) (step : Step) → IsQuiet k deals step
-    → (mine : List ℕ → Bool) (h : List Event) → Stands mine k deals step h → NoneSaid step.day (named mine k.kept.id) step.input h symbol_rules
-quiet_rules k deals step quiet mine h s = (
-  said rules.session_close (turned-gives turns.session_close k step mine deals h s ∙ ap (λ (b : Bool). option_map_or (becoming k.kept) (if b then Some Phase.Closed else None) []) quiet.closes),
-  (
-    said rules.market_halt (turned-gives turns.market_halt k step mine deals h s
-        ∙ ap (λ (b : Bool). option_map_or (becoming k.kept) (if b then Some Phase.Stopped else None) []) settled.runs),
-    (
-      said rules.start (turned-gives turns.start k step mine deals h s
-          ∙ ap (λ (b : Bool). option_map_or (becoming k.kept) (if b then Some Phase.Trading else None) []) quiet.starts),
-      (
-        said rules.regulatory_halt (turned-gives turns.regulatory_halt k step mine deals h s
-            ∙ ap (λ (o : Option Phase). option_map_or (becoming k.kept) o []) (halted_none (Some Phase.Halted) (Some (phase_after_regulatory_halt (brakes k.kept step))) k.kept.halted (is_in_regulatory_halt k.kept.phase) settled.halted)),
+-- the rules before that of the bands, and those from it on
+abbrev pub early_rules : List (Context → List Message)
+early_rules = rules.session_close ∷ rules.market_halt ∷ rules.start ∷ rules.regulatory_halt ∷ rules.pause ∷ rules.reopen ∷ rules.leave_limit ∷ []
+
+abbrev pub price_rules : List (Context → List Message)
+price_rules = rules.publish_band ∷ rules.enter_limit ∷ rules.straddle ∷ rules.restrict ∷ []
+
+-- none of the early rules says anything at a step
+pub record IsQuietEarly (k : Kept) (step : Step) : Type 0 where
+  pub settled : IsSettled k step.stopped
+  pub closes : is_closed step.moment step.day ≡ false
+  pub starts : starts_at k step.day step.stopped step.moment ≡ false
+  pub pauses : pauses_at k step.moment ≡ false
+  pub asks : asks_to_pause k.id step.input ≡ false
+  pub reopens : reopens_at k step.moment ≡ false
+
+module _ (k : InStep) (deals : List Deal) (step : Step) (mine : List ℕ → Bool) (h : List Event) (s : Stands mine k deals step h) where
+  abbrev none_of : List (Context → List Message) → Type 0
+  none_of later = NoneSaid step.day (named mine k.kept.id) step.input h later
+
+  -- a rule that gives nothing
+  said : (rule : Context → List Message) → rule (context step.day (named mine k.kept.id) step.input h) ≡ [] → obeyed step.day (named mine k.kept.id) step.input rule h ≡ []
+  said rule e = ap (λ (ms : List Message). cond (is_done (phase h k.kept.id)) [] ms) e ∙ quote_stays (is_done (phase h k.kept.id)) []
+
+  early : IsQuietEarly k.kept step → none_of early_rules
+  early quiet =
+      let settled = quiet.settled in (
+        said rules.session_close (turned-gives turns.session_close k step mine deals h s ∙ ap (λ (b : Bool). option_map_or (becoming k.kept) (if b then Some Phase.Closed else None) []) quiet.closes),
         (
-          said rules.pause (pause-gives k step mine deals h s
-              ∙ (λ i. option_map_or (pausing_as k.kept step) (if quiet.pauses i || (quiet.asks i && is_trading k.kept.phase && k.kept.straddling) then (if in_last_10_minutes t step.day then Some Phase.Closing else Some Phase.Paused) else None) [])),
+          said rules.market_halt (turned-gives turns.market_halt k step mine deals h s
+              ∙ ap (λ (b : Bool). option_map_or (becoming k.kept) (if b then Some Phase.Stopped else None) []) settled.runs),
           (
-            said rules.reopen (reopen-gives k step mine deals h s ∙ reopens_none k.kept step quiet.reopens),
+            said rules.start (turned-gives turns.start k step mine deals h s
+                ∙ ap (λ (b : Bool). option_map_or (becoming k.kept) (if b then Some Phase.Trading else None) []) quiet.starts),
             (
-              said rules.leave_limit (leave-gives k step mine deals h s ∙ ap (λ (b : Bool). if b then becoming k.kept Phase.Trading else []) settled.stays),
+              said rules.regulatory_halt (turned-gives turns.regulatory_halt k step mine deals h s
+                  ∙ ap (λ (o : Option Phase). option_map_or (becoming k.kept) o []) (halted_none (Some Phase.Halted) (Some (phase_after_regulatory_halt (brakes k.kept step))) k.kept.halted (is_in_regulatory_halt k.kept.phase) settled.halted)),
               (
-                said rules.publish_band (banding-gives mean k step mine deals h s (mean-gives k step mine deals h s)
-                    ∙ ap (λ (o : Option Priced). elim o [ Some r ↦ band k.kept step r.cause r.price | None ↦ option_map_or (band_by_time k.kept step) (run_band k.kept) [] ]) quiet.prices
-                    ∙ bands_none k.kept step quiet.bands),
+                said rules.pause (pause-gives k step mine deals h s
+                    ∙ (λ i. option_map_or (pausing_as k.kept step) (if quiet.pauses i || (quiet.asks i && is_trading k.kept.phase && k.kept.straddling) then (if in_last_10_minutes step.moment step.day then Some Phase.Closing else Some Phase.Paused) else None) [])),
                 (
-                  said rules.enter_limit (enter-gives k step mine deals h s
-                      ∙ enters_none (is_trading k.kept.phase) (at_band Phase.LimitLow (run_quote k.kept) (run_band k.kept)) (at_band Phase.LimitHigh (run_quote k.kept) (run_band k.kept)) (becoming k.kept Phase.LimitLow) (becoming k.kept Phase.LimitHigh) settled.low settled.high),
+                  said rules.reopen (reopen-gives k step mine deals h s ∙ reopens_none k.kept step quiet.reopens),
                   (
-                    said rules.straddle (straddle-gives k step mine deals h s
-                        ∙ (λ i. if settled.straddles i && not k.kept.straddling then out.Straddle k.kept.id true ∷ [] else if k.kept.straddling && not (settled.straddles i) then out.Straddle k.kept.id false ∷ [] else [])
-                        ∙ same_straddle k.kept k.kept.straddling),
-                    (
-                      said rules.restrict (restrict-gives k step mine deals h s ∙ ap (λ (b : Bool). if b then out.Short k.kept.id Triggered ∷ [] else []) quiet.restricts),
-                      tt,
-                    ),
+                    said rules.leave_limit (leave-gives k step mine deals h s ∙ ap (λ (b : Bool). if b then becoming k.kept Phase.Trading else []) settled.stays),
+                    tt,
                   ),
                 ),
               ),
             ),
           ),
         ),
-      ),
-    ),
-  ),
-) where
-  t : ℕ
-  t = step.moment
+      )
 
-  mean : Option ℕ
-  mean = mean_of (live t (window k deals))
+  at_price : IsQuiet k deals step → none_of price_rules
+  at_price quiet =
+      let settled = quiet.settled in
+      let mean = mean_of (live step.moment (window k deals)) in (
+        said rules.publish_band (banding-gives mean k step mine deals h s (mean-gives k step mine deals h s)
+            ∙ ap (λ (o : Option Priced). elim o [ Some r ↦ band k.kept step r.cause r.price | None ↦ option_map_or (band_by_time k.kept step) (run_band k.kept) [] ]) quiet.prices
+            ∙ bands_none k.kept step quiet.bands),
+        (
+          said rules.enter_limit (enter-gives k step mine deals h s
+              ∙ enters_none (is_trading k.kept.phase) (at_band Phase.LimitLow (run_quote k.kept) (run_band k.kept)) (at_band Phase.LimitHigh (run_quote k.kept) (run_band k.kept)) (becoming k.kept Phase.LimitLow) (becoming k.kept Phase.LimitHigh) settled.low settled.high),
+          (
+            said rules.straddle (straddle-gives k step mine deals h s
+                ∙ (λ i. if settled.straddles i && not k.kept.straddling then out.Straddle k.kept.id true ∷ [] else if k.kept.straddling && not (settled.straddles i) then out.Straddle k.kept.id false ∷ [] else [])
+                ∙ same_straddle k.kept k.kept.straddling),
+            (
+              said rules.restrict (restrict-gives k step mine deals h s ∙ ap (λ (b : Bool). if b then out.Short k.kept.id Triggered ∷ [] else []) quiet.restricts),
+              tt,
+            ),
+          ),
+        ),
+      )
 
-  settled : IsSettled k.kept step.stopped
-  settled = quiet.settled
+  none_both : (a b : List (Context → List Message)) → none_of a → none_of b → none_of (a ++ b)
+  none_both [] b first later = later
+  none_both (rule ∷ a) b first later = (first.0, none_both a b first.1 later)
 
-  said : (rule : Context → List Message) → rule (context step.day (named mine k.kept.id) step.input h) ≡ [] → obeyed step.day (named mine k.kept.id) step.input rule h ≡ []
-  said rule e = ap (λ (ms : List Message). cond (is_done (phase h k.kept.id)) [] ms) e ∙ quote_stays (is_done (phase h k.kept.id)) []
+quiet_rules : (k : InStep) (deals : List Deal) (step : Step) → IsQuiet k deals step
+    → (mine : List ℕ → Bool) (h : List Event) → Stands mine k deals step h → NoneSaid step.day (named mine k.kept.id) step.input h symbol_rules
+quiet_rules k deals step quiet mine h s =
+    none_both k deals step mine h s early_rules price_rules
+    (early k deals step mine h s (record { settled = quiet.settled; closes = quiet.closes; starts = quiet.starts; pauses = quiet.pauses; asks = quiet.asks; reopens = quiet.reopens }))
+    (at_price k deals step mine h s quiet)
+
+-- what the early rules give of a stock of which they say nothing
+pub early-nothing : (k : InStep) (deals : List Deal) (step : Step) → IsQuietEarly k.kept step → (mine : List ℕ → Bool) (h : List Event) → Stands mine k deals step h → all_obeyed step.day (named mine k.kept.id) step.input early_rules h ≡ []
+early-nothing k deals step quiet mine h s = none_said step.day (named mine k.kept.id) step.input h early_rules (early k deals step mine h s quiet)
 
 pub quiet-nothing : (k : InStep) (deals : List Deal) (step : Step) → IsQuiet k deals step → (mine : List ℕ → Bool) (h : List Event) → Stands mine k deals step h → all_obeyed step.day (named mine k.kept.id) step.input symbol_rules h ≡ []
 quiet-nothing k deals step quiet mine h s = none_said step.day (named mine k.kept.id) step.input h symbol_rules (quiet_rules k deals step quiet mine h s)

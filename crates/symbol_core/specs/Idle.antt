@@ -154,3 +154,21 @@ pub record IsAwaited (k : Kept) (market : MarketView) (x : Record) (deal : Optio
   pub own : deal ≡ deal_of market.day k.id x
   pub counts : (if is_some k.run then option_to_list deal else []) ≡ option_to_list deal
   pub restricts : (triggers_by k.short.prior_close deal && not k.short.triggered) ≡ false
+
+-- at an open step no rule before that of the bands says anything
+pub record AwaitsPrice (k : Kept) (step : Step) : Type 0 where
+  pub goes_on : is_done k.phase ≡ false
+  pub trading : is_trading k.phase ≡ true
+  pub settled : IsSettled k step.stopped
+  pub until : ℕ
+  pub waits : WaitsAt k step until
+
+-- a trading stock is in a limit state where its quotation is at a band, and else trades on
+pub record HasEntered (old new : Kept) : Type 0 where
+  pub quote : run_quote new ≡ run_quote old
+  pub band : run_band new ≡ run_band old
+  pub halted : new.halted ≡ old.halted
+  pub no_halt : is_in_regulatory_halt new.phase ≡ false
+  pub stays : leaves_limit new (run_quote new) ≡ false
+  pub low : (is_trading new.phase && at_band LimitLow (run_quote new) (run_band new)) ≡ false
+  pub high : (is_trading new.phase && at_band LimitHigh (run_quote new) (run_band new)) ≡ false

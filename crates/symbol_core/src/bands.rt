@@ -205,6 +205,7 @@ impl Kept {
         requires times { is_times cause ≡ true → option_map (λ last. last.reference) (run_band self.old) ≡ Some price }
         requires room { length out.old + 1 ≤ most_of_symbol }
         ensures says { Says (pricing.band self.old step.now cause price) step.now (in_step self.old opened.old) (in_step self.new opened.new) out.old out.new }
+        ensures rest { self.new ≡ record self.old { run = self.new.run } }
         ensures bands { changes_bands self.new step.now ≡ false }
         ensures len { length out.new ≤ length out.old + 1 }
     {
@@ -239,6 +240,7 @@ impl Kept {
     fn band_by_time(&mut self, step: &Step, opened: &mut OpenStep, out: &mut Messages)
         requires { length out.old + 1 ≤ most_of_symbol }
         ensures says { Says (option_map_or (pricing.band_by_time self.old step.now) (run_band self.old) []) step.now (in_step self.old opened.old) (in_step self.new opened.new) out.old out.new }
+        ensures rest { self.new ≡ record self.old { run = self.new.run } }
         ensures bands { changes_bands self.new step.now ≡ false }
         ensures len { length out.new ≤ length out.old + 1 }
     {
@@ -252,6 +254,7 @@ impl Kept {
     fn banding(&mut self, step: &Step, opened: &mut OpenStep, deals: &Window, out: &mut Messages)
         requires { length out.old + 1 ≤ most_of_symbol }
         ensures says { Says (pricing.banding (mean_of (live step.now.moment (window (in_step self.old opened.old) deals.now.deals))) (in_step self.old opened.old) step.now) step.now (in_step self.old opened.old) (in_step self.new opened.new) out.old out.new }
+        ensures rest { self.new ≡ record self.old { run = self.new.run } }
         ensures bands { changes_bands self.new step.now ≡ false }
         ensures len { length out.new ≤ length out.old + 1 }
     {
@@ -272,6 +275,7 @@ impl Kept {
         requires goes_on { is_done self.old.phase ≡ false }
         requires room { length out.old + 1 ≤ most_of_symbol }
         ensures obeys { ObeysWith deals.now.deals rules.publish_band step.now (in_step self.old opened.old) (in_step self.new opened.new) out.old out.new }
+        ensures rest { self.new ≡ record self.old { run = self.new.run } }
         ensures bands { changes_bands self.new step.now ≡ false }
         ensures len { length out.new ≤ length out.old + 1 }
     {

@@ -246,7 +246,7 @@ impl Kept {
 
 impl Kept {
     /// Until when time brings nothing but perhaps a new reference price, in nanoseconds of the day.
-    fn waits(&self, step: &Step) -> u64
+    pub fn waits(&self, step: &Step) -> u64
         requires { changes_bands self.now step.now ≡ false }
         ensures { Waits self.now step.now.day step.now.stopped step.now.moment result }
     {

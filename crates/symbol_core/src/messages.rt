@@ -9,22 +9,24 @@ use wire_out::Message;
 /// The most messages of one symbol at a record.
 pub const MOST_OF_SYMBOL: usize = 16;
 
-/// What one symbol says at a record, with room for all that it may say.
+/// What one symbol says at a record, with room for all that it may say. How many there are is a number of its own, so that to
+/// remove them takes one store.
 #[derive(Debug, Drop)]
 pub struct Messages {
-    items: Vec<Message>,
+    room: Vec<Message>,
+    count: usize,
 }
 
 impl Model for Messages {
-    ghost use Rattle.std.specs.Prelude.{◌≤◌, List, vec_len, vec_capacity};
+    ghost use Rattle.std.specs.Prelude.{◌≡◌, ◌≤◌, List, length, take};
     ghost use Rattle.wire_out.specs.declared.message.Message.{Message as Said};
     ghost use Rattle.symbol_core.specs.Evaluates.{most_of_symbol};
 
     ghost Value = { List Said };
 
-    ghost view = { λ m. m.items.items };
+    ghost view = { λ m. take m.count m.room.items };
 
-    ghost invariant = { λ m. (most_of_symbol ≤ vec_capacity m.items) × (vec_len m.items ≤ most_of_symbol) };
+    ghost invariant = { λ m. (length m.room.items ≡ most_of_symbol) × (m.count ≤ most_of_symbol) };
 }
 
 impl Messages {
@@ -32,8 +34,10 @@ impl Messages {
     pub fn new(alloc: Global) -> Result<Messages, NoMemory>
         ensures { IfOk result (λ messages. messages ≡ []) }
     {
-        let items = Vec::with_capacity(alloc, MOST_OF_SYMBOL)?;
-        Ok(Messages { items })
+        Ok(Messages {
+            room: Vec::from_elem(alloc, Message::MarketResume, MOST_OF_SYMBOL)?,
+            count: 0,
+        })
     }
 
     /// The messages, in order.
@@ -41,7 +45,7 @@ impl Messages {
         ensures value { result.now ≡ self.now }
         ensures few { length self.now ≤ most_of_symbol }
     {
-        &self.items
+        &self.room[..self.count]
     }
 
     /// Removes them all.
@@ -49,7 +53,7 @@ impl Messages {
         ensures none { self.new ≡ [] }
         ensures len { length self.new ≡ 0 }
     {
-        self.items.clear();
+        self.count = 0;
     }
 
     /// Adds one behind the others.
@@ -58,6 +62,7 @@ impl Messages {
         ensures items { self.new ≡ self.old ++ message ∷ [] }
         ensures len { length self.new ≡ length self.old + 1 }
     {
-        self.items.push(message).unwrap();
+        self.room[self.count] = message;
+        self.count += 1;
     }
 }

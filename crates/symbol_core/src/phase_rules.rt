@@ -1,15 +1,15 @@
 // The rules that turn a phase: the close, a market-wide halt, the start, a regulatory halt, and limit and straddle states.
-ghost use Rattle.std.specs.Prelude.{◌≡◌, ◌+◌, ◌≤◌, ◌&&◌, false, List, option_to_list, length};
+ghost use Rattle.std.specs.Prelude.{◌≡◌, ◌+◌, ◌≤◌, ◌&&◌, true, false, List, option_to_list, length};
 ghost use Rattle.std.specs.Option.{option_map_or};
 ghost use Rattle.session_core.specs.Times.{is_closed};
 ghost use Rattle.limit_core.specs.Limits.{straddles};
-ghost use Rattle.pause_core.specs.Phases.{is_done};
+ghost use Rattle.pause_core.specs.Phases.{is_done, is_trading};
 ghost use Rattle.window_core.specs.declared.window.Deal.{Deal};
 ghost use Rattle.rulebook.specs.Auction.{is_paused};
 ghost use Rattle.rulebook.specs.Rules as rules;
 ghost use Rattle.rulebook.specs.Rules.{at_band, meets};
 ghost use Rattle.symbol_core.specs.Evaluates.{most_of_symbol};
-ghost use Rattle.symbol_core.specs.Idle.{changes_bands};
+ghost use Rattle.symbol_core.specs.Idle.{HasEntered, changes_bands};
 ghost use Rattle.symbol_core.specs.InStep.{in_step};
 ghost use Rattle.symbol_core.specs.Kept.{brakes, is_straddling_now, states, straddles_at, straddling};
 ghost use Rattle.symbol_core.specs.Runs.{run_band, run_quote};
@@ -136,6 +136,7 @@ impl Kept {
         requires goes_on { is_done self.old.phase ≡ false }
         requires room { length out.old + 1 ≤ most_of_symbol }
         ensures obeys { Obeys rules.enter_limit step.now (in_step self.old opened.old) (in_step self.new opened.new) out.old out.new }
+        ensures enters { is_trading self.old.phase ≡ true → HasEntered self.old self.new }
         ensures bands { changes_bands self.old step.now ≡ false → changes_bands self.new step.now ≡ false }
         ensures len { length out.new ≤ length out.old + 1 }
     {
@@ -165,6 +166,7 @@ impl Kept {
     fn straddling(&mut self, step: &Step, out: &mut Messages)
         requires { length out.old + 1 ≤ most_of_symbol }
         ensures says { (opened : OpenStep) → Says (straddling self.old step.now) step.now (in_step self.old opened) (in_step self.new opened) out.old out.new }
+        ensures straddles { self.new ≡ record self.old { straddling = is_straddling_now self.old } }
         ensures bands { changes_bands self.new step.now ≡ changes_bands self.old step.now }
         ensures len { length out.new ≤ length out.old + 1 }
     {
@@ -181,6 +183,7 @@ impl Kept {
         requires goes_on { is_done self.old.phase ≡ false }
         requires room { length out.old + 1 ≤ most_of_symbol }
         ensures obeys { (opened : OpenStep) → Obeys rules.straddle step.now (in_step self.old opened) (in_step self.new opened) out.old out.new }
+        ensures straddles { self.new ≡ record self.old { straddling = is_straddling_now self.old } }
         ensures bands { changes_bands self.new step.now ≡ changes_bands self.old step.now }
         ensures len { length out.new ≤ length out.old + 1 }
     {

@@ -82,6 +82,7 @@ impl Kept {
         requires alone { begins_auction self.old phase ≡ false }
         requires room { length out.old + 1 ≤ most_of_symbol }
         ensures says { Says (Message.State self.old.id phase ∷ []) step.now (in_step self.old opened.old) (in_step self.new opened.new) out.old out.new }
+        ensures turned { in_step self.new opened.new ≡ turned (in_step self.old opened.old) step.now phase }
         ensures len { length out.new ≡ length out.old + 1 }
     {
         out.push(Message::State {
@@ -162,6 +163,7 @@ impl Kept {
     pub fn say_straddle(&mut self, step: &Step, on: bool, out: &mut Messages)
         requires { length out.old + 1 ≤ most_of_symbol }
         ensures says { (opened : OpenStep) → Says (Message.Straddle self.old.id on ∷ []) step.now (in_step self.old opened) (in_step self.new opened) out.old out.new }
+        ensures on { self.new ≡ record self.old { straddling = on } }
         ensures bands { changes_bands self.new step.now ≡ changes_bands self.old step.now }
         ensures len { length out.new ≡ length out.old + 1 }
     {
@@ -255,6 +257,7 @@ impl Kept {
     pub fn say_triggered(&mut self, step: &Step, out: &mut Messages)
         requires { length out.old + 1 ≤ most_of_symbol }
         ensures says { (opened : OpenStep) → Says (Message.Short self.old.id ShortKind.Triggered ∷ []) step.now (in_step self.old opened) (in_step self.new opened) out.old out.new }
+        ensures same { self.new ≡ self.old }
         ensures bands { changes_bands self.new step.now ≡ changes_bands self.old step.now }
         ensures len { length out.new ≡ length out.old + 1 }
     {
@@ -265,7 +268,8 @@ impl Kept {
     }
 
     fn take_band(&mut self, step: &Step, opened: &mut OpenStep, b: &Banded)
-        ensures { in_step self.new opened.new ≡ banded (in_step self.old opened.old) step.now b.now }
+        ensures banded { in_step self.new opened.new ≡ banded (in_step self.old opened.old) step.now b.now }
+        ensures rest { self.new ≡ record self.old { run = self.new.run } }
     {
         if let Some(run) = &mut self.run {
             if run.band.is_none() && opens_early(self.id, run.reference.begun(), step) {
@@ -282,6 +286,7 @@ impl Kept {
         requires room { length out.old + 1 ≤ most_of_symbol }
         ensures says { Says (Message.Band self.old.id b.now.cause b.now.reference b.now.bands.lower b.now.bands.upper ∷ []) step.now (in_step self.old opened.old) (in_step self.new opened.new) out.old out.new }
         ensures banded { in_step self.new opened.new ≡ banded (in_step self.old opened.old) step.now b.now }
+        ensures rest { self.new ≡ record self.old { run = self.new.run } }
         ensures len { length out.new ≡ length out.old + 1 }
     {
         out.push(Message::Band {

@@ -16,6 +16,7 @@ impl Kept {
         requires goes_on { is_done self.old.phase ≡ false }
         requires room { length out.old + 1 ≤ most_of_symbol }
         ensures obeys { Obeys rules.restrict step.now (in_step self.old opened.now) (in_step self.new opened.now) out.old out.new }
+        ensures same { self.new ≡ self.old }
         ensures bands { changes_bands self.new step.now ≡ changes_bands self.old step.now }
         ensures len { length out.new ≤ length out.old + 1 }
     {

@@ -1,5 +1,6 @@
 ghost use Rattle.std.specs.Prelude.{◌≡◌, ◌+◌, ◌<◌, ◌≤◌, ℕ, Bool, true, false, None, Some, IfSome, List, [], ◌∷◌, ◌&&◌, not, IsOk, IfOk, OnOk, OnErr, is_some, length, option_to_list};
 ghost use Rattle.wire_in.specs.Records.{is_day, is_tick, moment_of};
+ghost use Rattle.pause_core.specs.Phases.{is_trading};
 ghost use Rattle.window_core.specs.declared.window.Deal.{Deal};
 ghost use Rattle.window_core.specs.Deals.{live};
 ghost use Rattle.wire_out.specs.declared.message.Message.{Message as Said};
@@ -178,6 +179,7 @@ impl Symbol {
 
     /// Takes a quotation in, where it and its moment bring the run nothing else, and removes the trades that are five minutes
     /// old. False: the record is no such quotation, and all is as it was.
+    #[inline(always)]
     fn pass_quote(&mut self, x: &Record, market: &MarketView) -> bool
         ensures nothing { result ≡ true → (before : List Said) → Evaluates market.now x.now self.old self.new before before }
         ensures recent { result ≡ true → live (moment_of x.now) self.new.deals ≡ self.new.deals }
@@ -247,6 +249,7 @@ impl Symbol {
     }
 
     /// Evaluates a trade or a tick that isn't passed over.
+    #[inline(always)]
     fn take_deal_or_time(
         &mut self,
         x: &Record,
@@ -273,6 +276,7 @@ impl Symbol {
     /// were there. It leaves none at a Day record, which begins the day, nor at a clock or an index tick of a day on which the
     /// symbol isn't listed. Out of memory, it leaves none and doesn't change the symbol; that can't come of a record that is no
     /// eligible trade of the symbol. Of a listed symbol, no trade that is five minutes old is kept.
+    #[inline(always)]
     pub fn evaluate(
         &mut self,
         x: &Record,
@@ -289,6 +293,7 @@ impl Symbol {
     }
 
     /// The same behind the messages that there are.
+    #[inline(always)]
     fn evaluate_behind(
         &mut self,
         x: &Record,
@@ -416,6 +421,7 @@ fn take_moved(
     out: &mut Messages,
 ) -> Option<Due>
     requires awaited { IsAwaited k.old market.now x.now deal.now }
+    requires trading { is_trading k.old.phase ≡ true }
     requires deals { length (option_to_list deal.now) ≤ deals.old.spare }
     requires room { length out.old + 15 ≤ most_of_symbol }
     ensures steps { (kept : List Deal) → live (moment_of x.now) kept ≡ deals.old.deals → Steps (step_for market.now x.now) k.old k.new kept deals.new.deals out.old out.new }
@@ -424,7 +430,7 @@ fn take_moved(
 {
     let step = step_of(x, market);
     let mut opened = OpenStep::begin(*deal, false);
-    k.obey(&step, &mut opened, deals, out);
+    k.obey_price(&step, &mut opened, deals, out);
     keep_deals(k, opened.is_fresh, step.moment, deal, deals);
-    k.due(&step, deals)
+    Some(k.due_within(&step, deals, k.waits(&step)))
 }

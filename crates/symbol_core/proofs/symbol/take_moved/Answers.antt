@@ -5,15 +5,15 @@ use Rattle.symbol_core.specs.declared.state.OpenStep.{OpenStep}
 use Rattle.symbol_core.specs.declared.state.Step.{Step}
 use Rattle.symbol_core.specs.InStep.{in_step}
 use Rattle.symbol_core.specs.Stands.{ObeysAll}
-use Rattle.symbol_core.proofs.Dealt.{moved-recent, moved-steps}
+use Rattle.symbol_core.proofs.Dealt.{awaits-price, moved-recent, moved-steps}
 use Rattle.symbol_core.proofs.symbol.take_moved.Goals as goal
 
 pub returns-clause-steps : goal.returns-clause-steps
 returns-clause-steps c = λ kept gone.
     let step = c.step_of-step.result in
     let deal = c.args.deal.now in
-    moved-steps c.args.k.now (in_step c.obey.new.self c.obey.new.opened) c.args.market.now c.args.x.now step deal kept c.args.deals.now.deals c.keep_deals.new.deals.deals c.args.out.now c.obey.new.out c.step_of-step.ensures c.requires.awaited gone
-    (subst (λ (opened : OpenStep). ObeysAll c.args.deals.now.deals symbol_rules step (in_step c.args.k.now opened) (in_step c.obey.new.self c.obey.new.opened) c.args.out.now c.obey.new.out) c.begin-opened.ensures c.obey.ensures.obeys)
+    moved-steps c.args.k.now (in_step c.obey_price.new.self c.obey_price.new.opened) c.args.market.now c.args.x.now step deal kept c.args.deals.now.deals c.keep_deals.new.deals.deals c.args.out.now c.obey_price.new.out c.step_of-step.ensures c.requires.awaited gone
+    (subst (λ (opened : OpenStep). ObeysAll c.args.deals.now.deals symbol_rules step (in_step c.args.k.now opened) (in_step c.obey_price.new.self c.obey_price.new.opened) c.args.out.now c.obey_price.new.out) c.begin-opened.ensures c.obey_price.ensures.obeys)
     c.keep_deals.ensures.same
 
 pub returns-clause-recent : goal.returns-clause-recent
@@ -21,3 +21,9 @@ returns-clause-recent c =
     let at = ap (λ (s : Step). s.moment) c.step_of-step.ensures in
     subst (λ (t : ℕ). live t c.keep_deals.new.deals.deals ≡ c.keep_deals.new.deals.deals) at
     (c.keep_deals.ensures.recent (moved-recent c.args.k.now c.args.market.now c.args.x.now c.args.deal.now c.step_of-step.result.moment c.requires.awaited at))
+
+pub obey_price-requires-clause-awaits : goal.obey_price-requires-clause-awaits
+obey_price-requires-clause-awaits c = awaits-price c.args.k.now c.args.market.now c.args.x.now c.args.deal.now c.step_of-step.result c.step_of-step.ensures c.requires.awaited c.requires.trading
+
+pub returns-clause-due : goal.returns-clause-due
+returns-clause-due c = c.due_within.ensures c.obey_price.ensures.settled c.waits.ensures
