@@ -35,6 +35,7 @@ fn stamp(said: &[Message], moment: Moment, out: &mut Vec<Stamped>)
 }
 
 /// Evaluates a record for a symbol. Only a trade may find no memory, and then all stays as it was.
+#[inline(always)]
 pub(crate) fn evaluate(
     symbol: &mut Symbol,
     x: &Record,
