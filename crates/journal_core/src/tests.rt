@@ -196,12 +196,12 @@ fn fill(
 fn a_long_journal_is_read_in_large_pieces(rt: HostRuntime) -> Result<(), Fail> {
     let alloc = rt.alloc();
     let mut host = MemoryHost::new(alloc, b"", b"")?;
-    format(&mut host, 3_000)?;
+    format(&mut host, 9_000)?;
     let mut journal = open(alloc, &mut host)?;
     let batch = quotes(alloc, 64)?;
-    fill(&mut host, &mut journal, &batch, 2_560)?;
+    fill(&mut host, &mut journal, &batch, 8_000)?;
     let before = host.calls();
-    assert_eq!(rt; open(alloc, &mut host)?.count(), 2_560);
+    assert_eq!(rt; open(alloc, &mut host)?.count(), 8_000);
     assert_eq!(rt; host.calls().saturating_sub(before), 4);
     Ok(())
 }
