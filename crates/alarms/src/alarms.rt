@@ -79,7 +79,9 @@ fn first_due(moments: &[u64], from: usize, before: usize, t: u64) -> Option<usiz
     None
 }
 
-/// The first due place of one block from a place of it on. Where none of the rest is due, the bound becomes exact.
+/// The first due place of one block from a place of it on. Where none of the rest is due, the bound becomes exact. It stays a
+/// call of its own, as that of a group does.
+#[inline(never)]
 fn first_of_block(
     moments: &[u64],
     bounds: &mut [u64],

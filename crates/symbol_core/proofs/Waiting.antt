@@ -22,8 +22,7 @@ use Rattle.refprice_core.specs.declared.reference.Priced.{Priced}
 use Rattle.refprice_core.specs.Prices.{awaits_from, awaits_mean, because, has_stood, moved_price, observed}
 use Rattle.reopen_core.specs.AuctionState.{AuctionState}
 use Rattle.window_core.specs.declared.window.Deal.{Deal}
-use Rattle.window_core.specs.Deals.{mean_has_moved, AreNear, live, mean_of}
-use Rattle.window_core.proofs.Near.{near_live_mean}
+use Rattle.window_core.specs.Deals.{mean_has_moved, live, mean_of}
 use Rattle.wire_in.proofs.RecordKinds.{by_tick}
 use Rattle.rulebook.specs.declared.symbol.Banded.{Banded}
 use Rattle.rulebook.specs.declared.symbol.Terms.{Terms}
@@ -217,12 +216,6 @@ prices-left k a deals from awaits until is begins near = λ step tick le before.
       let late : awaits ≤ step.moment = grind (arith, nat_tests) in
       by_last k a step (mean_of (live step.moment deals)) tick is
       (none_moves a step.moment (mean_of (live step.moment deals)) (near step.moment (omega (arith, le, late)) before))
-
--- and never while the price of each deal is near the last reference price
-pub prices-near : (k : Kept) (a : Adoption) (deals : List Deal) (from until : ℕ) → (run_reference k).last ≡ Some a → AreNear a.price deals → PricesFrom k deals from until
-prices-near k a deals from until is near = λ step tick le before.
-    by_last k a step (mean_of (live step.moment deals)) tick is
-    (none_moves a step.moment (mean_of (live step.moment deals)) (near_live_mean a.price step.moment deals near))
 
 -- The price of a release, else what is observed.
 

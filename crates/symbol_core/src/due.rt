@@ -216,14 +216,10 @@ impl Kept {
 
 // The same of a new reference price (LULD Plan, Section V).
 impl Kept {
-    /// After a reference price: never while the price of each deal is near it. Else where, once another mean is awaited, that of
-    /// the deals that are left may be far from it.
+    /// After a reference price, once another mean is awaited: when that of the deals that are left may be far from it.
     fn moves_from(&self, t: Moment, last: &Adoption, deals: &Window) -> u64
         ensures { (run_reference self.now).last ≡ Some last.now → PricesFrom self.now deals.now.deals t result }
     {
-        if deals.stays_near(last.price) {
-            return u64::MAX;
-        }
         let awaits = self.last_reference().awaits_from();
         deals.moves_from(t.nanos().max(awaits), last.price)
     }

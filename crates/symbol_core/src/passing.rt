@@ -31,6 +31,7 @@ pub fn brings_deal_or_time(x: &Record) -> bool
 }
 
 /// The eligible trade that a record is.
+#[inline(always)]
 pub fn deal_in(id: u16, x: &Record, day: &Day) -> Option<Deal>
     ensures { result ≡ deal_of day.now id x.now }
 {
@@ -135,6 +136,7 @@ impl Kept {
     }
 
     /// Whether a quotation lies within the bands of a stock that is trading and isn't straddling.
+    #[inline(always)]
     fn stays_within(&self, quote: &Quotation) -> bool
         ensures listed { result ≡ true → is_out self.now ≡ false }
         ensures run { result ≡ true → is_some self.now.run ≡ true }
@@ -144,6 +146,7 @@ impl Kept {
     }
 
     /// Whether a quotation leaves a settled stock in a run in peace, whatever the time.
+    #[inline(always)]
     pub fn stays_settled(&self, quote: &Quotation, stopped: bool) -> bool
         ensures listed { result ≡ true → is_out self.now ≡ false }
         ensures run { result ≡ true → is_some self.now.run ≡ true }

@@ -203,6 +203,7 @@ impl Symbol {
 
     /// Whether a trade or a tick brings nothing but its deal and perhaps a new reference price. When the stock is due is then
     /// known from its moment on.
+    #[inline(always)]
     fn awaits(&mut self, x: &Record, market: &MarketView, deal: &Option<Deal>) -> bool
         requires kind { brings_deal_or_time x.now ≡ true }
         requires own { deal.now ≡ deal_of market.now.day self.old.kept.id x.now }
@@ -222,6 +223,7 @@ impl Symbol {
 
     /// Evaluates a trade or a tick that may bring a new reference price and nothing else: where it brings none, no rule is
     /// asked. The trades that are five minutes old go first, so that the mean takes no time for each trade.
+    #[inline(always)]
     fn take_awaited(
         &mut self,
         x: &Record,

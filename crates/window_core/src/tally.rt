@@ -87,19 +87,6 @@ impl Tally {
         Some(mean(self.sum, self.count))
     }
 
-    /// What is left of deals where one of that price leaves.
-    pub(crate) fn without(&self, price: Price) -> Tally
-        requires sum { price ≤ self.now.sum }
-        requires count { 0 < self.now.count }
-        ensures sum { result.sum ≡ self.now.sum - price }
-        ensures count { result.count ≡ self.now.count - 1 }
-    {
-        Tally {
-            sum: self.sum - u128::from(price.units()),
-            count: self.count - 1,
-        }
-    }
-
     /// Whether the mean is at least one per cent away from a reference price (LULD Plan, Section V). It compares sums,
     /// since a division by the number of deals is slow.
     pub(crate) fn has_moved(&self, reference: Price) -> bool
@@ -125,7 +112,7 @@ impl Tally {
 const MANY: u64 = 1_048_576;
 
 /// The same as `has_moved`, of fewer deals.
-fn few_have_moved(sum: u64, count: u64, reference: Price) -> bool
+pub(crate) fn few_have_moved(sum: u64, count: u64, reference: Price) -> bool
     requires some { 0 < count }
     requires few { count < 2 ^ 20 }
     requires most { sum ≤ 99999999999 * count }

@@ -63,17 +63,31 @@ fn a_mean_moves_when_a_deal_leaves(rt: HostRuntime) -> Result<(), Fail> {
     Ok(())
 }
 
+/// Nine deals, a nanosecond one after the other, of which the last has a price of its own.
+fn nine(window: &mut Window, last: u64) -> Result<(), Fail> {
+    for number in 0..8 {
+        trade(window, after(u64::from(number))?, number, 500_000)?;
+    }
+    trade(window, after(8)?, 8, last)
+}
+
 #[test]
 fn of_nine_deals_the_first_alone_is_looked_at(rt: HostRuntime) -> Result<(), Fail> {
     let mut window = Window::new(rt.alloc())?;
-    for number in 0..9 {
-        trade(&mut window, after(u64::from(number))?, number, 500_000)?;
-    }
+    nine(&mut window, 510_000)?;
     let reference = Price::new(500_000)?;
     assert_eq!(rt;
         window.moves_from(0, reference),
         after(300_000_000_000)?.nanos()
     );
+    Ok(())
+}
+
+#[test]
+fn nine_deals_near_the_reference_price_move_at_no_time(rt: HostRuntime) -> Result<(), Fail> {
+    let mut window = Window::new(rt.alloc())?;
+    nine(&mut window, 504_999)?;
+    assert_eq!(rt; window.moves_from(0, Price::new(500_000)?), u64::MAX);
     Ok(())
 }
 

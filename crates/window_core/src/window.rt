@@ -7,7 +7,7 @@ ghost use Rattle.window_core.specs.Tallies.{Tallies};
 ghost use Rattle.window_core.specs.WindowState.{Represents};
 
 use crate::bounds::PriceBounds;
-use crate::leaving::moves_from;
+use crate::leaving::{FEW, few_move_from, many_move_from};
 use crate::queue::{first, keep_live, later, push_deal, remove, stays_ordered, total_of};
 use crate::tally::Tally;
 use price_core::{NoMemory, Price};
@@ -256,7 +256,8 @@ impl Window {
         }
     }
 
-    /// Looks at each deal.
+    /// Looks at each deal. It stays a call of its own, for whose loop the mean of deals that all count makes no room.
+    #[inline(never)]
     fn tally_each(&self, t: Moment) -> Tally
         ensures tallies { Tallies result.sum result.count (live t self.now.deals) }
         ensures few { result.count < 18446744073709551615 }
@@ -315,14 +316,20 @@ impl Window {
 
     /// From when on, at a moment or after it, the mean of those deals that are then less than five minutes old may be at least one
     /// per cent away from a reference price, where no deal is added (LULD Plan, Section V); both in nanoseconds of the day.
-    /// It looks at a few of the first deals.
+    /// It looks at a few deals, or at the first of many.
     pub fn moves_from(&self, from: u64, reference: Price) -> u64
         ensures near { (u : ℕ) → from ≤ u → u < result → mean_has_moved reference (live u self.now.deals) ≡ false }
     {
         if !self.is_ordered {
             return from;
         }
-        moves_from(&self.items, self.tally(), from, reference)
+        if self.items.len() <= FEW {
+            return few_move_from(&self.items, from, reference);
+        }
+        if self.stays_near(reference) {
+            return u64::MAX;
+        }
+        many_move_from(&self.items[0], &self.tally(), from, reference)
     }
 
     /// The same of these deals and one more that are less than five minutes old.

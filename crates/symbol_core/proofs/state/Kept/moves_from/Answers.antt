@@ -1,12 +1,8 @@
 use Rattle.std.proofs.Common.{ap, ◌∙◌, arith}
 use Rattle.refprice_core.specs.Prices.{awaits_from}
 use Rattle.refprice_core.specs.ReferenceState.{ReferenceState}
-use Rattle.symbol_core.proofs.Waiting.{prices-left, prices-near}
+use Rattle.symbol_core.proofs.Waiting.{prices-left}
 use Rattle.symbol_core.proofs.state.Kept.moves_from.Goals as goal
-
-pub returns-then-stays_near : goal.returns-then-stays_near
-returns-then-stays_near c = λ is.
-    prices-near c.args.self.now c.args.last.now c.args.deals.now.deals c.args.t 18446744073709551615 is (c.stays_near.ensures c.if-stays_near.true)
 
 pub returns : goal.returns
 returns c = λ is.
