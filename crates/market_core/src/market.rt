@@ -16,8 +16,9 @@ ghost use Rattle.market_core.specs.Ruled.{stamped, view_of};
 use crate::lead::{Lead, Today};
 use crate::section::Section;
 use breaker_core::Breaker;
-use price_core::NoMemory;
+use price_core::{Index, NoMemory};
 use rulebook::MOST_NAMES;
+use session_core::Day;
 use std::alloc::Global;
 use std::marker::Model;
 use symbol_core::{MOST_OF_SYMBOL, MarketView, Symbol};
@@ -85,7 +86,6 @@ impl Market {
     }
 
     /// Begins a day.
-    #[inline(never)]
     fn begin_day(
         &mut self,
         today: Today,
@@ -106,6 +106,27 @@ impl Market {
         let market = self.lead.begin_day(today);
         self.section.begin_day(x, &market, out);
         Ok(())
+    }
+
+    /// Begins a day with its breakers. It stays a call of its own, so that no other record makes room for what it makes.
+    #[inline(never)]
+    fn start_day(
+        &mut self,
+        day: Day,
+        index_close: Index,
+        x: &Record,
+        out: &mut Vec<Stamped>,
+    ) -> Result<(), NoMemory>
+        requires { is_day x.now ≡ true }
+        ensures ok { OnOk result (EachEvaluated (record { day = day; breaker = started index_close }) x.now self.old self.new out.old.items out.new.items) }
+        ensures err { OnErr result ((self.new ≡ self.old) × (out.new.items ≡ out.old.items)) }
+        ensures len { vec_len out.new ≤ vec_len out.old + most_of_symbol * length self.old.directory }
+        ensures room { vec_len out.old + most_of_symbol * length self.old.directory ≤ vec_capacity out.old → IsOk result }
+        ensures keeps_room { vec_capacity out.old ≤ vec_capacity out.new }
+        ensures names { self.new.directory ≡ self.old.directory }
+    {
+        let breaker = Breaker::start(index_close);
+        self.begin_day(Today { day, breaker }, x, out)
     }
 
     /// The market-wide rules at a clock or an index tick, and then those of each symbol.
@@ -270,10 +291,7 @@ impl Market {
                 day,
                 index_close,
                 ..
-            } => {
-                let breaker = Breaker::start(index_close);
-                self.begin_day(Today { day, breaker }, x, out)
-            }
+            } => self.start_day(day, index_close, x, out),
             Record::Listing { name, .. } => self.list(name, x, out),
             _ => match x.symbol() {
                 Some(symbol) => self.evaluate(symbol, x, out),

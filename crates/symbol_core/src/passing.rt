@@ -85,6 +85,7 @@ pub fn add_one(deal: &Option<Deal>, deals: &mut Window)
 }
 
 /// Whether a bid and an offer lie within two bands: neither is at a band that it could meet, nor beyond one.
+#[inline(always)]
 fn lies_within(bid: Price, offer: Price, bands: &Bands) -> bool
     ensures { result ≡ (nat_le bands.now.lower bid && nat_lt bid bands.now.upper && nat_lt bands.now.lower offer && nat_le offer bands.now.upper) }
 {
@@ -92,6 +93,7 @@ fn lies_within(bid: Price, offer: Price, bands: &Bands) -> bool
 }
 
 /// Whether a quotation is known to be at no band and to straddle none.
+#[inline(always)]
 fn is_within(quote: &Quotation, band: &Option<Banded>) -> bool
     ensures low { result ≡ true → at_band Phase.LimitLow (Some quote.now) band.now ≡ false }
     ensures high { result ≡ true → at_band Phase.LimitHigh (Some quote.now) band.now ≡ false }
@@ -104,6 +106,7 @@ fn is_within(quote: &Quotation, band: &Option<Banded>) -> bool
 }
 
 /// Whether the mean of the kept deals and one more is no new reference price in place of the last one.
+#[inline(always)]
 fn is_kept(last: &Adoption, t: Moment, deal: &Option<Deal>, deals: &Window) -> bool
     ensures { result ≡ not (is_some (moved_price last.now t (mean_of (live t (deals.now.deals ++ option_to_list deal.now))))) }
 {
@@ -123,6 +126,7 @@ impl Due {
 
 impl Kept {
     /// Whether a quotation lies within the bands of a run.
+    #[inline(always)]
     fn has_within(&self, quote: &Quotation) -> bool
         ensures run { result ≡ true → is_some self.now.run ≡ true }
         ensures low { result ≡ true → at_band Phase.LimitLow (Some quote.now) (run_band self.now) ≡ false }
@@ -163,6 +167,7 @@ impl Kept {
     }
 
     /// Whether a deal is the first of today that triggers the short sale restriction.
+    #[inline(always)]
     fn is_restricted_by(&self, deal: &Option<Deal>) -> bool
         ensures { result ≡ (triggers_by self.now.short.prior_close deal.now && not self.now.short.triggered) }
     {
@@ -174,6 +179,7 @@ impl Kept {
     }
 
     /// Whether the mean of the kept deals and one more is no new reference price.
+    #[inline(always)]
     pub fn keeps_price(&self, t: Moment, deal: &Option<Deal>, deals: &Window) -> bool
         ensures { result ≡ keeps_price self.now t (mean_of (live t (deals.now.deals ++ option_to_list deal.now))) }
     {
@@ -187,6 +193,7 @@ impl Kept {
     }
 
     /// Whether a deal, where there is one, brings a settled stock nothing but perhaps a new reference price.
+    #[inline(always)]
     pub fn awaits_price(&self, deal: &Option<Deal>) -> bool
         ensures listed { result ≡ true → is_out self.now ≡ false }
         ensures counts { result ≡ true → (if is_some self.now.run then option_to_list deal.now else []) ≡ option_to_list deal.now }

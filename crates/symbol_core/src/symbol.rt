@@ -246,7 +246,15 @@ impl Symbol {
             self.kept.stay_due(&mut self.due, &self.deals);
             return Ok(());
         }
-        self.due = take_moved(&mut self.kept, &mut self.deals, x, market, deal, out);
+        take_moved(
+            &mut self.kept,
+            &mut self.deals,
+            &mut self.due,
+            x,
+            market,
+            deal,
+            out,
+        );
         Ok(())
     }
 
@@ -411,28 +419,29 @@ fn take_step(
     due_after(k, deals, step, waits, is_quiet)
 }
 
-/// Takes a trade or a tick in that brings a new reference price, and obeys the rules. The answer is when the stock is next
-/// due. It stays a call of its own, whose large frame the other records don't pay for.
+/// Takes a trade or a tick in that brings a new reference price, obeys the rules, and sets when the stock is next due. It stays
+/// a call of its own, whose large frame the other records don't pay for.
 #[inline(never)]
 fn take_moved(
     k: &mut Kept,
     deals: &mut Window,
+    due: &mut Option<Due>,
     x: &Record,
     market: &MarketView,
     deal: &Option<Deal>,
     out: &mut Messages,
-) -> Option<Due>
+)
     requires awaited { IsAwaited k.old market.now x.now deal.now }
     requires trading { is_trading k.old.phase ≡ true }
     requires deals { length (option_to_list deal.now) ≤ deals.old.spare }
     requires room { length out.old + 15 ≤ most_of_symbol }
     ensures steps { (kept : List Deal) → live (moment_of x.now) kept ≡ deals.old.deals → Steps (step_for market.now x.now) k.old k.new kept deals.new.deals out.old out.new }
     ensures recent { live (moment_of x.now) deals.new.deals ≡ deals.new.deals }
-    ensures due { IsDue result k.new deals.new.deals }
+    ensures due { IsDue due.new k.new deals.new.deals }
 {
     let step = step_of(x, market);
     let mut opened = OpenStep::begin(*deal, false);
     k.obey_price(&step, &mut opened, deals, out);
     keep_deals(k, opened.is_fresh, step.moment, deal, deals);
-    Some(k.due_within(&step, deals, k.waits(&step)))
+    *due = Some(k.due_within(&step, deals, k.waits(&step)));
 }

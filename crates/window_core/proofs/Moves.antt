@@ -67,6 +67,12 @@ moved-by_sum sum n r c some priced is =
     by_bounds (2 * sum + n) ((r + c) * (2 * n)) ((r - c + 1) * (2 * n)) (mean sum n) r c priced (omega arith) (omega arith)
     (le-div_iff_mul-le {k = 2 * n} {x = r + c} {y = 2 * sum + n} (omega arith)) (div-lt_iff_lt-mul {k = 2 * n} {x = 2 * sum + n} {y = r - c + 1} (omega arith))
 
+-- a price a hundredth below and one a hundredth above are so far from each other
+pub with_width : (p c k : ℕ) → c ≤ p → 0 < c → (p - c + 1) * k + (2 * c - 1) * k ≡ (p + c) * k
+with_width p c k small some = by (p - c + 1) (2 * c - 1) (p + c) (omega (arith, small, some)) where
+  by : (a b both : ℕ) → a + b ≡ both → a * k + b * k ≡ both * k
+  by a b both is = let sum : (a + b) * k ≡ both * k = ap (λ (n : ℕ). n * k) is in omega (arith, sum)
+
 -- of some deals
 pub has_moved-gives : (sum n price r : ℕ) (b : Bool) → price ≡ r → IsPrice price → 0 < n
     → b ≡ (nat_le ((price + (price + 99) / 100) * (2 * n)) (2 * sum + n) || nat_lt (2 * sum + n) ((price - (price + 99) / 100 + 1) * (2 * n)))

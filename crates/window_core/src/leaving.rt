@@ -50,7 +50,7 @@ impl Last {
         requires most { self.now.sum ≤ 99999999999 * self.now.count }
         ensures { (from : ℕ) (deals : List Deal) → AreLast reference from self.now deals → from ≤ begin → (u : ℕ) → begin ≤ u → u < result → mean_has_moved reference (live u deals) ≡ false }
     {
-        if begin < self.leaves && few_have_moved(self.sum, self.count, reference) {
+        if (begin < self.leaves) & few_have_moved(self.sum, self.count, reference) {
             begin
         } else {
             self.moves

@@ -1,4 +1,4 @@
-ghost use Rattle.std.specs.Prelude.{◌-◌, ◌≡◌, ◌==◌, ◌+◌, ◌*◌, ◌≤◌, ◌<◌, ◌++◌, ◌^◌, None, Some, false, filter, if◌then◌else◌, length, option_to_list};
+ghost use Rattle.std.specs.Prelude.{◌-◌, ◌≡◌, ◌==◌, ◌+◌, ◌*◌, ◌≤◌, ◌<◌, ◌++◌, ◌^◌, ◌||◌, None, Some, false, filter, nat_le, nat_lt, if◌then◌else◌, length, option_to_list};
 ghost use Rattle.std.specs.Option.{option_map_or};
 ghost use Rattle.price_core.specs.Moves.{moved_one_percent};
 ghost use Rattle.price_core.specs.Rounding.{mean};
@@ -100,28 +100,47 @@ impl Tally {
         if self.count < MANY {
             return few_have_moved(self.sum as u64, self.count, reference);
         }
-        let price = reference.units();
-        let hundredth = (price + 99) / 100;
-        let sum = 2 * self.sum + u128::from(self.count);
-        doubled(price + hundredth, self.count) <= sum
-            || sum < doubled(price - hundredth + 1, self.count)
+        many_have_moved(self.sum, self.count, reference)
     }
 }
 
 /// The sum of the prices of fewer deals fits 64 bits, also where a price is as far as one per cent away from each of them.
 const MANY: u64 = 1_048_576;
 
-/// The same as `has_moved`, of fewer deals.
-pub(crate) fn few_have_moved(sum: u64, count: u64, reference: Price) -> bool
+/// The same as `has_moved`, of many deals. It stays a call of its own, for whose wide numbers few deals make no room.
+#[inline(never)]
+fn many_have_moved(sum: u128, count: u64, reference: Price) -> bool
     requires some { 0 < count }
-    requires few { count < 2 ^ 20 }
     requires most { sum ≤ 99999999999 * count }
     ensures { result ≡ option_map_or (λ m. moved_one_percent m reference) (if count == 0 then None else Some (mean sum count)) false }
 {
     let price = reference.units();
     let hundredth = (price + 99) / 100;
-    let sum = 2 * sum + count;
-    doubled_few(price + hundredth, count) <= sum || sum < doubled_few(price - hundredth + 1, count)
+    let sum = 2 * sum + u128::from(count);
+    doubled(price + hundredth, count) <= sum || sum < doubled(price - hundredth + 1, count)
+}
+
+/// Whether a number is less than another, or not less than so much more than that. One comparison tells both.
+fn is_outside(number: u64, low: u64, width: u64) -> bool
+    requires number { number < 2 ^ 63 }
+    requires low { low < 2 ^ 62 }
+    requires width { width < 2 ^ 62 }
+    ensures { result ≡ (nat_le (low + width) number || nat_lt number low) }
+{
+    width <= number.wrapping_sub(low)
+}
+
+/// The same as `has_moved`, of fewer deals.
+pub(crate) fn few_have_moved(sum: u64, count: u64, reference: Price) -> bool
+    requires few { count < 2 ^ 20 }
+    requires most { sum ≤ 99999999999 * count }
+    ensures { 0 < count → result ≡ option_map_or (λ m. moved_one_percent m reference) (if count == 0 then None else Some (mean sum count)) false }
+{
+    let price = reference.units();
+    let hundredth = (price + 99) / 100;
+    let low = doubled_few(price - hundredth + 1, count);
+    let width = doubled_few(2 * hundredth - 1, count);
+    is_outside(2 * sum + count, low, width)
 }
 
 /// Twice the sum of so many equal prices.

@@ -256,8 +256,7 @@ impl Window {
         }
     }
 
-    /// Looks at each deal. It stays a call of its own, for whose loop the mean of deals that all count makes no room.
-    #[inline(never)]
+    /// Looks at each deal.
     fn tally_each(&self, t: Moment) -> Tally
         ensures tallies { Tallies result.sum result.count (live t self.now.deals) }
         ensures few { result.count < 18446744073709551615 }
@@ -336,7 +335,20 @@ impl Window {
     pub fn mean_has_moved_with(&self, t: Moment, last: &Option<Deal>, reference: Price) -> bool
         ensures { result ≡ option_map_or (λ m. moved_one_percent m reference) (mean_of (live t (self.now.deals ++ option_to_list last.now))) false }
     {
-        let earlier = self.tally_live(t);
+        if !self.are_live(t) {
+            return self.mean_of_each_has_moved(t, last, reference);
+        }
+        let last = Tally::of_one(t, last);
+        self.tally().and(&last).has_moved(reference)
+    }
+
+    /// The same where a deal may be five minutes old, by a look at each. It stays a call of its own, for whose loop the others
+    /// make no room.
+    #[inline(never)]
+    fn mean_of_each_has_moved(&self, t: Moment, last: &Option<Deal>, reference: Price) -> bool
+        ensures { result ≡ option_map_or (λ m. moved_one_percent m reference) (mean_of (live t (self.now.deals ++ option_to_list last.now))) false }
+    {
+        let earlier = self.tally_each(t);
         let last = Tally::of_one(t, last);
         earlier.and(&last).has_moved(reference)
     }

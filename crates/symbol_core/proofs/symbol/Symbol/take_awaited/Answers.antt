@@ -54,10 +54,10 @@ returns-clause-ok c =
     let deal = c.args.deal.now in
     let gone : c.drop_old.new.deals.deals ≡ live (moment_of x) deals = c.drop_old.ensures.deals ∙ (λ i. live (c.moment-t.ensures i) (c.reserve_deal.ensures.deals i)) in
     step-obeyed market x held c.self.inside.kept deals deals
-    (record { kept = c.take_moved-self-inside.new.k; deals = c.take_moved-self-inside.new.deals.deals }) c.args.out.now c.args.out.now c.take_moved-self-inside.new.out (step_for market x)
+    (record { kept = c.take_moved.new.k; deals = c.take_moved.new.deals.deals }) c.args.out.now c.args.out.now c.take_moved.new.out (step_for market x)
     c.self.view_is refl refl refl (awaited-no_day held.kept market x deal c.requires.awaited) (awaited-here held.kept market x deal c.requires.awaited)
-    (c.take_moved-self-inside.ensures.steps deals (sym gone))
+    (c.take_moved.ensures.steps deals (sym gone))
 
-pub take_moved-self-inside-requires-clause-awaited : goal.take_moved-self-inside-requires-clause-awaited
-take_moved-self-inside-requires-clause-awaited c =
+pub take_moved-requires-clause-awaited : goal.take_moved-requires-clause-awaited
+take_moved-requires-clause-awaited c =
     subst (λ (held : SymbolState). IsAwaited held.kept c.args.market.now c.args.x.now c.args.deal.now) (sym c.self.view_is) c.requires.awaited
