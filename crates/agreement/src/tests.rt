@@ -1,7 +1,7 @@
 mod drawn;
 mod drifts;
+mod lawful;
 mod lines;
-mod worked;
 
 use market_core::Market;
 use price_core::NoMemory;

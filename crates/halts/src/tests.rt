@@ -13,7 +13,6 @@ mod restarts;
 mod stops;
 mod texts;
 mod told;
-mod worked;
 
 use host_core::Status;
 use memory_host::MemoryHost;

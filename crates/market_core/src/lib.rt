@@ -9,8 +9,6 @@ mod market;
 mod section;
 mod since;
 mod symbols;
-#[cfg(test)]
-mod tests;
 
 pub use admission::Admission;
 pub use directory::Directory;

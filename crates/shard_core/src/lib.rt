@@ -11,8 +11,6 @@ mod pieces;
 mod ranges;
 mod shards;
 mod tagged;
-#[cfg(test)]
-mod tests;
 mod turns;
 
 pub use order::merge;

@@ -15,8 +15,6 @@ mod restriction;
 mod rules;
 mod state;
 mod symbol;
-#[cfg(test)]
-mod tests;
 
 pub use due::Due;
 pub use messages::{MOST_OF_SYMBOL, Messages};

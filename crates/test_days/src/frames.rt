@@ -211,20 +211,3 @@ pub fn records_of(alloc: Global, lines: &[Line]) -> Result<Vec<Record>, BadLine>
     }
     Ok(records)
 }
-
-/// The messages of lines, each with the moment of the record that gives it.
-pub fn messages_of(alloc: Global, lines: &[Line]) -> Result<Vec<Stamped>, BadLine> {
-    let mut moment = None;
-    let mut messages = Vec::new(alloc);
-    for line in lines {
-        match *line {
-            Line::Record(x) => moment = Some(x.moment()),
-            Line::Gives(message) => messages.push(Stamped {
-                moment: moment.ok_or(BadLine::Early)?,
-                message,
-            })?,
-            Line::Bytes(_) | Line::Refused(_) => {}
-        }
-    }
-    Ok(messages)
-}

@@ -1,8 +1,8 @@
 // Lines of a day, in few words. Prices are ten-thousandths of a dollar. The stock of most lines is ABC, with the id 0.
 use price_core::{Cause, Index, Leverage, Price, Tier, Unmatched};
 use session_core::{Close, Date, Day, Level, Moment, Phase, Profile};
-use wire_in::{NoticeKind, Record, Refusal};
-use wire_out::{Message, ShortKind};
+use wire_in::{Record, Refusal};
+use wire_out::Message;
 
 /// A line of a day: a frame that is read, or what the frame before gives.
 #[derive(Clone, Copy, Debug)]
@@ -42,11 +42,6 @@ pub fn at(hour: u8, minute: u8, second: u8) -> Moment {
 /// The moment a nanosecond before another.
 pub fn before(t: Moment) -> Moment {
     moment(t.nanos().saturating_sub(1))
-}
-
-/// The moment a nanosecond after another.
-pub fn after(t: Moment) -> Moment {
-    moment(t.nanos() + 1)
 }
 
 fn price(units: u64) -> Price {
@@ -107,14 +102,6 @@ pub fn trade(moment: Moment, number: u32, units: u64, flags: u16) -> Line {
     trade_of(0, moment, number, units, flags)
 }
 
-pub fn cancel(moment: Moment, number: u32) -> Line {
-    Line::Record(Record::Cancel {
-        moment,
-        symbol: 0,
-        number,
-    })
-}
-
 /// The best bid and offer of a stock, each of one share.
 pub fn quote_of(symbol: u16, moment: Moment, bid: u64, offer: u64) -> Line {
     Line::Record(Record::Quote {
@@ -140,14 +127,6 @@ pub fn tick(moment: Moment, hundredths: u32) -> Line {
 
 pub fn clock(moment: Moment) -> Line {
     Line::Record(Record::Clock { moment })
-}
-
-pub fn notice(moment: Moment, kind: NoticeKind) -> Line {
-    Line::Record(Record::Notice {
-        moment,
-        symbol: 0,
-        kind,
-    })
 }
 
 pub fn indication(moment: Moment, units: u64, unmatched: Unmatched) -> Line {
@@ -176,12 +155,8 @@ pub fn listed() -> Line {
     listed_as(0, ABC)
 }
 
-pub fn state_of(symbol: u16, phase: Phase) -> Line {
-    Line::Gives(Message::State { symbol, phase })
-}
-
 pub fn state(phase: Phase) -> Line {
-    state_of(0, phase)
+    Line::Gives(Message::State { symbol: 0, phase })
 }
 
 pub fn band(cause: Cause, reference: u64, lower: u64, upper: u64) -> Line {
@@ -192,10 +167,6 @@ pub fn band(cause: Cause, reference: u64, lower: u64, upper: u64) -> Line {
         lower: price(lower),
         upper: price(upper),
     })
-}
-
-pub fn straddle(on: bool) -> Line {
-    Line::Gives(Message::Straddle { symbol: 0, on })
 }
 
 pub fn collar(round: u16, lower: u64, upper: u64) -> Line {
@@ -214,17 +185,9 @@ pub fn release(units: u64) -> Line {
     })
 }
 
-pub fn short(kind: ShortKind) -> Line {
-    Line::Gives(Message::Short { symbol: 0, kind })
-}
-
 pub fn breaker(level: Level, hundredths: u32) -> Line {
     Line::Gives(Message::Breaker {
         level,
         index: index(hundredths),
     })
-}
-
-pub fn resumption() -> Line {
-    Line::Gives(Message::MarketResume)
 }

@@ -13,8 +13,6 @@ mod record_printing;
 mod record_reading;
 mod stream;
 mod task;
-#[cfg(test)]
-mod tests;
 mod translator;
 mod word;
 mod word_reading;

@@ -7,12 +7,9 @@ use std::alloc::Global;
 use std::process::Abort;
 use std::test::Fail;
 use std::thread::Threads;
+use test_days::Session;
 use test_days::lines::{at, breaker, bytes, day, refused, tick};
-use test_days::{Session, worked_days};
 use wire_in::Refusal;
-
-/// The sizes of batches that are tried.
-const SIZES: [&str; 4] = ["1", "2", "63", "64"];
 
 /// A journal of the capacity 3 that holds these batches, each with the last byte of its length.
 fn journal_of(alloc: Global, batches: &[(u8, &[u8])]) -> Result<Vec<u8>, Fail> {
@@ -84,77 +81,6 @@ fn a_batch_leaves_out_what_is_refused(rt: HostRuntime) -> Result<(), Fail> {
     for workers in WORKERS {
         let words = ["serve", "--workers", workers];
         assert!(rt; runs(&rt, &words, &empty, input, sent, Status::Done)? == journal);
-    }
-    Ok(())
-}
-
-/// A journal is sent again from a message on, by so many workers. Answers all that was sent.
-fn sent_from<Rt: Abort + AllocGlobal + Threads + Sync>(
-    rt: &Rt,
-    journal: &[u8],
-    workers: &str,
-    from: &str,
-) -> Result<Vec<u8>, Fail> {
-    let mut host = MemoryHost::new(rt.alloc(), b"", journal)?;
-    let words = ["serve", "--workers", workers, "--from", from];
-    assert_eq!(rt; run(rt, rt.alloc(), &words, &mut host), Status::Done);
-    Ok(host.sent().to_vec(rt.alloc())?)
-}
-
-/// A day that is served by so many workers in batches of a size is answered as it is told, and sent again from each message on.
-/// Answers the journal.
-fn expect_size<Rt: Abort + AllocGlobal + Threads + Sync>(
-    rt: &Rt,
-    disk: &[u8],
-    workers: &str,
-    size: &str,
-    day: &Session,
-) -> Result<Vec<u8>, Fail> {
-    let words = ["serve", "--workers", workers, "--batch", size];
-    let held = runs(rt, &words, disk, &day.input, &day.served, Status::Done)?;
-    let again = sent_from(rt, &held, workers, "1")?;
-    assert!(rt; again.starts_with(&day.replayed));
-    assert!(rt; again.ends_with(&sent_from(rt, &held, workers, "3")?));
-    Ok(held)
-}
-
-#[test]
-fn each_size_of_batch_gets_the_same_answers(rt: HostRuntime) -> Result<(), Fail> {
-    let disk = fresh(&rt)?;
-    let days = worked_days(rt.alloc())?;
-    for day in days.iter().take(8) {
-        let session = Session::of(rt.alloc(), &day.lines)?;
-        for size in SIZES {
-            expect_size(&rt, &disk, "1", size, &session)?;
-        }
-    }
-    Ok(())
-}
-
-/// A day that is served in batches of a size by several workers leaves the journal of one.
-fn expect_journal<Rt: Abort + AllocGlobal + Threads + Sync>(
-    rt: &Rt,
-    disk: &[u8],
-    size: &str,
-    day: &Session,
-) -> Result<(), Fail> {
-    let held = expect_size(rt, disk, "1", size, day)?;
-    for workers in ["2", "3", "64"] {
-        let journal = expect_size(rt, disk, workers, size, day)?;
-        assert!(rt; journal == held, "by {workers}");
-    }
-    Ok(())
-}
-
-#[test]
-fn any_number_of_workers_gives_the_same_answers_and_journal(rt: HostRuntime) -> Result<(), Fail> {
-    let disk = fresh(&rt)?;
-    let days = worked_days(rt.alloc())?;
-    for day in days.iter().skip(8).take(2) {
-        let session = Session::of(rt.alloc(), &day.lines)?;
-        for size in SIZES {
-            expect_journal(&rt, &disk, size, &session)?;
-        }
     }
     Ok(())
 }
