@@ -2,7 +2,5 @@
 #![tactic(auto)]
 
 mod alarms;
-#[cfg(test)]
-mod tests;
 
 pub use alarms::Alarms;

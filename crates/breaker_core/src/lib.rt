@@ -3,8 +3,6 @@
 
 mod breaker;
 mod level;
-#[cfg(test)]
-mod tests;
 
 pub use breaker::{Breaker, Halt};
 pub use level::{declares, ends, percent_of};

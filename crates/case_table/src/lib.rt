@@ -3,8 +3,6 @@
 
 mod row;
 mod table;
-#[cfg(test)]
-mod tests;
 
 pub use row::Case;
 pub use table::Cases;

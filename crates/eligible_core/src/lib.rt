@@ -2,8 +2,6 @@
 #![tactic(auto)]
 
 mod condition;
-#[cfg(test)]
-mod tests;
 mod trade;
 
 pub use condition::Condition;

@@ -3,8 +3,6 @@
 
 mod ahead;
 mod evaluator;
-#[cfg(test)]
-mod tests;
 
 pub use ahead::Ahead;
 pub use evaluator::Evaluator;

@@ -11,8 +11,6 @@ mod session;
 mod start;
 mod summary;
 mod tally;
-#[cfg(test)]
-mod tests;
 
 pub use generator::Generator;
 pub use law::a_day_by_indexes;

@@ -9,8 +9,6 @@ mod host;
 mod real;
 mod send;
 mod status;
-#[cfg(test)]
-mod tests;
 
 pub use counts::{FaultCounts, Side, raise};
 pub use failed::Failed;

@@ -2,8 +2,6 @@
 #![tactic(auto)]
 
 mod limit;
-#[cfg(test)]
-mod tests;
 mod timer;
 
 pub use limit::{at_limit, is_at_lower, is_at_upper, straddles};

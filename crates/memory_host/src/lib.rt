@@ -7,8 +7,6 @@ mod keep;
 mod ledger;
 mod memory;
 mod replay;
-#[cfg(test)]
-mod tests;
 
 pub use call::Call;
 pub use effect::Pick;

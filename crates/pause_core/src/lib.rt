@@ -3,8 +3,6 @@
 
 mod pausing;
 mod phases;
-#[cfg(test)]
-mod tests;
 mod turning;
 
 pub use pausing::pause;

@@ -3,8 +3,6 @@
 
 mod parameter;
 mod price_bands;
-#[cfg(test)]
-mod tests;
 
 pub use parameter::{category, percent, span};
 pub use price_bands::bands;

@@ -4,8 +4,6 @@
 mod arithmetic;
 mod error;
 mod quote;
-#[cfg(test)]
-mod tests;
 mod value;
 
 pub use arithmetic::{fell, mean, moved_one_percent, round_cent};

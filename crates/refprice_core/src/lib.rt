@@ -2,8 +2,6 @@
 #![tactic(auto)]
 
 mod reference;
-#[cfg(test)]
-mod tests;
 
 pub use reference::{
     Adoption, Priced, Reference, because, first_price, forced, is_in_opening_period,

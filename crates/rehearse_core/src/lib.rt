@@ -2,7 +2,5 @@
 #![tactic(auto)]
 
 mod rehearsal;
-#[cfg(test)]
-mod tests;
 
 pub use rehearsal::rehearse;

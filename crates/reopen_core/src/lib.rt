@@ -3,8 +3,6 @@
 
 mod auction;
 mod collars;
-#[cfg(test)]
-mod tests;
 
 pub use auction::{Auction, Indication, Origin, Round, Trial, try_round};
 pub use collars::{auction_reference, first_collars};

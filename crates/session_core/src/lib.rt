@@ -5,8 +5,6 @@ mod date;
 mod day;
 mod moment;
 mod state;
-#[cfg(test)]
-mod tests;
 mod times;
 
 pub use date::{BadDate, Date, date_text};

@@ -1,4 +1,4 @@
-//! Tests of blocks of records, in parts and by threads.
+//! Tests of blocks of records, in parts, by threads, and evaluated ahead.
 #![tactic(auto)]
 
 #[cfg(test)]

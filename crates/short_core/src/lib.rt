@@ -2,7 +2,5 @@
 #![tactic(auto)]
 
 mod short;
-#[cfg(test)]
-mod tests;
 
 pub use short::{Short, triggers};

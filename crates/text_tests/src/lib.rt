@@ -1,4 +1,4 @@
-//! Tests of lines and of streams of them.
+//! Tests of lines, of streams of them, and of the words of a process.
 #![tactic(auto)]
 
 #[cfg(test)]

@@ -1,5 +1,6 @@
 mod bad_frames;
 mod streams;
+mod words;
 
 use price_core::{Cause, Index, Leverage, Price, Tier, Unmatched};
 use session_core::{Close, Date, Day, Level, Moment, Phase, Profile};

@@ -5,8 +5,6 @@ mod bounds;
 mod leaving;
 mod queue;
 mod tally;
-#[cfg(test)]
-mod tests;
 mod window;
 
 pub use tally::live_mean;

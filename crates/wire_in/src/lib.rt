@@ -7,8 +7,6 @@ mod decoding;
 mod encoding;
 mod law;
 mod record;
-#[cfg(test)]
-mod tests;
 
 pub use cutter::{Cut, Cutter};
 pub use decoding::{blank, decode, decode_into};

@@ -6,8 +6,6 @@ mod decoding;
 mod encoding;
 mod law;
 mod message;
-#[cfg(test)]
-mod tests;
 
 pub use decoding::{BadFrame, get_frame};
 pub use encoding::put_frame;

@@ -8,8 +8,6 @@ mod number;
 mod options;
 mod plain;
 mod rows;
-#[cfg(test)]
-mod tests;
 
 pub use asked::{Asked, WordsError, parse};
 pub use command::Command;

@@ -1,0 +1,9 @@
+mod breaker;
+mod eligible;
+mod limit;
+mod pause;
+mod percent;
+mod refprice;
+mod reopen;
+mod short;
+mod window;

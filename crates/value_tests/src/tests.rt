@@ -1,0 +1,4 @@
+mod alarms;
+mod cases;
+mod price;
+mod session;

@@ -1,0 +1,2 @@
+mod wire_in;
+mod wire_out;
