@@ -1,4 +1,4 @@
-mod alarms;
+mod alarm;
 mod cases;
 mod price;
 mod session;

@@ -1,2 +1,2 @@
-mod wire_in;
-mod wire_out;
+mod published;
+mod records;
