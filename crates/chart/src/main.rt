@@ -1,29 +1,11 @@
 //! A picture of one symbol's day, drawn from published lines.
 #![tactic(auto)]
 
-mod axis;
-mod element;
-mod frame;
-mod label;
-mod law;
-mod picture;
-mod place;
-mod reading;
-mod room;
-mod run;
-mod shown;
-mod span;
-#[cfg(test)]
-mod tests;
-mod told;
-mod words;
-
 use host_core::Status;
-use run::chart;
+use picture_core::{chart, end};
 use std::env::{self, Env};
 use std::io::{self, BufReader};
 use std::process::ExitCode;
-use told::end;
 
 /// Does what the words of this process say, over the standard streams.
 fn chart_here<Rt: Env + Input + Print + AllocGlobal>(rt: &Rt) -> io::Result<Status> {

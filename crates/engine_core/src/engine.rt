@@ -110,6 +110,27 @@ impl Engine {
         self.admission.admit(x).unwrap();
     }
 
+    /// Goes on by one worker, where no record is evaluated ahead: from then on memory is taken at a Listing and a Trade alone.
+    /// After an error, which is want of memory, the engine is of no further use. One worker goes on as it is.
+    pub fn unite(&mut self, alloc: Global) -> Result<(), NoMemory>
+        ensures represents { (capacity : ℕ) (accepted evaluated : List Record) → Represents self.old capacity accepted evaluated → IsIdle self.old.evaluator
+            → OnOk result (Represents self.new capacity accepted evaluated) }
+        ensures idle { IsIdle self.old.evaluator → OnOk result (IsIdle self.new.evaluator) }
+        ensures workers { OnOk result (workers_of self.new.evaluator ≡ 1) }
+        ensures roomy { IsRoomy self.old → OnOk result (IsRoomy self.new) }
+        ensures rest { self.new ≡ record self.old { evaluator = self.new.evaluator; messages = self.new.messages } }
+        ensures alone { workers_of self.old.evaluator ≡ 1 → IsOk result }
+    {
+        if self.evaluator.is_alone() {
+            return Ok(());
+        }
+        self.evaluator.unite(alloc)?;
+        self.messages.clear();
+        self.messages
+            .reserve(most_messages_of(self.evaluator.names()))?;
+        Ok(())
+    }
+
     /// Evaluates the oldest of the accepted records that wait ahead, which are at most 65,536, by all workers: `evaluate` then
     /// takes one after the other. One worker evaluates nothing ahead. After an error the engine is of no further use.
     pub fn prepare<Rt: Threads + Sync, G: Gate>(

@@ -21,6 +21,7 @@ ghost use Rattle.engine_core.specs.Sessions.{with_acknowledgements};
 use crate::engine::Engine;
 use crate::round::Outcome;
 use host_core::{Fault, Host};
+use std::alloc::Global;
 use std::thread::Threads;
 use stream_core::Outbox;
 use wire_in::{Record, Refusal};
@@ -122,6 +123,37 @@ pub fn prepare<Rt: Threads + Sync, H: Host, G: Gate>(
     ensures unkept { result ≢ Err Fault.Disk }
 {
     match engine.prepare(rt, gate, xs) {
+        Ok(()) => Ok(()),
+        Err(_) => Err(give_up(outbox, host)),
+    }
+}
+
+/// Goes on by one worker. Where memory is short, what waits is sent before that is told.
+pub fn unite<H: Host>(
+    alloc: Global,
+    engine: &mut Engine,
+    outbox: &mut Outbox,
+    host: &mut H,
+) -> Result<(), Fault>
+    ensures represents { (capacity : ℕ) (accepted evaluated : List Record) → Represents engine.old capacity accepted evaluated → IsIdle engine.old.evaluator
+        → OnOk result (Represents engine.new capacity accepted evaluated) }
+    ensures idle { IsIdle engine.old.evaluator → OnOk result (IsIdle engine.new.evaluator) }
+    ensures workers { OnOk result (workers_of engine.new.evaluator ≡ 1) }
+    ensures alone { workers_of engine.old.evaluator ≡ 1 → result ≢ Err Fault.Memory }
+    ensures rest { engine.new ≡ record engine.old { evaluator = engine.new.evaluator; messages = engine.new.messages } }
+    ensures roomy { IsRoomy engine.old → OnOk result (IsRoomy engine.new) }
+    ensures pending { (begin : Option (List ℕ)) (text : List ℕ) → Expects begin (H.outside host.old).sent outbox.old text
+        → OnOk result (Expects begin (H.outside host.new).sent outbox.new text) }
+    ensures moments { (begin : Option (List ℕ)) (text : List ℕ) → Expects begin (H.outside host.old).sent outbox.old text
+        → Elapses (H.outside host.old) (H.outside host.new) (SendsPrefix begin text (H.outside host.old)) }
+    ensures sent { (begin : Option (List ℕ)) (text : List ℕ) → Expects begin (H.outside host.old).sent outbox.old text
+        → result ≡ Err Fault.Memory → (H.outside host.new).sent ≡ append_known begin text }
+    ensures keeps { OnlySends (H.outside host.old) (H.outside host.new) }
+    ensures causes { Causes result (H.outside host.old) (H.outside host.new) }
+    ensures unread { result ≢ Err Fault.Read }
+    ensures unkept { result ≢ Err Fault.Disk }
+{
+    match engine.unite(alloc) {
         Ok(()) => Ok(()),
         Err(_) => Err(give_up(outbox, host)),
     }

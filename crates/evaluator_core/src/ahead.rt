@@ -4,11 +4,12 @@ ghost use Rattle.wire_in.specs.declared.record.Record.{Record};
 ghost use Rattle.rulebook.specs.Admission.{most_names};
 ghost use Rattle.rulebook.specs.Book.{newest_messages};
 ghost use Rattle.market_core.specs.MarketState.{most_messages};
+ghost use Rattle.market_core.specs.MarketState as markets;
 ghost use Rattle.shard_core.specs.Block.{AreAdmissible};
 ghost use Rattle.evaluator_core.specs.AheadState.{RepresentsAhead};
 ghost use Rattle.evaluator_core.specs.Leading.{leading};
 
-use market_core::MOST_MESSAGES;
+use market_core::{MOST_MESSAGES, Market};
 use price_core::NoMemory;
 use shard_core::{Shards, Tagged};
 use std::alloc::Global;
@@ -97,6 +98,15 @@ impl Ahead {
         // For the proof: it has the invariant, that there are several parts.
         let _ = &self.shards;
         false
+    }
+
+    /// Makes one market of the parts, where no record is evaluated ahead. After it nothing is evaluated here.
+    pub(crate) fn unite(&mut self, alloc: Global) -> Result<Market, NoMemory>
+        ensures represents { (evaluated : List Record) → RepresentsAhead self.old evaluated → self.old.ahead ≡ []
+            → IfOk result (λ market. markets.Represents market evaluated) }
+        ensures several { 1 < length self.old.shards.parts }
+    {
+        self.shards.unite(alloc)
     }
 
     /// Evaluates a block of records ahead, when those of the block before were handed out. It fails where memory is wanting,

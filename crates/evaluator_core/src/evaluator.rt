@@ -62,6 +62,21 @@ impl Evaluator {
         }
     }
 
+    /// Goes on by one worker, where no record is evaluated ahead. An error is want of memory, and what is left then is of no
+    /// further use.
+    pub fn unite(&mut self, alloc: Global) -> Result<(), NoMemory>
+        ensures represents { (evaluated : List Record) → Represents self.old evaluated → IsIdle self.old → OnOk result (Represents self.new evaluated) }
+        ensures idle { OnOk result (IsIdle self.new) }
+        ensures alone { OnOk result (workers_of self.new ≡ 1) }
+        ensures unchanged { workers_of self.old ≡ 1 → IsOk result × (self.new ≡ self.old) }
+    {
+        if let Evaluator::Many(block) = self {
+            let market = block.unite(alloc)?;
+            *self = Evaluator::One(market);
+        }
+        Ok(())
+    }
+
     /// Evaluates a block of records ahead, by as many workers as there are, each of which passes the gate before it works:
     /// they are admissible one after the other, and each record of the block before was applied. One worker does
     /// nothing here. At most 65,536 records. An error is want of memory; of several workers each later block fails then.

@@ -1,21 +1,14 @@
 //! Trading halts of US equities over a live input and a journal.
 #![tactic(auto)]
 
-mod process;
-mod run;
-#[cfg(test)]
-mod tests;
-mod told;
-
+use command_core::{end, start};
 use host_core::{Held, Status};
-use process::start;
 use std::env::{self, Env};
 use std::io;
 use std::os::unix::fs::FileExt;
 use std::process::ExitCode;
 use std::rt::Files;
 use std::thread::Threads;
-use told::end;
 use yard_core::OpenGate;
 
 /// Does what the words of this process say, over the standard streams.

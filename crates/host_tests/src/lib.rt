@@ -1,4 +1,4 @@
-//! Tests of hosts: of real files, also where each call moves a few bytes, and of the host in memory.
+//! Tests of hosts, of real files, also where each call moves a few bytes, and in memory; and of the journal over them.
 #![tactic(auto)]
 
 mod short;

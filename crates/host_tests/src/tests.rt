@@ -1,3 +1,5 @@
+mod disks;
 mod host;
+mod journal;
 mod memory;
 mod short;

@@ -9,11 +9,13 @@ mod stopped;
 use host_core::Status;
 use journal_core::format;
 use live_core::{ServeOptions, serve};
-use memory_host::MemoryHost;
+use memory_host::{Call, MemoryHost};
 use price_core::{Cause, Unmatched};
 use replay_core::{ReplayOptions, replay};
+use sent::told;
 use session_core::Phase;
 use std::alloc::Global;
+use std::process::Abort;
 use std::test::Fail;
 use std::thread::Threads;
 use test_days::lines::{at, band, clock, collar, indication, release, state};
@@ -22,6 +24,54 @@ use yard_core::OpenGate;
 
 /// The most bytes that a session reads.
 const BYTES: u64 = 1_099_511_627_776;
+
+#[derive(Clone, Copy)]
+enum Command {
+    Serve,
+    Replay,
+}
+
+/// What befalls a host.
+#[derive(Clone, Copy)]
+enum Trouble {
+    Nothing,
+    /// The nth call of a kind fails.
+    Fails(Call, u64),
+    /// The first read, the first write and the first send fail.
+    FailsAtFirst,
+    /// Each call fails from the nth on.
+    Stops(u64),
+}
+
+/// How a command is run: its workers, the most frames of a batch, the most bytes of one read, of one send and of all reads, and
+/// the message from which on a session sends again; and what befalls its host.
+#[derive(Clone, Copy)]
+struct Way {
+    command: Command,
+    workers: u32,
+    batch: u32,
+    read: u32,
+    send: u32,
+    bytes: u64,
+    from: Option<u64>,
+    trouble: Trouble,
+}
+
+const SERVE: Way = Way {
+    command: Command::Serve,
+    workers: 1,
+    batch: 64,
+    read: u32::MAX,
+    send: u32::MAX,
+    bytes: BYTES,
+    from: None,
+    trouble: Trouble::Nothing,
+};
+
+const REPLAY: Way = Way {
+    command: Command::Replay,
+    ..SERVE
+};
 
 /// A day of ten records and ten messages: ABC is listed, opens, is paused, and opens again by an auction.
 fn reopened_day(alloc: Global) -> Result<Session, Fail> {
@@ -47,32 +97,79 @@ fn fresh(alloc: Global, limit: u64) -> Result<Vec<u8>, Fail> {
     Ok(host.disk().to_vec(alloc)?)
 }
 
-/// Serves by so many workers in batches of at most so many frames, and sends again from a message on where it is told one.
-fn serves<Rt: AllocGlobal + Threads + Sync>(
-    rt: &Rt,
-    host: &mut MemoryHost,
-    workers: u32,
-    batch: u32,
-    from: Option<u64>,
-) -> Status {
-    let options = ServeOptions {
-        from,
-        workers: workers.clamp(1, 64),
-        batch: batch.clamp(1, 64),
-        bytes: BYTES,
-    };
-    serve(rt, rt.alloc(), host, &OpenGate, &options)
+/// Runs a command over what is left of a host's input.
+fn run<Rt: AllocGlobal + Threads + Sync>(rt: &Rt, way: Way, host: &mut MemoryHost) -> Status {
+    let workers = way.workers.clamp(1, 64);
+    let bytes = way.bytes.min(BYTES);
+    match way.command {
+        Command::Serve => {
+            let options = ServeOptions {
+                from: way.from,
+                workers,
+                batch: way.batch.clamp(1, 64),
+                bytes,
+            };
+            serve(rt, rt.alloc(), host, &OpenGate, &options)
+        }
+        Command::Replay => {
+            let options = ReplayOptions { workers, bytes };
+            replay(rt, rt.alloc(), host, &OpenGate, &options)
+        }
+    }
 }
 
-/// Replays by so many workers.
-fn replays<Rt: AllocGlobal + Threads + Sync>(
+/// Asks a host to fail so.
+fn befall(host: &mut MemoryHost, trouble: Trouble) -> Result<(), Fail> {
+    match trouble {
+        Trouble::Nothing => {}
+        Trouble::Fails(call, nth) => host.fail(call, nth.max(1))?,
+        Trouble::FailsAtFirst => {
+            host.fail(Call::Read, 1)?;
+            host.fail(Call::Write, 1)?;
+            host.fail(Call::Send, 1)?;
+        }
+        Trouble::Stops(nth) => host.stop_at(nth.max(1)),
+    }
+    Ok(())
+}
+
+/// A host over an input and a disk, for a command that is run so.
+fn host_of(alloc: Global, way: Way, input: &[u8], disk: &[u8]) -> Result<MemoryHost, Fail> {
+    let mut host = MemoryHost::new(alloc, input, disk)?;
+    host.pieces(way.read.max(1), way.send.max(1));
+    befall(&mut host, way.trouble)?;
+    Ok(host)
+}
+
+/// The host after a command over an input and a disk, which ends as is wanted.
+fn ran<Rt: Abort + AllocGlobal + Threads + Sync>(
     rt: &Rt,
-    host: &mut MemoryHost,
-    workers: u32,
-) -> Status {
-    let options = ReplayOptions {
-        workers: workers.clamp(1, 64),
-        bytes: BYTES,
-    };
-    replay(rt, rt.alloc(), host, &OpenGate, &options)
+    way: Way,
+    input: &[u8],
+    disk: &[u8],
+    want: Status,
+) -> Result<MemoryHost, Fail> {
+    let mut host = host_of(rt.alloc(), way, input, disk)?;
+    assert!(rt; run(rt, way, &mut host) == want);
+    Ok(host)
+}
+
+/// A command over an input and a disk ends so, and has sent these bytes.
+fn expect<Rt: Abort + AllocGlobal + Threads + Sync>(
+    rt: &Rt,
+    way: Way,
+    input: &[u8],
+    disk: &[u8],
+    want: Status,
+    sent: &[u8],
+) -> Result<(), Fail> {
+    let host = ran(rt, way, input, disk, want)?;
+    assert!(rt; host.sent() == sent);
+    Ok(())
+}
+
+/// How many records a disk holds, as a session with no input tells.
+fn held_by<Rt: Abort + AllocGlobal + Threads + Sync>(rt: &Rt, disk: &[u8]) -> Result<u64, Fail> {
+    let host = ran(rt, SERVE, b"", disk, Status::Done)?;
+    Ok(told(host.sent()).held.ok_or("no greeting")?)
 }

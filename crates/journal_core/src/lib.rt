@@ -10,8 +10,6 @@ mod journal;
 mod law;
 mod scan;
 mod store;
-#[cfg(test)]
-mod tests;
 
 pub use batch::{BATCH_MAX, Batch};
 pub use error::{AppendError, FormatError, ScanError};

@@ -37,21 +37,21 @@ pub one_disk : {known : Option (List ℕ)} {a b : List ℕ} → known ≡ Some a
 one_disk first second = cc
 
 -- The stops of a start.
-module _ (workers : ℕ) (begin : Begin) {input : List ℕ} {old : Outside} (begins : Begins begin input old) where
-  pending_still : {mid : Outside} → Elapses old mid (Stays old) → Elapses old mid (IsSafeOrPending workers old begin [])
+module _ (begin : Begin) {input : List ℕ} {old : Outside} (begins : Begins begin input old) where
+  pending_still : {mid : Outside} → Elapses old mid (Stays old) → Elapses old mid (IsSafeOrPending old begin [])
   pending_still run =
-      widened run (IsSafeOrPending workers old begin []) (λ image bytes stays. inr (record { was = stays.was; unsent = stays.sent begin.sent begins.sent_known }))
+      widened run (IsSafeOrPending old begin []) (λ image bytes stays. inr (record { was = stays.was; unsent = stays.sent begin.sent begins.sent_known }))
 
   safe_opening : (from : Option ℕ) → begin.from ≡ from → {mid : Outside} → mid.disk ≡ old.disk → IsSettled mid → (image bytes : List ℕ)
-      → SendsPrefix (Some begin.sent) (again from begin.held) mid image bytes → IsSafeOrPending workers old begin [] image bytes
+      → SendsPrefix (Some begin.sent) (again from begin.held) mid image bytes → IsSafeOrPending old begin [] image bytes
   safe_opening from same {mid} disk settled image bytes stop =
-      inl (safe_sends _ (start_of workers begin) [] mid image bytes held (prefix_of_longer (again from begin.held) (spelling (hello begin.held)) _ whole image bytes stop.was stop))
+      inl (safe_sends _ (start_of begin) [] mid image bytes held (prefix_of_longer (again from begin.held) (spelling (hello begin.held)) _ whole image bytes stop.was stop))
     where
       held : Holds image begin.capacity begin.held
       held = subst (λ d. Holds d begin.capacity begin.held) (one_disk (disk ∙ begins.disk_known) (settled.only image stop.was)) begins.holds
 
-      whole : again from begin.held ++ spelling (hello begin.held) ≡ expected (start_of workers begin) []
-      whole = ap (λ f. again f begin.held ++ spelling (hello begin.held)) (sym same) ∙ sym (expected-none (start_of workers begin))
+      whole : again from begin.held ++ spelling (hello begin.held) ≡ expected (start_of begin) []
+      whole = ap (λ f. again f begin.held ++ spelling (hello begin.held)) (sym same) ∙ sym (expected-none (start_of begin))
 
 -- while the disk is only read, nothing of a text is sent
 none_sent : {old mid : Outside} → OnlyReadsDisk old mid → (text : List ℕ) → Elapses old mid (SendsPrefix old.sent text old)
@@ -64,7 +64,7 @@ reads_only reads = record { disk = reads.disk; moments = widened reads.moments _
 pub unbegun : (here : Type 0) (workers : ℕ) (from : Option ℕ) (status : Status) {old mid : Outside} → OnlyReadsDisk old mid → TellsNoJournal status
     → Hinders (λ at. ⊥) ((disk : List ℕ) → mid.disk ≡ Some disk → HasNoHeader disk) here status old mid → IsUnread here workers from status old mid
 unbegun here workers from status {old} {mid} reads tells why = record {
-  moments = λ begin input same begins. pending_still workers begin begins reads.moments;
+  moments = λ begin input same begins. pending_still begin begins reads.moments;
   nothing = λ begin input same begins. reads_only reads;
   damage_moments = λ capacity at before disk known damaged. none_sent reads (again from before);
   no_header = λ disk known none. (tells, reads.sent);
@@ -85,11 +85,11 @@ module _ (workers : ℕ) (from : Option ℕ) {old mid new : Outside} {recovery :
   abbrev started : {begin : Begin} {input : List ℕ} → (begins : Begins begin input old) → Recovers (again from) (Some begin.sent) begins.disk recovery mid
   started begins = begun_at _ begins.disk begins.sent_known begins.disk_known
 
-  start_moments : (begin : Begin) (input : List ℕ) → begin.from ≡ from → Begins begin input old → Elapses old new (IsSafeOrPending workers old begin [])
+  start_moments : (begin : Begin) (input : List ℕ) → begin.from ≡ from → Begins begin input old → Elapses old new (IsSafeOrPending old begin [])
   start_moments begin input same begins =
-      goes_on (pending_still workers begin begins reads.moments)
+      goes_on (pending_still begin begins reads.moments)
       (moments (Some begin.sent) begins.disk (started begins) begin.held (covers_held begins.holds))
-      (safe_opening workers begin begins from same reads.disk (started begins).rests.settled)
+      (safe_opening begin begins from same reads.disk (started begins).rests.settled)
 
   start_nothing : (begin : Begin) (input : List ℕ) → begin.from ≡ from → Begins begin input old → WritesNothing old new
   start_nothing begin input same begins =
@@ -115,7 +115,7 @@ module _ (workers : ℕ) (from : Option ℕ) {old mid new : Outside} {recovery :
 
   -- to its end
   module _ {after : Recovery} (all_read : (begin : Option (List ℕ)) (disk : List ℕ) → Recovers (again from) begin disk recovery mid → Recovers (opening from) begin disk after new)
-      (workers_are : workers_of after.engine.evaluator ≡ workers) (is_closed : IsTrue after.scan.is_closed)
+      (alone : workers_of after.engine.evaluator ≡ 1) (is_closed : IsTrue after.scan.is_closed)
       (serving : Serving) {round : RoundState} (unfilled : round.outcomes ≡ []) (finished : IsFinished after round serving) where
     module _ (begin : Begin) (input : List ℕ) (same : begin.from ≡ from) (begins : Begins begin input old) where
       abbrev done : Recovers (opening from) (Some begin.sent) begins.disk after new
@@ -136,12 +136,12 @@ module _ (workers : ℕ) (from : Option ℕ) {old mid new : Outside} {recovery :
         keeps = λ disk known. finished.keeps done.batches disk (subst (λ d. HasRead after.scan done.batches d) (one_disk done.rests.known known) done.read);
       }
 
-      session_reads : Reads (IsAtRest serving.keeper.journal) (start_of workers begin) input 0 serving.session new
+      session_reads : Reads (IsAtRest serving.keeper.journal) (start_of begin) input 0 serving.session new
       session_reads =
-          subst (λ b. Reads (IsAtRest serving.keeper.journal) (start_of workers b) input 0 serving.session new) read_is
-          (subst (λ s. Reads (IsAtRest serving.keeper.journal) (start_of workers read) input 0 s new) (sym finished.session)
-          (engine.begins (IsAtRest serving.keeper.journal) (start_of workers read) input _ new refl unfilled refl
-          done.admits.engine_is workers_are done.idle at_rest done.pending_is (keeps.input ∙ reads.input ∙ begins.input_known)))
+          subst (λ b. Reads (IsAtRest serving.keeper.journal) (start_of b) input 0 serving.session new) read_is
+          (subst (λ s. Reads (IsAtRest serving.keeper.journal) (start_of read) input 0 s new) (sym finished.session)
+          (engine.begins (IsAtRest serving.keeper.journal) (start_of read) input _ new refl unfilled refl
+          done.admits.engine_is alone done.idle at_rest done.pending_is (keeps.input ∙ reads.input ∙ begins.input_known)))
 
       capacity_is : serving.keeper.journal.capacity ≡ begin.capacity
       capacity_is = finished.capacity ∙ ap (λ b. b.capacity) read_is
@@ -151,7 +151,7 @@ module _ (workers : ℕ) (from : Option ℕ) {old mid new : Outside} {recovery :
         let done = all_read old.sent disk (begun_at old.sent disk refl known) in
         record { capacity = after.scan.capacity; held = records_of done.batches; holds = read_holds disk after.scan done.batches done.read is_closed; lawful = done.admits.lawful }
 
-    pub restored : IsReading after.scan after.engine 0 new.disk → NoFault mid new → IsRestored workers from serving old new
+    pub restored : IsReading after.scan after.engine 0 new.disk → NoFault mid new → IsRestored from serving old new
     restored reading more = record {
       moments = start_moments;
       nothing = start_nothing;

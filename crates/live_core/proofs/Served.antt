@@ -47,33 +47,33 @@ use Rattle.live_core.proofs.Restoring.{one_disk, unbegun}
 -- The stops.
 
 -- what is allowed before the first frame is allowed for any
-first_stops : (workers : ℕ) (start : Outside) (begin : Begin) (bodies : List (List ℕ)) (image bytes : List ℕ) → IsSafeOrPending workers start begin [] image bytes → IsSafeOrPending workers start begin bodies image bytes
-first_stops workers start begin bodies image bytes = ⊎_elim (λ safe. inl (safe_more _ (start_of workers begin) [] bodies image bytes safe)) (λ pending. inr pending)
+first_stops : (start : Outside) (begin : Begin) (bodies : List (List ℕ)) (image bytes : List ℕ) → IsSafeOrPending start begin [] image bytes → IsSafeOrPending start begin bodies image bytes
+first_stops start begin bodies image bytes = ⊎_elim (λ safe. inl (safe_more _ (start_of begin) [] bodies image bytes safe)) (λ pending. inr pending)
 
 -- where nothing was pending, each stop is safe
-settle : {begin : Begin} {input : List ℕ} (workers : ℕ) (start : Outside) → Begins begin input start → IsSettled start → (bodies : List (List ℕ)) (image bytes : List ℕ)
-    → IsSafeOrPending workers start begin bodies image bytes → IsSafe workers begin bodies image bytes
-settle workers start begins settled bodies image bytes (inl safe) = safe
-settle {begin} workers start begins settled bodies image bytes (inr pending) =
-    safe_of _ (start_of workers begin) [] bodies image bytes [] (expected (start_of workers begin) [])
+settle : {begin : Begin} {input : List ℕ} (start : Outside) → Begins begin input start → IsSettled start → (bodies : List (List ℕ)) (image bytes : List ℕ)
+    → IsSafeOrPending start begin bodies image bytes → IsSafe begin bodies image bytes
+settle start begins settled bodies image bytes (inl safe) = safe
+settle {begin} start begins settled bodies image bytes (inr pending) =
+    safe_of _ (start_of begin) [] bodies image bytes [] (expected (start_of begin) [])
     (subst (λ i. Holds i begin.capacity begin.held) (one_disk begins.disk_known (settled.only image pending.was)) begins.holds)
     (λ content is. pending.unsent ∙ sym (append-nil begin.sent) ∙ one_disk refl is) refl
 
 -- what was sent at a stop
-part_of : (workers : ℕ) (start : Outside) (begin : Begin) (bodies : List (List ℕ)) (image bytes : List ℕ) → IsSafeOrPending workers start begin bodies image bytes
-    → SentPrefix (Some begin.sent) (Some bytes) (expected (start_of workers begin) bodies)
-part_of workers start begin bodies image bytes (inl safe) =
+part_of : (start : Outside) (begin : Begin) (bodies : List (List ℕ)) (image bytes : List ℕ) → IsSafeOrPending start begin bodies image bytes
+    → SentPrefix (Some begin.sent) (Some bytes) (expected (start_of begin) bodies)
+part_of start begin bodies image bytes (inl safe) =
     let first = take safe.count bodies in
-    let more = added (start_of workers begin) first (drop safe.count bodies) in
+    let more = added (start_of begin) first (drop safe.count bodies) in
     record {
       since = safe.since;
       unsent = safe.unsent ++ more;
       sent = ap (λ b. Some b) (safe.sent (begin.sent ++ safe.since) refl);
       prefix = sym (append_assoc safe.since safe.unsent more) ∙ ap (λ b. b ++ more) safe.prefix
-          ∙ sym (expected-more (start_of workers begin) first (drop safe.count bodies)) ∙ ap (expected (start_of workers begin)) (take-append-drop safe.count bodies);
+          ∙ sym (expected-more (start_of begin) first (drop safe.count bodies)) ∙ ap (expected (start_of begin)) (take-append-drop safe.count bodies);
     }
-part_of workers start begin bodies image bytes (inr pending) =
-    record { since = []; unsent = expected (start_of workers begin) bodies; sent = ap (λ b. Some b) (pending.unsent ∙ sym (append-nil begin.sent)); prefix = refl }
+part_of start begin bodies image bytes (inr pending) =
+    record { since = []; unsent = expected (start_of begin) bodies; sent = ap (λ b. Some b) (pending.unsent ∙ sym (append-nil begin.sent)); prefix = refl }
 
 -- The answers.
 
@@ -100,11 +100,11 @@ module _ (here : Type 0) (workers : ℕ) (from : Option ℕ) (most : ℕ) (statu
       ends_by : {stops : List ℕ → List ℕ → Type 0} → Elapses old new stops → Ends stops new
       ends_by run = returned run continues sent_now read_passes begins.disk begin.sent begins.disk_known begins.sent_known
 
-      ends : Ends (IsSafeOrPending workers old begin (bodies_of (take most input))) new
+      ends : Ends (IsSafeOrPending old begin (bodies_of (take most input))) new
       ends = ends_by (serves begin input same begins).moments
 
-      part : SentPrefix old.sent new.sent (expected (start_of workers begin) (bodies_of (take most input)))
-      part = rw (begins.sent_known, ends.sent_known) (part_of workers old begin (bodies_of (take most input)) ends.image ends.bytes ends.left)
+      part : SentPrefix old.sent new.sent (expected (start_of begin) (bodies_of (take most input)))
+      part = rw (begins.sent_known, ends.sent_known) (part_of old begin (bodies_of (take most input)) ends.image ends.bytes ends.left)
 
     headless : (disk : List ℕ) → old.disk ≡ Some disk → HasNoHeader disk → IsUnread here workers from status old new
     headless disk known none = unsound disk known (λ sound. readable.header disk sound.capacity sound.held sound.holds none)
@@ -136,7 +136,7 @@ module _ (here : Type 0) (workers : ℕ) (from : Option ℕ) (most : ℕ) (statu
     pub served : Extends old new → ReadsAtMost most old.input new.input → Served here workers from most status old new
     served extends bytes = record {
       moments = λ begin input same begins. (serves begin input same begins).moments;
-      settled = λ begin input same begins settled. widened (serves begin input same begins).moments _ (settle workers old begins settled (bodies_of (take most input)));
+      settled = λ begin input same begins settled. widened (serves begin input same begins).moments _ (settle old begins settled (bodies_of (take most input)));
       at_return = ends;
       exact = λ begin input same begins. (serves begin input same begins).exact;
       unread = λ begin input same begins. (serves begin input same begins).unread;
@@ -185,10 +185,10 @@ module _ (here : Type 0) (workers : ℕ) (from : Option ℕ) (most : ℕ) (statu
   pub unread_served : IsUnread here workers from status old new → Served here workers from most status old new
   unread_served u =
       served (λ begin input same begins. record {
-        moments = widened (u.moments begin input same begins) _ (first_stops workers old begin (bodies_of (take most input)));
+        moments = widened (u.moments begin input same begins) _ (first_stops old begin (bodies_of (take most input)));
         exact = λ end. absurd (grind (arith, u.hinders));
         unread = λ is. absurd (why_at _ _ _ old new ReadFault is u.hinders);
-        prompt = no_ask (start_of workers begin) input u.keeps.asks;
+        prompt = no_ask (start_of begin) input u.keeps.asks;
         starved = λ is. ⊎_elim (λ now. inl now) (λ hungry. inr (inl (hungry begins.disk begins.disk_known begin.held (covers_held begins.holds))))
             (why_at _ _ _ old new NoMemory is u.hinders).1;
         unwritten = λ none. u.nothing begin input same begins;
@@ -198,19 +198,19 @@ module _ (here : Type 0) (workers : ℕ) (from : Option ℕ) (most : ℕ) (statu
       (takes_none most old.input new.input u.keeps.input)
 
   -- A session that answered.
-  module _ {mid : Outside} (serving : Serving) (journal : JournalState) (r : IsRestored workers from serving old mid)
+  module _ {mid : Outside} (serving : Serving) (journal : JournalState) (r : IsRestored from serving old mid)
       (a : IsAnswered most serving.keeper.journal journal serving.session status mid new) where
     module _ (begin : Begin) (input : List ℕ) (same : begin.from ≡ from) (begins : Begins begin input old) where
-      reads : Reads (IsAtRest serving.keeper.journal) (start_of workers begin) input 0 serving.session mid
+      reads : Reads (IsAtRest serving.keeper.journal) (start_of begin) input 0 serving.session mid
       reads = r.reads begin input same begins
 
       whole : BeginsBytes (take most input) (take most input)
       whole = record { more = []; whole = append-nil (take most input) }
 
-      run : Elapses mid new (IsSafe workers begin (bodies_of (take most input)))
+      run : Elapses mid new (IsSafe begin (bodies_of (take most input)))
       run =
-          widened (a.grows (start_of workers begin) input refl reads) _
-          (safe_further _ (start_of workers begin) whole (λ records image. Holds image begin.capacity records)
+          widened (a.grows (start_of begin) input refl reads) _
+          (safe_further _ (start_of begin) whole (λ records image. Holds image begin.capacity records)
           (λ records image k. subst (λ c. Holds image c records) (r.capacity begin input same begins) (record { gate = k.recovered.grown.next; held = k.recovered.grown.holds })))
 
       -- the last stop shows what capacity the journal has
@@ -223,8 +223,8 @@ module _ (here : Type 0) (workers : ℕ) (from : Option ℕ) (most : ℕ) (statu
       }
 
       -- what grew from an image of the restored session grew from one of the start
-      has_grown : {image bytes : List ℕ} → Leaves (λ records pending image. Regains serving.keeper.journal mid records pending image) (start_of workers begin) (bodies_of (take most input)) image bytes
-          → HasGrown workers begin (bodies_of (take most input)) old image
+      has_grown : {image bytes : List ℕ} → Leaves (λ records pending image. Regains serving.keeper.journal mid records pending image) (start_of begin) (bodies_of (take most input)) image bytes
+          → HasGrown begin (bodies_of (take most input)) old image
       has_grown {image} safe =
           let k = safe.recovered in
           let g = k.recovered in
@@ -235,26 +235,26 @@ module _ (here : Type 0) (workers : ℕ) (from : Option ℕ) (most : ℕ) (statu
             held = subst (λ c. HoldsTo c serving.keeper.journal.gate begin.held g.before) (r.capacity begin input same begins) ((held_all reads r.empty).keeps g.before ((held_all reads r.empty).settled.only g.before g.was)).held;
             count = safe.count;
             within = safe.within;
-            grown = keeping_further whole k (subst (λ c. IsGrown c serving.keeper.journal.gate (engine.held_after (start_of workers begin) (take safe.count (bodies_of (take most input)))) k.pending g.before image)
+            grown = keeping_further whole k (subst (λ c. IsGrown c serving.keeper.journal.gate (engine.held_after (start_of begin) (take safe.count (bodies_of (take most input)))) k.pending g.before image)
                 (r.capacity begin input same begins) g.grown);
           }
 
-      all_answered : (count : ℕ) → engine.Answered (IsAtRest journal) (start_of workers begin) input count new → Answered workers begin input count new
+      all_answered : (count : ℕ) → engine.Answered (IsAtRest journal) (start_of begin) input count new → Answered begin input count new
       all_answered count answered = record { input_left = answered.input_left; there = answered.there; sent = answered.sent; held = kept answered.held }
 
       serves : Serves here workers from begin input most status old new
       serves = record {
-        moments = goes_on (widened (r.moments begin input same begins) (IsSafeOrPending workers old begin (bodies_of (take most input))) (first_stops workers old begin (bodies_of (take most input)))) run (λ image bytes safe. inl safe);
+        moments = goes_on (widened (r.moments begin input same begins) (IsSafeOrPending old begin (bodies_of (take most input))) (first_stops old begin (bodies_of (take most input)))) run (λ image bytes safe. inl safe);
         exact = λ end.
-            let all = a.exact (start_of workers begin) input refl reads end in
+            let all = a.exact (start_of begin) input refl reads end in
             (all.0, all_answered (min most (length input)) all.1);
         unread = λ is.
-            let all = a.unread (start_of workers begin) input refl reads is in
+            let all = a.unread (start_of begin) input refl reads is in
             (all.0, all.1, all_answered all.0 all.2);
-        prompt = more_asks (start_of workers begin) input (no_ask (start_of workers begin) input r.keeps.asks) (a.prompt (start_of workers begin) input refl reads);
-        starved = λ is. inr (inr (a.starved (start_of workers begin) input refl reads is));
-        unwritten = λ none. still_nothing (r.nothing begin input same begins) (a.nothing (start_of workers begin) input refl reads none);
-        stops = goes_on (widened (r.nothing begin input same begins).moments _ (λ image bytes left. inl left)) (a.grows (start_of workers begin) input refl reads) (λ image bytes safe. inr (has_grown safe));
+        prompt = more_asks (start_of begin) input (no_ask (start_of begin) input r.keeps.asks) (a.prompt (start_of begin) input refl reads);
+        starved = λ is. inr (inr (a.starved (start_of begin) input refl reads is));
+        unwritten = λ none. still_nothing (r.nothing begin input same begins) (a.nothing (start_of begin) input refl reads none);
+        stops = goes_on (widened (r.nothing begin input same begins).moments _ (λ image bytes left. inl left)) (a.grows (start_of begin) input refl reads) (λ image bytes safe. inr (has_grown safe));
       }
 
     pub answered_served : Served here workers from most status old new

@@ -15,8 +15,8 @@ pub record IsKept (capacity : ℕ) (records : List Record) (now : Outside) : Typ
 
 -- So many bytes of the input were read, all that is expected for them was sent, and the disk holds the records that they
 -- gave.
-abbrev pub Answered : ℕ → Begin → List ℕ → ℕ → Outside → Type 0
-Answered workers begin = engine.Answered (IsKept begin.capacity) (start_of workers begin)
+abbrev pub Answered : Begin → List ℕ → ℕ → Outside → Type 0
+Answered begin = engine.Answered (IsKept begin.capacity) (start_of begin)
 
 -- the answers of a session
 pub record IsAnswer (status : Status) : Type 0 where

@@ -55,10 +55,10 @@ pub record IsSound (disk : List ℕ) : Type 0 where
   pub lawful : IsLawful capacity held
 
 -- a session may begin
-pub record IsRestored (workers : ℕ) (from : Option ℕ) (serving : Serving) (old new : Outside) : Type 0 where
-  pub moments : (begin : Begin) (input : List ℕ) → begin.from ≡ from → Begins begin input old → Elapses old new (IsSafeOrPending workers old begin [])
+pub record IsRestored (from : Option ℕ) (serving : Serving) (old new : Outside) : Type 0 where
+  pub moments : (begin : Begin) (input : List ℕ) → begin.from ≡ from → Begins begin input old → Elapses old new (IsSafeOrPending old begin [])
   pub reads : (begin : Begin) (input : List ℕ) → begin.from ≡ from → Begins begin input old
-      → Reads (λ records now. IsAtRest serving.keeper.journal records now) (start_of workers begin) input 0 serving.session new
+      → Reads (λ records now. IsAtRest serving.keeper.journal records now) (start_of begin) input 0 serving.session new
   pub nothing : (begin : Begin) (input : List ℕ) → begin.from ≡ from → Begins begin input old → WritesNothing old new
   pub capacity : (begin : Begin) (input : List ℕ) → begin.from ≡ from → Begins begin input old → serving.keeper.journal.capacity ≡ begin.capacity
   pub sound : (disk : List ℕ) → old.disk ≡ Some disk → IsSound disk
@@ -70,7 +70,7 @@ pub record IsRestored (workers : ℕ) (from : Option ℕ) (serving : Serving) (o
 
 -- no session begins, for this reason
 pub record IsUnread (unbegun : Type 0) (workers : ℕ) (from : Option ℕ) (status : Status) (old new : Outside) : Type 0 where
-  pub moments : (begin : Begin) (input : List ℕ) → begin.from ≡ from → Begins begin input old → Elapses old new (IsSafeOrPending workers old begin [])
+  pub moments : (begin : Begin) (input : List ℕ) → begin.from ≡ from → Begins begin input old → Elapses old new (IsSafeOrPending old begin [])
   pub nothing : (begin : Begin) (input : List ℕ) → begin.from ≡ from → Begins begin input old → WritesNothing old new
   pub damage_moments : (capacity at : ℕ) (before : List Record) (disk : List ℕ) → old.disk ≡ Some disk → IsDamagedAt capacity at before disk
       → Elapses old new (SendsPrefix old.sent (again from before) old)
@@ -84,13 +84,13 @@ pub record IsUnread (unbegun : Type 0) (workers : ℕ) (from : Option ℕ) (stat
 
 -- what a session did that began so, up to so many bytes of this input
 pub record Serves (unbegun : Type 0) (workers : ℕ) (from : Option ℕ) (begin : Begin) (input : List ℕ) (most : ℕ) (status : Status) (old new : Outside) : Type 0 where
-  pub moments : Elapses old new (IsSafeOrPending workers old begin (bodies_of (take most input)))
-  pub exact : IsEnd status → (status ≡ end_of most input) × ends.Answered workers begin input (min most (length input)) new
-  pub unread : status ≡ ReadFault → (count : ℕ) × (count < most) × ends.Answered workers begin input count new
-  pub prompt : Prompt (start_of workers begin) input old.asks new.asks
-  pub starved : status ≡ NoMemory → unbegun ⊎ StarvedAtRecord workers from begin.held old.sent new.sent ⊎ Starved (start_of workers begin) (bodies_of (take most input)) new
-  pub unwritten : AcceptsNone (start_of workers begin) (bodies_of (take most input)) → WritesNothing old new
-  pub stops : Elapses old new (λ image bytes. MayLeave old image ⊎ HasGrown workers begin (bodies_of (take most input)) old image)
+  pub moments : Elapses old new (IsSafeOrPending old begin (bodies_of (take most input)))
+  pub exact : IsEnd status → (status ≡ end_of most input) × ends.Answered begin input (min most (length input)) new
+  pub unread : status ≡ ReadFault → (count : ℕ) × (count < most) × ends.Answered begin input count new
+  pub prompt : Prompt (start_of begin) input old.asks new.asks
+  pub starved : status ≡ NoMemory → unbegun ⊎ StarvedAtRecord workers from begin.held old.sent new.sent ⊎ Starved (start_of begin) (bodies_of (take most input)) new
+  pub unwritten : AcceptsNone (start_of begin) (bodies_of (take most input)) → WritesNothing old new
+  pub stops : Elapses old new (λ image bytes. MayLeave old image ⊎ HasGrown begin (bodies_of (take most input)) old image)
 
 -- the input was answered, up to so many bytes
 pub record IsAnswered (most : ℕ) (before after : JournalState) (session : Session) (status : Status) (old new : Outside) : Type 0 where

@@ -26,11 +26,11 @@ pub record Begins (begin : Begin) (input : List ℕ) (now : Outside) : Type 0 wh
   pub holds : Holds disk begin.capacity begin.held
   pub lawful : IsLawful begin.capacity begin.held
 
--- By so many workers: accepted records are acknowledged, and before the first frame is answered the messages that are asked for again are sent, and
--- then how many records and messages there are.
-abbrev pub start_of : ℕ → Begin → Start
-start_of workers begin = record {
-  workers = workers;
+-- By one worker: accepted records are acknowledged, and before the first frame is answered the messages that are asked for
+-- again are sent, and then how many records and messages there are.
+abbrev pub start_of : Begin → Start
+start_of begin = record {
+  workers = 1;
   capacity = begin.capacity;
   held = begin.held;
   acknowledges = true;
@@ -40,13 +40,13 @@ start_of workers begin = record {
 
 -- For some number of the first frames, the image holds the records from before and those that these frames gave, and
 -- what was sent since the begin is a prefix of all that is expected for them.
-abbrev pub IsSafe : ℕ → Begin → List (List ℕ) → List ℕ → List ℕ → Type 0
-IsSafe workers begin = engine.IsSafe (λ records image. Holds image begin.capacity records) (start_of workers begin)
+abbrev pub IsSafe : Begin → List (List ℕ) → List ℕ → List ℕ → Type 0
+IsSafe begin = engine.IsSafe (λ records image. Holds image begin.capacity records) (start_of begin)
 
 -- nothing was sent since the begin, and a stop there might have left the image
 pub record IsPending (start : Outside) (begin : Begin) (image bytes : List ℕ) : Type 0 where
   pub was : MayLeave start image
   pub unsent : bytes ≡ begin.sent
 
-abbrev pub IsSafeOrPending : ℕ → Outside → Begin → List (List ℕ) → List ℕ → List ℕ → Type 0
-IsSafeOrPending workers start begin bodies image bytes = IsSafe workers begin bodies image bytes ⊎ IsPending start begin image bytes
+abbrev pub IsSafeOrPending : Outside → Begin → List (List ℕ) → List ℕ → List ℕ → Type 0
+IsSafeOrPending start begin bodies image bytes = IsSafe begin bodies image bytes ⊎ IsPending start begin image bytes

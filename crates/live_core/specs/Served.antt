@@ -23,23 +23,23 @@ use Rattle.live_core.specs.Ends.{Answered, IsAnswer, IsUnserved, IsLeftAlone}
 pub record Served (unbegun : Type 0) (workers : ℕ) (from : Option ℕ) (most : ℕ) (status : Status) (old new : Outside) : Type 0 where
   -- Whenever the run is stopped, the image holds the records from before and those of some of the first frames, and a
   -- prefix of what is expected for them was sent. Or nothing was sent, and a stop at the start might have left the image.
-  pub moments : (begin : Begin) (input : List ℕ) → begin.from ≡ from → Begins begin input old → Elapses old new (IsSafeOrPending workers old begin (bodies_of (take most input)))
+  pub moments : (begin : Begin) (input : List ℕ) → begin.from ≡ from → Begins begin input old → Elapses old new (IsSafeOrPending old begin (bodies_of (take most input)))
   -- where nothing is pending at the start, it is always the first
-  pub settled : (begin : Begin) (input : List ℕ) → begin.from ≡ from → Begins begin input old → IsSettled old → Elapses old new (IsSafe workers begin (bodies_of (take most input)))
+  pub settled : (begin : Begin) (input : List ℕ) → begin.from ≡ from → Begins begin input old → IsSettled old → Elapses old new (IsSafe begin (bodies_of (take most input)))
   -- a run that returned is one that was stopped at its end
-  pub at_return : (begin : Begin) (input : List ℕ) → begin.from ≡ from → Begins begin input old → Ends (IsSafeOrPending workers old begin (bodies_of (take most input))) new
+  pub at_return : (begin : Begin) (input : List ℕ) → begin.from ≡ from → Begins begin input old → Ends (IsSafeOrPending old begin (bodies_of (take most input))) new
   -- where the end was read, all was answered and kept, and the status is that of the end
-  pub exact : (begin : Begin) (input : List ℕ) → begin.from ≡ from → Begins begin input old → IsEnd status → (status ≡ end_of most input) × Answered workers begin input (min most (length input)) new
+  pub exact : (begin : Begin) (input : List ℕ) → begin.from ≡ from → Begins begin input old → IsEnd status → (status ≡ end_of most input) × Answered begin input (min most (length input)) new
   -- where a read failed, all that was read before it was answered and kept
-  pub unread : (begin : Begin) (input : List ℕ) → begin.from ≡ from → Begins begin input old → status ≡ ReadFault → (count : ℕ) × (count < most) × Answered workers begin input count new
+  pub unread : (begin : Begin) (input : List ℕ) → begin.from ≡ from → Begins begin input old → status ≡ ReadFault → (count : ℕ) × (count < most) × Answered begin input count new
   -- what was sent is a prefix of what is expected in any case
-  pub part : (begin : Begin) (input : List ℕ) → begin.from ≡ from → Begins begin input old → SentPrefix old.sent new.sent (expected (start_of workers begin) (bodies_of (take most input)))
+  pub part : (begin : Begin) (input : List ℕ) → begin.from ≡ from → Begins begin input old → SentPrefix old.sent new.sent (expected (start_of begin) (bodies_of (take most input)))
   -- whenever the input was read, all that is expected for the whole frames read before had been sent
-  pub prompt : (begin : Begin) (input : List ℕ) → begin.from ≡ from → Begins begin input old → Prompt (start_of workers begin) input old.asks new.asks
+  pub prompt : (begin : Begin) (input : List ℕ) → begin.from ≡ from → Begins begin input old → Prompt (start_of begin) input old.asks new.asks
   -- memory is short only before the first call of the host, at a Listing or a Trade of the journal, or at one of the input,
   -- with all sent that is expected before it
   pub starved : (begin : Begin) (input : List ℕ) → begin.from ≡ from → Begins begin input old → status ≡ NoMemory
-      → unbegun ⊎ StarvedAtRecord workers from begin.held old.sent new.sent ⊎ Starved (start_of workers begin) (bodies_of (take most input)) new
+      → unbegun ⊎ StarvedAtRecord workers from begin.held old.sent new.sent ⊎ Starved (start_of begin) (bodies_of (take most input)) new
   -- where no header stands it is told, unless the disk fails or memory is short, and nothing is read, sent or written
   pub no_journal : status ≡ NoJournal → (disk : List ℕ) → old.disk ≡ Some disk → HasNoHeader disk
   pub no_header : (disk : List ℕ) → old.disk ≡ Some disk → HasNoHeader disk → TellsNoJournal status
@@ -68,7 +68,7 @@ pub record Served (unbegun : Type 0) (workers : ℕ) (from : Option ℕ) (most :
   pub untouched : IsUnserved status → new.disk ≡ old.disk
   pub input_is_left : IsUnserved status → new.input ≡ old.input
   -- what is written to the journal's file
-  pub written : Written workers from most old new
+  pub written : Written from most old new
   -- no more bytes than asked for are read, whatever the answer
   pub bytes : ReadsAtMost most old.input new.input
   -- with enough memory and no faults, the input is read to its end or to the most bytes

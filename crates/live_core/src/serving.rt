@@ -25,7 +25,8 @@ const BYTES_MAX: u64 = 1_099_511_627_776;
 pub struct ServeOptions {
     /// The number from which on the messages of the journal are sent again; none without it.
     pub from: Option<u64>,
-    /// By how many workers records are evaluated, from 1 to 64.
+    /// By how many workers the records of the journal are evaluated at its start, from 1 to 64. Those of the session are
+    /// evaluated by one: a batch is sooner done than a thread begins.
     pub workers: u32,
     /// The most frames of a batch, from 1 to 64: its accepted records are appended by one append, before any answer to one of
     /// its frames is sent.
@@ -101,8 +102,8 @@ fn serve_in<Rt: Threads + Sync, H: Host, G: Gate>(
 /// Reads a journal and evaluates its records, sends the messages that are asked for again, and tells how many records and
 /// messages there are. Then it answers the frames of the input, up to its end or up to so many bytes, in batches of at most so
 /// many frames. A batch is closed when it is full and before each further read. Its accepted records are in the journal, by
-/// one append, before any answer to one of its frames is sent. Several workers evaluate the records of a batch ahead, each of
-/// which passes the gate before it works.
+/// one append, before any answer to one of its frames is sent. Several workers evaluate the records of the journal, each of which
+/// passes the gate before it works, and one those of the input.
 pub fn serve<Rt: Threads + Sync, H: Host, G: Gate>(
     rt: &Rt,
     alloc: Global,

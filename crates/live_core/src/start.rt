@@ -47,7 +47,7 @@ pub struct Restoring {
 }
 
 /// Evaluates the records of a journal, by so many workers, from 1 to 64, and appends what a session sends before its first
-/// frame is answered.
+/// frame is answered. One worker goes on from there.
 pub fn restore<Rt: Threads + Sync, H: Host, G: Gate>(
     rt: &Rt,
     alloc: Global,
@@ -59,7 +59,7 @@ pub fn restore<Rt: Threads + Sync, H: Host, G: Gate>(
 ) -> Result<Serving, Status>
     requires workers { (1 ≤ workers) × (workers ≤ 64) }
     requires room { IsRoom room }
-    ensures restored { IfOk result (λ serving. IsRestored workers from serving (H.outside host.old) (H.outside host.new)) }
+    ensures restored { IfOk result (λ serving. IsRestored from serving (H.outside host.old) (H.outside host.new)) }
     ensures unread { IfErr result (λ status. IsUnread (host.new ≡ host.old) workers from status (H.outside host.old) (H.outside host.new)) }
 {
     let Restoring {
@@ -69,6 +69,6 @@ pub fn restore<Rt: Threads + Sync, H: Host, G: Gate>(
         round,
     } = room;
     let mut recovery = Recovery::begin(alloc, host, workers, outbox, waiting)?;
-    recovery.recover(rt, host, gate, from, &mut batch)?;
+    recovery.recover(rt, alloc, host, gate, from, &mut batch)?;
     Ok(finish(recovery, round, batch))
 }

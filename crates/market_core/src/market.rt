@@ -1,4 +1,4 @@
-ghost use Rattle.std.specs.Prelude.{◌≡◌, ◌+◌, ◌*◌, ◌<◌, ◌≤◌, ◌++◌, ◌∷◌, ℕ, [], true, false, List, None, OnOk, OnErr, IfOk, IsOk, IsSome, IsSomeAnd, vec_len, vec_capacity, position, option_map, length};
+ghost use Rattle.std.specs.Prelude.{◌≡◌, ◌+◌, ◌*◌, ◌<◌, ◌≤◌, ◌++◌, ◌∷◌, ℕ, [], true, false, List, None, OnOk, OnErr, IfOk, IsOk, IsSome, IsSomeAnd, IfSome, IsNone, ◌≢◌, ◌↔◌, vec_len, vec_capacity, position, option_map, length};
 ghost use Rattle.std.specs.Str.{bytes_eq};
 ghost use Rattle.wire_in.specs.declared.record.Record.{Record};
 ghost use Rattle.wire_in.specs.Records.{moment_of, name_of, is_day, is_tick};
@@ -67,6 +67,21 @@ impl Market {
             alloc,
             lead: Lead::new(alloc)?,
             section: Section::new(alloc)?,
+        })
+    }
+
+    /// The market of these names and this day with these stocks; none where there aren't as many of them as names.
+    pub fn of(alloc: Global, lead: Lead, section: Section) -> Option<Market>
+        ensures some { IfSome result (λ market. market ≡ record { directory = lead.directory; today = lead.today; symbols = section.symbols }) }
+        ensures none { IsNone result ↔ (length section.symbols ≢ length lead.directory) }
+    {
+        if section.len() != lead.names() as usize {
+            return None;
+        }
+        Some(Market {
+            alloc,
+            lead,
+            section,
         })
     }
 

@@ -32,10 +32,10 @@ use Rattle.stream_core.specs.Pending.{Expects, SendsPrefix}
 use Rattle.stream_core.proofs.Pending.{expects_still}
 use Rattle.stream_core.proofs.Sending.{waits, sends_on, sends_longer}
 use Rattle.engine_core.specs.declared.engine.Engine.{Engine}
-use Rattle.engine_core.specs.EngineState.{Represents}
+use Rattle.engine_core.specs.EngineState.{Represents, IsRoomy}
 use Rattle.recovery_core.specs.Waiting.{WaitingState}
 use Rattle.recovery_core.specs.declared.recovery.Recovery.{Recovery}
-use Rattle.recovery_core.specs.Recoveries.{again, opening, Admits, Refuses, Resumes, IsPart, Covers, SendsAgain, StarvesAgain, Rests, Recovers, Gathers, OnlyRecovers, Hinders}
+use Rattle.recovery_core.specs.Recoveries.{again, opening, Admits, Refuses, Resumes, IsPart, Covers, SendsAgain, StarvesAgain, IsReading, IsSmall, Rests, Recovers, Gathers, OnlyRecovers, Hinders}
 use Rattle.recovery_core.specs.Damage.{IsDamagedAt}
 use Rattle.recovery_core.specs.Ends.{TellsNoJournal}
 use Rattle.recovery_core.specs.Starved.{TakesFirst, StarvedAtRecord}
@@ -129,6 +129,21 @@ module _ (from : Option ℕ) {begin : Option (List ℕ)} {disk : List ℕ} {reco
   sends_greeting run all covers =
       sends_part from (covers _ _ _ _ _ r.read.leads (record { more = []; whole = refl }) r.admits.lawful) (run begin (again from (records_of r.batches)) r.pending_is)
 
+  -- it goes on by one worker
+  pub alone : OnlySends old new → (engine : Engine) (outbox : List ℕ)
+      → ((capacity : ℕ) (accepted evaluated : List Record) → Represents recovery.engine capacity accepted evaluated → IsIdle recovery.engine.evaluator → Represents engine capacity accepted evaluated)
+      → (IsIdle recovery.engine.evaluator → IsIdle engine.evaluator)
+      → ((begin : Option (List ℕ)) (text : List ℕ) → Expects begin old.sent recovery.outbox text → Expects begin new.sent outbox text)
+      → Recovers (again from) begin disk (record recovery { engine = engine; outbox = outbox }) new
+  alone sends engine outbox represents idle expects = record {
+    rests = sends_rests sends r.rests;
+    batches = r.batches;
+    read = r.read;
+    admits = record { engine_is = represents _ _ _ r.admits.engine_is r.idle; lawful = r.admits.lawful };
+    idle = idle r.idle;
+    pending_is = expects begin _ r.pending_is;
+  }
+
   pub greeted : OnlySends old new → (outbox : List ℕ)
       → ((capacity : ℕ) (held : List Record) (begin : Option (List ℕ)) (text : List ℕ) → Represents recovery.engine capacity held held → Expects begin old.sent recovery.outbox text
       → Expects begin new.sent outbox (text ++ spelling (hello held))) → Recovers (opening from) begin disk (record recovery { outbox = outbox }) new
@@ -140,6 +155,25 @@ module _ (from : Option ℕ) {begin : Option (List ℕ)} {disk : List ℕ} {reco
     idle = r.idle;
     pending_is = expects recovery.scan.capacity _ begin _ r.admits.engine_is r.pending_is;
   }
+
+-- memory is short for going on by one worker, which it isn't where there is one
+pub starves_alone : (from : Option ℕ) {begin : Option (List ℕ)} {disk : List ℕ} {recovery : Recovery} {old : Outside} (r : Recovers (again from) begin disk recovery old) (now : Outside) {workers : ℕ}
+    → (workers ≡ 1 → ⊥) → now.sent ≡ append_known begin (again from (records_of r.batches)) → StarvesAgain workers from begin disk now
+starves_alone from r now several sent all covers =
+    starved_further (covers _ _ _ _ _ r.read.leads (record { more = []; whole = refl }) r.admits.lawful)
+    (record { before = records_of r.batches; behind = []; parts = refl; short = λ one. absurd (several one); sent = sent })
+
+-- an engine that goes on by one worker is read into
+pub reads_alone : {scan : ScanState} {engine : Engine} {known : Option (List ℕ)} (next : Engine) → next ≡ record engine { evaluator = next.evaluator; messages = next.messages }
+    → (IsRoomy engine → IsRoomy next) → IsReading scan engine 0 known → IsReading scan next 0 known
+reads_alone {scan} {engine} {known} next is roomy r = record {
+  of_disk = r.of_disk;
+  capacity = subst (λ (e : Engine). scan.capacity ≡ e.admission.capacity) (sym is) r.capacity;
+  count = subst (λ (e : Engine). scan.count ≡ e.admission.count) (sym is) r.count;
+  small = subst IsSmall (sym is) (record { range = r.small.range; within = r.small.within; evaluated = r.small.evaluated; few = r.small.few });
+  all = subst (λ (e : Engine). e.admission.count ≡ e.evaluated + 0) (sym is) r.all;
+  roomy = roomy r.roomy;
+}
 
 -- nothing waits yet
 pub gathers_first : {from : Option ℕ} {begin : Option (List ℕ)} {disk : List ℕ} {recovery : Recovery} {now : Outside} {waiting : WaitingState} → Recovers (again from) begin disk recovery now

@@ -16,7 +16,7 @@ ghost use Rattle.recovery_core.specs.Starved.{StarvedAtRecord};
 ghost use Rattle.recovery_core.specs.Recoveries.{again, IsSmall, Admits, Refuses, Resumes};
 
 use crate::waiting::Waiting;
-use engine_core::{Engine, ROUND_MAX, append_messages, evaluate, prepare};
+use engine_core::{Engine, ROUND_MAX, append_messages, evaluate, prepare, unite};
 use host_core::{Fault, Host, Status};
 use journal_core::{BATCH_MAX, Batch, Scan};
 use std::alloc::Global;
@@ -272,10 +272,33 @@ impl Recovery {
         }
     }
 
+    /// Goes on by one worker, once a journal was read to its end. Where memory is short, what waits is sent before that is told.
+    fn go_on_alone<H: Host>(&mut self, alloc: Global, host: &mut H) -> Result<(), Fault>
+        requires reading { IsReading self.old.scan self.old.engine 0 (H.outside host.old).disk }
+        ensures recovers { (from : Option ℕ) (begin : Option (List ℕ)) (disk : List ℕ) → Recovers (again from) begin disk self.old (H.outside host.old)
+            → OnOk result (Recovers (again from) begin disk self.new (H.outside host.new)) }
+        ensures moments { (from : Option ℕ) (begin : Option (List ℕ)) (disk : List ℕ) → Recovers (again from) begin disk self.old (H.outside host.old)
+            → SendsAgain from begin disk (H.outside host.old) (H.outside host.new) }
+        ensures reading { OnOk result (IsReading self.new.scan self.new.engine 0 (H.outside host.new).disk) }
+        ensures alone { OnOk result (workers_of self.new.engine.evaluator ≡ 1) }
+        ensures none { OnOk result (NoFault (H.outside host.old) (H.outside host.new)) }
+        ensures scan { self.new.scan ≡ self.old.scan }
+        ensures keeps { OnlySends (H.outside host.old) (H.outside host.new) }
+        ensures causes { Causes result (H.outside host.old) (H.outside host.new) }
+        ensures unread { result ≢ Err Fault.Read }
+        ensures starved { (from : Option ℕ) (begin : Option (List ℕ)) (disk : List ℕ) → Recovers (again from) begin disk self.old (H.outside host.old)
+            → result ≡ Err Fault.Memory → StarvesAgain (workers_of self.old.engine.evaluator) from begin disk (H.outside host.new) }
+    {
+        unite(alloc, &mut self.engine, &mut self.outbox, host)?;
+        Ok(())
+    }
+
     /// Reads a journal to its end, evaluates its records, and appends what a session sends before its first frame is answered.
+    /// From then on one worker evaluates.
     pub fn recover<Rt: Threads + Sync, H: Host, G: Gate>(
         &mut self,
         rt: &Rt,
+        alloc: Global,
         host: &mut H,
         gate: &G,
         from: Option<u64>,
@@ -288,7 +311,7 @@ impl Recovery {
         ensures moments { (begin : Option (List ℕ)) (disk : List ℕ) → Recovers (again from) begin disk self.old (H.outside host.old)
             → SendsAgain from begin disk (H.outside host.old) (H.outside host.new) }
         ensures reading { OnOk result (IsReading self.new.scan self.new.engine 0 (H.outside host.new).disk) }
-        ensures workers { workers_of self.new.engine.evaluator ≡ workers_of self.old.engine.evaluator }
+        ensures alone { OnOk result (workers_of self.new.engine.evaluator ≡ 1) }
         ensures closed { OnOk result (IsTrue self.new.scan.is_closed) }
         ensures keeps { OnlyRecovers (H.outside host.old) (H.outside host.new) }
         ensures none { OnOk result (NoFault (H.outside host.old) (H.outside host.new)) }
@@ -298,6 +321,7 @@ impl Recovery {
             status (H.outside host.old) (H.outside host.new)) }
     {
         self.read(rt, host, gate, from, batch)?;
+        self.go_on_alone(alloc, host)?;
         greet(&self.engine, &mut self.outbox, host)?;
         Ok(())
     }

@@ -5,5 +5,7 @@ mod pause;
 mod percent;
 mod refprice;
 mod reopen;
+mod script;
 mod short;
+mod values;
 mod window;

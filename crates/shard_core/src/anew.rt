@@ -123,7 +123,7 @@ fn is_evener(anew: &[u32], ends: &[u32], loads: &[u32]) -> bool
 }
 
 /// All stocks of several parts, in their order. The parts are left with none.
-fn gather(alloc: Global, parts: &mut [Section]) -> Result<Section, NoMemory>
+pub(crate) fn gather(alloc: Global, parts: &mut [Section]) -> Result<Section, NoMemory>
     requires few { AreFew parts.old }
     ensures all { IfOk result (λ all. all.symbols ≡ flat_map (λ part. part.symbols) parts.old) }
     ensures parts { length parts.new ≡ length parts.old }

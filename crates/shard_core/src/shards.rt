@@ -1,20 +1,21 @@
 ghost use Rattle.std.specs.Prelude.{◌≡◌, ℕ, ◌+◌, ◌<◌, ◌≤◌, ◌++◌, [], true, List, IfOk, OnOk, OnErr, is_ok, length};
 ghost use Rattle.wire_in.specs.declared.record.Record.{Record};
 ghost use Rattle.rulebook.specs.Admission.{most_names};
-ghost use Rattle.shard_core.specs.Block.{AreAdmissible, Represents, followed, given, given_from};
+ghost use Rattle.shard_core.specs.Block.{AreAdmissible, Represents, followed, given, given_from, market_of};
 ghost use Rattle.shard_core.specs.Merged.{GoesOn};
 ghost use Rattle.shard_core.specs.Turns.{AreEmpty};
 
-use crate::anew::{Counts, count, even_out};
+use crate::anew::{Counts, count, even_out, gather};
 use crate::jobs::work_parts;
 use crate::order::merge;
 use crate::pieces::pieces;
 use crate::tagged::Tagged;
 use crate::turns::{Turn, is_begun, lead_all};
-use market_core::{Lead, Section};
+use market_core::{Lead, Market, Section};
 use price_core::NoMemory;
 use std::alloc::Global;
 use std::marker::Model;
+use std::mem;
 use std::thread::Threads;
 use wire_in::Record;
 use wire_out::Stamped;
@@ -117,6 +118,20 @@ impl Shards {
         self.working
     }
 
+    /// Makes one market of the parts. Nothing works from then on, also after an error, which is want of memory or that a block
+    /// has failed.
+    pub fn unite(&mut self, alloc: Global) -> Result<Market, NoMemory>
+        ensures one { IfOk result (λ market. market ≡ market_of self.old) }
+        ensures parts { length self.new.parts ≡ length self.old.parts }
+    {
+        if !mem::replace(&mut self.working, false) {
+            return Err(NoMemory);
+        }
+        let symbols = gather(alloc, &mut self.parts)?;
+        let lead = mem::replace(&mut self.lead, Lead::new(alloc)?);
+        Market::of(alloc, lead, symbols).ok_or(NoMemory)
+    }
+
     /// How many records a piece of a block has at most.
     pub(crate) fn most_of_piece(&self) -> usize
         ensures { (0 < result) × (result ≤ 65536) }
@@ -180,8 +195,9 @@ impl Shards {
 
     /// Appends what one market gives for records that are admissible, one after the other, after those before: each
     /// message with the index of its record in the block, from 0. At most 65,536 records, and no block before has failed.
-    /// An error leaves the list as it was, and nothing works from then on. Records before any day, which admission refuses,
-    /// are passed over.
+    /// Several parts pass the gate, each on a thread of its own, where a piece has 1,024 records or more; with fewer, and by
+    /// one part, no gate is passed and no thread begun. An error leaves the list as it was, and nothing works from then on.
+    /// Records before any day, which admission refuses, are passed over.
     pub fn block<Rt: Threads + Sync, G: Gate>(
         &mut self,
         rt: &Rt,

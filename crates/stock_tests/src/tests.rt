@@ -1,12 +1,14 @@
 // Records in few words: of ABC, whose id is 0, on days of June 2024.
+mod admission;
 mod due;
 mod market;
 mod pace;
+mod scene;
+mod script;
 
 use price_core::{Index, Leverage, Price, Tier};
 use session_core::{Close, Date, Day, Moment, Profile};
-use symbol_core::MarketView;
-use wire_in::{NoticeKind, Record};
+use wire_in::Record;
 
 /// The moment of that many nanoseconds of the day, at most the last one.
 fn moment(nanos: u64) -> Moment {
@@ -40,11 +42,22 @@ fn new_day(number: u8) -> Record {
     }
 }
 
-/// A listing at a prior close of $50.00.
-fn listing(moment: Moment, name: [u8; 8]) -> Record {
+/// A letter for each number up to 25.
+fn letter(number: u16) -> u8 {
+    b'A' + (number % 26) as u8
+}
+
+/// A name of three letters for a number, another for each up to 17,575.
+fn name_of(number: u16) -> [u8; 8] {
+    let (first, second) = (letter(number / 676), letter(number / 26));
+    [first, second, letter(number), 0, 0, 0, 0, 0]
+}
+
+/// The listing of a stock of that number, at a prior close of $50.00.
+fn listing(seconds: u64, number: u16) -> Record {
     Record::Listing {
-        moment,
-        name,
+        moment: at(seconds),
+        name: name_of(number),
         tier: Tier::One,
         leverage: Leverage::new(10).unwrap(),
         close: Some(price(500_000)),
@@ -55,6 +68,29 @@ fn clock(moment: Moment) -> Record {
     Record::Clock { moment }
 }
 
+/// A record of the market. Times are seconds of the day.
+#[derive(Clone, Copy)]
+enum Entry {
+    Day(u8),
+    /// The stock of a number.
+    Listing(u64, u16),
+    Clock(u64),
+    /// Hundredths of the index.
+    Tick(u64, u32),
+}
+
+fn record(entry: Entry) -> Record {
+    match entry {
+        Entry::Day(number) => new_day(number),
+        Entry::Listing(seconds, number) => listing(seconds, number),
+        Entry::Clock(seconds) => clock(at(seconds)),
+        Entry::Tick(seconds, hundredths) => Record::IndexTick {
+            moment: at(seconds),
+            value: Index::new(hundredths.clamp(1, 99_999_999)).unwrap(),
+        },
+    }
+}
+
 fn trade(moment: Moment, number: u32, units: u64, flags: u16) -> Record {
     Record::Trade {
         moment,
@@ -63,39 +99,5 @@ fn trade(moment: Moment, number: u32, units: u64, flags: u16) -> Record {
         price: price(units),
         size: 100,
         flags,
-    }
-}
-
-fn quote(moment: Moment, bid: u64, offer: u64) -> Record {
-    Record::Quote {
-        moment,
-        symbol: 0,
-        bid: Some(price(bid)),
-        offer: Some(price(offer)),
-        bid_size: 1,
-        offer_size: 1,
-    }
-}
-
-fn halt(moment: Moment) -> Record {
-    Record::Notice {
-        moment,
-        symbol: 0,
-        kind: NoticeKind::Halt,
-    }
-}
-
-/// A name of three letters for a number, another for each up to 17,575.
-fn name_of(number: u16) -> [u8; 8] {
-    let letter = |n: u16| b'A' + (n % 26) as u8;
-    let (first, second) = (letter(number / 676), letter(number / 26));
-    [first, second, letter(number), 0, 0, 0, 0, 0]
-}
-
-/// 3 June, with a market-wide halt or without one.
-fn third(stopped: bool) -> MarketView {
-    MarketView {
-        day: day(3),
-        stopped,
     }
 }

@@ -1,4 +1,4 @@
-//! Tests of lines, of streams of them, and of the words of a process.
+//! Tests of lines, of streams of them, of the words of a process, and of pictures.
 #![tactic(auto)]
 
 #[cfg(test)]

@@ -1,4 +1,5 @@
 mod alarm;
 mod cases;
 mod price;
+mod script;
 mod session;

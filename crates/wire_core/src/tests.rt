@@ -10,9 +10,9 @@ fn behind_one(n: u64) -> [u8; 9] {
 #[test]
 fn numbers_begin_with_their_highest_byte(rt: HostRuntime) {
     let body = [9, 1, 2, 3, 4, 5, 6, 7, 8];
-    assert_eq!(rt; u16_at(&body, 1), 0x0102);
-    assert_eq!(rt; u32_at(&body, 1), 0x0102_0304);
-    assert_eq!(rt; u64_at(&body, 1), 0x0102_0304_0506_0708);
+    assert!(rt; u16_at(&body, 1) == 0x0102);
+    assert!(rt; u32_at(&body, 1) == 0x0102_0304);
+    assert!(rt; u64_at(&body, 1) == 0x0102_0304_0506_0708);
 }
 
 #[test]
@@ -27,10 +27,10 @@ fn fields_stand_in_their_ranges(rt: HostRuntime) {
     ] {
         let body = behind_one(n);
         let optional = optional_price_at(&body, 1);
-        assert_eq!(rt; moment_at(&body, 1).is_some(), is_moment, "of {n}");
-        assert_eq!(rt; price_at(&body, 1).is_some(), is_price, "of {n}");
-        assert_eq!(rt; optional.is_some(), is_price || n == 0, "of {n}");
-        assert_eq!(rt; optional.map_or(n, units_or_zero), n, "of {n}");
+        assert!(rt; moment_at(&body, 1).is_some() == is_moment, "of {n}");
+        assert!(rt; price_at(&body, 1).is_some() == is_price, "of {n}");
+        assert!(rt; optional.is_some() == (is_price || n == 0), "of {n}");
+        assert!(rt; optional.map_or(n, units_or_zero) == n, "of {n}");
     }
 }
 
@@ -42,7 +42,10 @@ fn index_values_stand_in_their_range(rt: HostRuntime) {
         (99_999_999, true),
         (100_000_000, false),
     ] {
-        assert_eq!(rt; index_at(&n.to_be_bytes(), 0).is_some(), is_index, "of {n}");
+        assert!(rt;
+            index_at(&n.to_be_bytes(), 0).is_some() == is_index,
+            "of {n}"
+        );
     }
 }
 
@@ -58,19 +61,19 @@ fn names_are_visible_characters_and_then_zeros(rt: HostRuntime) {
         (b"A B\0\0\0\0\0", false),
         (b"ABC\x7f\0\0\0\0", false),
     ] {
-        assert_eq!(rt; name_at(name, 0), is_name.then_some(*name));
+        assert!(rt; name_at(name, 0) == is_name.then_some(*name));
     }
 }
 
 #[test]
 fn what_is_put_stands_at_its_offset(rt: HostRuntime) {
     let mut buffer = [0xee; 64];
-    assert_eq!(rt; put(&mut buffer, 1, &[1, 2]), 3);
-    assert_eq!(rt; put_u16(&mut buffer, 3, 0x0304), 5);
-    assert_eq!(rt; put_u32(&mut buffer, 5, 0x0506_0708), 9);
-    assert_eq!(rt; put_u64(&mut buffer, 9, 0x090a_0b0c_0d0e_0f10), 17);
+    assert!(rt; put(&mut buffer, 1, &[1, 2]) == 3);
+    assert!(rt; put_u16(&mut buffer, 3, 0x0304) == 5);
+    assert!(rt; put_u32(&mut buffer, 5, 0x0506_0708) == 9);
+    assert!(rt; put_u64(&mut buffer, 9, 0x090a_0b0c_0d0e_0f10) == 17);
     for (i, byte) in buffer.iter().enumerate() {
         let want = if 1 <= i && i < 17 { i as u8 } else { 0xee };
-        assert_eq!(rt; *byte, want, "at {i}");
+        assert!(rt; *byte == want, "at {i}");
     }
 }

@@ -1,2 +1,4 @@
+mod bytes;
 mod published;
 mod records;
+mod table;

@@ -27,9 +27,9 @@ pub enum Command {
     Format {
         limit: u64,
     },
-    /// Serves a session that sends the messages from a number on again, where one is given, evaluates by so many workers,
-    /// from 1 to 64, answers so many frames at most in one batch, from 1 to 64, and reads so many bytes at most, from 1 to
-    /// 1,099,511,627,776.
+    /// Serves a session that sends the messages from a number on again, where one is given, evaluates the records of its
+    /// journal by so many workers, from 1 to 64, answers so many frames at most in one batch, from 1 to 64, and reads so many
+    /// bytes at most, from 1 to 1,099,511,627,776.
     Serve {
         from: Option<u64>,
         workers: u32,

@@ -22,18 +22,11 @@ fn number_option<'a>(alloc: Global, name: &'a str, least: u64, most: u64, help: 
         .help(help)
 }
 
-fn workers_option<'a>(alloc: Global) -> Arg<'a>
+fn workers_option<'a>(alloc: Global, help: &'a str) -> Arg<'a>
     ensures rule { rule_of result ≡ workers_option }
     ensures local { result.global ≡ false }
 {
-    number_option(
-        alloc,
-        "workers",
-        1,
-        WORKERS_MAX,
-        "How many workers evaluate the records, from 1 to 64",
-    )
-    .default_value("1")
+    number_option(alloc, "workers", 1, WORKERS_MAX, help).default_value("1")
 }
 
 fn batch_option<'a>(alloc: Global) -> Arg<'a>
@@ -143,7 +136,11 @@ fn serve_line<'a>(alloc: Global) -> Result<Command<'a>, AllocError>
         ),
         from,
     )?;
-    let serve = with_option(serve, workers_option(alloc))?;
+    let workers = workers_option(
+        alloc,
+        "How many workers evaluate the journal's records at the start, from 1 to 64; those of the input are evaluated by one",
+    );
+    let serve = with_option(serve, workers)?;
     let serve = with_option(serve, batch_option(alloc))?;
     with_option(serve, bytes_option(alloc))
 }
@@ -158,7 +155,7 @@ fn replay_line<'a>(alloc: Global) -> Result<Command<'a>, AllocError>
             "replay",
             "Sends the messages of the frames of the input, without a journal",
         ),
-        workers_option(alloc),
+        workers_option(alloc, "How many workers evaluate the records, from 1 to 64"),
     )?;
     with_option(replay, bytes_option(alloc))
 }
@@ -235,7 +232,11 @@ fn generate_line<'a>(alloc: Global) -> Result<Command<'a>, AllocError>
     let generate = with_option(generate, seed_option(alloc))?;
     let generate = with_option(generate, symbols_option(alloc))?;
     let generate = with_option(generate, records_option(alloc))?;
-    let generate = with_option(generate, workers_option(alloc))?;
+    let workers = workers_option(
+        alloc,
+        "How many workers evaluate the records for a summary, from 1 to 64",
+    );
+    let generate = with_option(generate, workers)?;
     with_option(generate, summary_option(alloc))
 }
 

@@ -8,10 +8,6 @@ mod law;
 mod open;
 mod room;
 mod rule;
-#[cfg(test)]
-mod square;
-#[cfg(test)]
-mod tests;
 mod view;
 mod workers;
 mod yard;

@@ -1,134 +1,104 @@
 // Prices that drift by more than one per cent, while old trades leave the mean.
-use super::applied;
-use afresh_core::{afresh, is_lawful};
-use price_core::{Cause, Index, Leverage, Price, Tier};
-use session_core::{Close, Date, Day, Moment, Profile};
-use std::alloc::Global;
+use super::expect_agreement;
+use Stretch::{Clocks, Trades};
+use price_core::Tier;
+use session_core::Moment;
 use std::process::Abort;
 use std::test::Fail;
-use wire_in::Record;
-use wire_out::{Message, Stamped};
+use test_days::lines::{Line, clock, day, listing, trade};
+use test_days::records_of;
 
-fn at(seconds: u64) -> Result<Moment, Fail> {
-    Ok(Moment::new(seconds.wrapping_mul(1_000_000_000))?)
-}
-
-fn day() -> Result<Record, Fail> {
-    Ok(Record::Day {
-        moment: at(14_400)?,
-        day: Day {
-            date: Date::of(2024, 6, 3)?,
-            close: Close::Regular,
-            profile: Profile::Since18,
-        },
-        index_close: Index::new(500_000)?,
-    })
-}
-
-fn listing() -> Result<Record, Fail> {
-    Ok(Record::Listing {
-        moment: at(14_400)?,
-        name: *b"ABC\0\0\0\0\0",
-        tier: Tier::One,
-        leverage: Leverage::new(10)?,
-        close: Some(Price::new(500_000)?),
-    })
-}
-
-/// The first trade of the day opens.
-fn trade(seconds: u64, number: u32, units: u64) -> Result<Record, Fail> {
-    Ok(Record::Trade {
-        moment: at(seconds)?,
-        symbol: 0,
-        number,
-        price: Price::new(units)?,
-        size: 100,
-        flags: if number == 0 { 1 } else { 0 },
-    })
-}
-
-/// A stretch of trades 20 seconds apart, whose prices rise by so much from one to the next, and then clocks 20 seconds apart.
+/// Lines 20 seconds apart: so many trades, whose prices rise by so much from one to the next, or so many clocks.
 #[derive(Clone, Copy)]
-struct Stretch {
-    rise: u64,
-    trades: u32,
-    clocks: u32,
+enum Stretch {
+    Trades { count: u32, rise: u64 },
+    Clocks { count: u32 },
 }
 
-fn drifts(alloc: Global, stretches: &[Stretch]) -> Result<Vec<Record>, Fail> {
-    let mut xs = Vec::new(alloc);
-    xs.extend_from_slice(&[day()?, listing()?])?;
-    let mut seconds: u64 = 34_200;
-    let mut units: u64 = 500_000;
-    let mut number: u32 = 0;
-    for stretch in stretches {
-        for _ in 0..stretch.trades {
-            xs.extend_from_slice(&[trade(seconds, number, units)?])?;
-            seconds = seconds.wrapping_add(20);
-            units = units.wrapping_add(stretch.rise);
-            number = number.wrapping_add(1);
-        }
-        for _ in 0..stretch.clocks {
-            let moment = at(seconds)?;
-            xs.extend_from_slice(&[Record::Clock { moment }])?;
-            seconds = seconds.wrapping_add(20);
-        }
+/// The second of the day, and the number and the price of the next trade.
+#[derive(Clone, Copy)]
+struct Drift {
+    seconds: u64,
+    number: u32,
+    units: u64,
+}
+
+impl Drift {
+    /// A moment, after which the next one is 20 seconds later.
+    fn moment(&mut self) -> Moment {
+        let seconds = self.seconds.min(86_399);
+        self.seconds = seconds + 20;
+        Moment::new(seconds * 1_000_000_000).unwrap()
     }
-    Ok(xs)
-}
 
-fn is_moved(stamped: &Stamped) -> bool {
-    matches!(
-        stamped.message,
-        Message::Band {
-            cause: Cause::Moved,
-            ..
+    /// The next trade; the first of the day opens.
+    fn trade(&mut self, rise: u64) -> Line {
+        let (number, units) = (self.number, self.units);
+        self.number = number.wrapping_add(1);
+        self.units = units.wrapping_add(rise);
+        trade(self.moment(), number, units, u16::from(number == 0))
+    }
+
+    fn add(&mut self, stretch: Stretch, lines: &mut Vec<Line>) -> Result<(), Fail> {
+        let (Trades { count, .. } | Clocks { count }) = stretch;
+        for _ in 0..count {
+            let line = match stretch {
+                Trades { rise, .. } => self.trade(rise),
+                Clocks { .. } => clock(self.moment()),
+            };
+            lines.extend_from_slice(&[line])?;
         }
-    )
+        Ok(())
+    }
 }
 
-fn expect_agreement<R: Abort + AllocGlobal>(
+/// A day on which ABC is listed, with these stretches from 09:30:00 on.
+fn add_day(stretches: &[Stretch], lines: &mut Vec<Line>) -> Result<(), Fail> {
+    lines.extend_from_slice(&[day(3), listing(Tier::One, 10, 500_000)])?;
+    let mut drift = Drift {
+        seconds: 34_200,
+        number: 0,
+        units: 500_000,
+    };
+    for stretch in stretches {
+        drift.add(*stretch, lines)?;
+    }
+    Ok(())
+}
+
+/// The market gives the messages that the list gives, and moves the bands so many times at least.
+fn agree<R: Abort + AllocGlobal>(
     rt: &R,
     stretches: &[Stretch],
-    least_moved: usize,
+    least_moves: usize,
 ) -> Result<(), Fail> {
-    let xs = drifts(rt.alloc(), stretches)?;
-    assert!(rt; is_lawful(rt.alloc(), &xs)?);
-    let want = afresh(rt.alloc(), &xs)?;
-    let given = applied(rt.alloc(), &xs)?;
-    assert!(rt; given.as_slice() == want.as_slice());
-    assert!(rt; given.iter().filter(|stamped| is_moved(stamped)).count() >= least_moved);
-    Ok(())
+    let mut lines = Vec::new(rt.alloc());
+    add_day(stretches, &mut lines)?;
+    expect_agreement(rt, &records_of(rt.alloc(), &lines)?, least_moves)
 }
 
 #[test]
 fn slow_drifts_whose_old_trades_leave_at_ticks_move_the_bands_where_the_list_does(
     rt: HostRuntime,
 ) -> Result<(), Fail> {
-    let slow = Stretch {
+    let slow = Trades {
+        count: 10,
         rise: 400,
-        trades: 10,
-        clocks: 6,
     };
-    expect_agreement(&rt, &[slow, slow, slow, slow, slow], 3)
+    let ticks = Clocks { count: 6 };
+    let stretches = [
+        slow, ticks, slow, ticks, slow, ticks, slow, ticks, slow, ticks,
+    ];
+    agree(&rt, &stretches, 3)
 }
 
 #[test]
 fn a_far_trade_moves_the_bands_where_those_before_it_leave(rt: HostRuntime) -> Result<(), Fail> {
-    let near = Stretch {
-        rise: 0,
-        trades: 8,
-        clocks: 0,
-    };
-    let jump = Stretch {
+    let near = Trades { count: 8, rise: 0 };
+    let jump = Trades {
+        count: 2,
         rise: 6_000,
-        trades: 2,
-        clocks: 0,
     };
-    let alone = Stretch {
-        rise: 0,
-        trades: 0,
-        clocks: 20,
-    };
-    expect_agreement(&rt, &[near, jump, alone, near, alone], 1)
+    let alone = Clocks { count: 20 };
+    agree(&rt, &[near, jump, alone, near, alone], 1)
 }

@@ -6,16 +6,16 @@ use test_days::lines::{Line, at, before, clock, day};
 use test_days::records_of;
 
 /// Whether the records of these lines are lawful.
-fn are_lawful<R: Abort + AllocGlobal>(rt: &R, lines: &[Line]) -> Result<bool, Fail> {
+fn expect<R: Abort + AllocGlobal>(rt: &R, lines: &[Line], want: bool) -> Result<(), Fail> {
     let records = records_of(rt.alloc(), lines)?;
-    Ok(is_lawful(rt.alloc(), &records)?)
+    assert!(rt; is_lawful(rt.alloc(), &records)? == want);
+    Ok(())
 }
 
 #[test]
 fn a_record_before_the_last_or_before_any_day_is_not_lawful(rt: HostRuntime) -> Result<(), Fail> {
     let t = at(10, 0, 0);
-    assert!(rt; are_lawful(&rt, &[day(3), clock(t)])?);
-    assert!(rt; !are_lawful(&rt, &[day(3), clock(t), clock(before(t))])?);
-    assert!(rt; !are_lawful(&rt, &[clock(t)])?);
-    Ok(())
+    expect(&rt, &[day(3), clock(t)], true)?;
+    expect(&rt, &[day(3), clock(t), clock(before(t))], false)?;
+    expect(&rt, &[clock(t)], false)
 }

@@ -1,5 +1,7 @@
 ghost use Rattle.gen_core.specs.Generated.{IsPlan};
+ghost use Rattle.wire_in.specs.Spelling.{InRange};
 
+use super::{CLOCKS, USUAL};
 use gen_core::{DayPlan, Generator, send_day};
 use host_core::Status;
 use memory_host::{Call, MemoryHost};
@@ -9,19 +11,22 @@ use std::process::Abort;
 use std::test::Fail;
 use wire_in::{Record, encode};
 
-/// 500 symbols and 400,000 records from the seed 1.
-fn usual() -> DayPlan
-    ensures { IsPlan result }
-{
-    DayPlan {
-        seed: 1,
-        symbols: 500,
-        records: 400_000,
-    }
-}
+/// Two symbols and no records.
+const EMPTY: DayPlan = DayPlan {
+    seed: 1,
+    symbols: 2,
+    records: 0,
+};
+
+/// Three symbols and ten records.
+const SMALL: DayPlan = DayPlan {
+    seed: 1,
+    symbols: 3,
+    records: 10,
+};
 
 /// How many records of each kind were given.
-#[derive(Clone, Copy, PartialEq, Eq, Debug)]
+#[derive(Clone, Copy, PartialEq, Eq)]
 struct Counts {
     records: u32,
     listings: u32,
@@ -44,11 +49,11 @@ fn count(counts: &mut Counts, record: &Record) {
     }
 }
 
-/// The records of a whole day, counted.
-fn counted<R: Abort>(rt: &R, alloc: Global, plan: &DayPlan, most: u32) -> Result<Counts, Fail>
+/// A whole day has these records, and no other.
+fn expect_counts<R: Abort + AllocGlobal>(rt: &R, plan: &DayPlan, want: Counts) -> Result<(), Fail>
     requires { IsPlan plan.now }
 {
-    let mut generator = Generator::new(alloc, plan)?;
+    let mut generator = Generator::new(rt.alloc(), plan)?;
     let mut counts = Counts {
         records: 0,
         listings: 0,
@@ -56,13 +61,13 @@ fn counted<R: Abort>(rt: &R, alloc: Global, plan: &DayPlan, most: u32) -> Result
         trades: 0,
         opening_trades: 0,
     };
-    for _ in 0..most {
+    for _ in 0..want.records {
         if let Some(record) = generator.next() {
             count(&mut counts, &record);
         }
     }
-    assert!(rt; generator.next().is_none());
-    Ok(counts)
+    assert!(rt; counts == want && generator.next().is_none());
+    Ok(())
 }
 
 // The counts and values of these tests are those of this program, which draws the days by itself:
@@ -82,23 +87,32 @@ fn counted<R: Abort>(rt: &R, alloc: Global, plan: &DayPlan, most: u32) -> Result
 fn a_usual_day_has_400_501_records_and_one_opening_trade_a_symbol(
     rt: HostRuntime,
 ) -> Result<(), Fail> {
-    let found = counted(&rt, rt.alloc(), &usual(), 400_501)?;
-    assert!(rt; found.records == 400_501 && found.listings == 500);
-    assert!(rt; found.clocks == 23_400 && found.trades == 141_314);
-    assert!(rt; found.opening_trades == 500);
-    Ok(())
+    expect_counts(
+        &rt,
+        &USUAL,
+        Counts {
+            records: 400_501,
+            listings: 500,
+            clocks: 23_400,
+            trades: 141_314,
+            opening_trades: 500,
+        },
+    )
 }
 
 #[test]
 fn a_day_of_six_records_is_all_clocks(rt: HostRuntime) -> Result<(), Fail> {
-    let plan = DayPlan {
-        seed: 1,
-        symbols: 2,
-        records: 6,
-    };
-    let found = counted(&rt, rt.alloc(), &plan, 9)?;
-    assert!(rt; found.records == 9 && found.clocks == 6 && found.trades == 0);
-    Ok(())
+    expect_counts(
+        &rt,
+        &CLOCKS,
+        Counts {
+            records: 9,
+            listings: 2,
+            clocks: 6,
+            trades: 0,
+            opening_trades: 0,
+        },
+    )
 }
 
 /// Whether the record is the listing of a symbol below ten.
@@ -136,21 +150,21 @@ fn is_day(record: &Record) -> bool {
     }
 }
 
+/// Whether the record is the one at that index of the day without records.
+fn is_given(index: u32, record: &Record) -> bool {
+    match index {
+        0 => is_day(record),
+        1 => is_listing(record, b'0', Tier::One, 200_000),
+        _ => is_listing(record, b'1', Tier::Two, 200_100),
+    }
+}
+
 #[test]
 fn a_day_without_records_is_the_day_and_its_listings(rt: HostRuntime) -> Result<(), Fail> {
-    let plan = DayPlan {
-        seed: 1,
-        symbols: 2,
-        records: 0,
-    };
-    let mut generator = Generator::new(rt.alloc(), &plan)?;
+    let mut generator = Generator::new(rt.alloc(), &EMPTY)?;
     for index in 0..3u32 {
-        let Some(record) = generator.next() else {
-            panic!(rt; "a record is missing")
-        };
-        assert!(rt; index != 0 || is_day(&record));
-        assert!(rt; index != 1 || is_listing(&record, b'0', Tier::One, 200_000));
-        assert!(rt; index != 2 || is_listing(&record, b'1', Tier::Two, 200_100));
+        let record = generator.next().ok_or("a record is missing")?;
+        assert!(rt; is_given(index, &record));
     }
     assert!(rt; generator.next().is_none());
     Ok(())
@@ -196,39 +210,33 @@ fn is_drawn(index: u32, record: &Record) -> bool {
 
 #[test]
 fn the_first_records_are_those_that_a_script_draws(rt: HostRuntime) -> Result<(), Fail> {
-    let mut generator = Generator::new(rt.alloc(), &usual())?;
+    let mut generator = Generator::new(rt.alloc(), &USUAL)?;
     for index in 0..540u32 {
-        let Some(record) = generator.next() else {
-            panic!(rt; "a record is missing")
-        };
+        let record = generator.next().ok_or("a record is missing")?;
         assert!(rt; is_drawn(index, &record));
     }
     Ok(())
 }
 
-/// Three symbols and ten records.
-fn small() -> DayPlan
-    ensures { IsPlan result }
+/// Adds the frame of a record.
+fn add(bytes: &mut Vec<u8>, record: &Record) -> Result<(), Fail>
+    requires { InRange record.now }
 {
-    DayPlan {
-        seed: 1,
-        symbols: 3,
-        records: 10,
-    }
+    let mut cell = [0; 64];
+    let len = encode(record, &mut cell);
+    bytes.extend_from_slice(&cell[..len])?;
+    Ok(())
 }
 
-/// The frames of that day, as its generator gives the records.
-fn frames(alloc: Global) -> Result<Vec<u8>, Fail> {
-    let mut generator = Generator::new(alloc, &small())?;
-    let mut bytes = Vec::new(alloc);
+/// Adds the frames of the small day, as its generator gives the records.
+fn add_frames(alloc: Global, bytes: &mut Vec<u8>) -> Result<(), Fail> {
+    let mut generator = Generator::new(alloc, &SMALL)?;
     for _ in 0..14u32 {
         if let Some(record) = generator.next() {
-            let mut cell = [0; 64];
-            let len = encode(&record, &mut cell);
-            bytes.extend_from_slice(&cell[..len])?;
+            add(bytes, &record)?;
         }
     }
-    Ok(bytes)
+    Ok(())
 }
 
 /// The frame of its day.
@@ -238,27 +246,26 @@ const DAY: [u8; 20] = [
 
 #[test]
 fn a_day_is_sent_frame_by_frame(rt: HostRuntime) -> Result<(), Fail> {
-    let alloc = rt.alloc();
-    let wanted = frames(alloc)?;
-    let mut host = MemoryHost::new(alloc, b"input", b"disk")?;
+    let mut wanted = Vec::new(rt.alloc());
+    add_frames(rt.alloc(), &mut wanted)?;
+    let mut host = MemoryHost::new(rt.alloc(), b"input", b"disk")?;
     host.pieces(1, 7);
-    let status = send_day(alloc, &mut host, &small());
-    assert!(rt; status == Status::Done);
-    assert!(rt; host.sent() == wanted.as_slice());
+    let status = send_day(rt.alloc(), &mut host, &SMALL);
+    let is_kept = host.disk() == b"disk".as_slice();
+    assert!(rt; status == Status::Done && host.sent() == wanted.as_slice() && is_kept);
     assert!(rt; wanted.len() == 20 + 3 * 28 + 10 * 10 && wanted.starts_with(&DAY));
-    assert!(rt; host.disk() == b"disk".as_slice());
     Ok(())
 }
 
 #[test]
 fn a_send_that_fails_ends_a_day(rt: HostRuntime) -> Result<(), Fail> {
-    let alloc = rt.alloc();
-    let wanted = frames(alloc)?;
-    let mut host = MemoryHost::new(alloc, b"", b"")?;
+    let mut wanted = Vec::new(rt.alloc());
+    add_frames(rt.alloc(), &mut wanted)?;
+    let mut host = MemoryHost::new(rt.alloc(), b"", b"")?;
     host.pieces(1, 7);
     host.fail(Call::Send, 4)?;
-    let status = send_day(alloc, &mut host, &small());
-    assert!(rt; status == Status::SendFault);
-    assert!(rt; wanted.starts_with(host.sent()) && host.sent().len() < wanted.len());
+    let status = send_day(rt.alloc(), &mut host, &SMALL);
+    let is_cut = wanted.starts_with(host.sent()) && host.sent().len() < wanted.len();
+    assert!(rt; status == Status::SendFault && is_cut);
     Ok(())
 }

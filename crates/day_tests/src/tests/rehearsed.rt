@@ -1,26 +1,13 @@
-ghost use Rattle.gen_core.specs.Generated.{IsPlan};
-
-use gen_core::DayPlan;
+use super::{CLOCKS, USUAL};
 use host_core::Status;
 use memory_host::{Call, MemoryHost};
 use rehearse_core::rehearse;
 use std::test::Fail;
 use yard_core::OpenGate;
 
-/// Two symbols and six records, each of which is a clock.
-fn clocks() -> DayPlan
-    ensures { IsPlan result }
-{
-    DayPlan {
-        seed: 1,
-        symbols: 2,
-        records: 6,
-    }
-}
-
-/// What such a day gives: each symbol is listed, and opens with the session. No other rule applies without quotations and
+/// What the day of clocks gives: each symbol is listed, and opens with the session. No other rule applies without quotations and
 /// trades.
-const CLOCKS: &[u8] = b"records 9
+const SUMMARY: &[u8] = b"records 9
 refused 0
 messages 4
 listed 2
@@ -38,36 +25,31 @@ marketresume 0
 fn a_day_of_clocks_is_summed_up(rt: HostRuntime) -> Result<(), Fail> {
     let mut host = MemoryHost::new(rt.alloc(), b"input", b"disk")?;
     host.pieces(1, 7);
-    let status = rehearse(&rt, rt.alloc(), &mut host, &OpenGate, &clocks(), 1);
-    assert!(rt; status == Status::Done);
-    assert!(rt; host.sent() == CLOCKS);
-    assert!(rt; host.disk() == b"disk".as_slice());
+    let status = rehearse(&rt, rt.alloc(), &mut host, &OpenGate, &CLOCKS, 1);
+    let is_kept = host.disk() == b"disk".as_slice();
+    assert!(rt; status == Status::Done && host.sent() == SUMMARY && is_kept);
     Ok(())
 }
 
-/// The day of the measures: 500 symbols and 400,000 records.
-fn usual() -> DayPlan
-    ensures { IsPlan result }
-{
-    DayPlan {
-        seed: 1,
-        symbols: 500,
-        records: 400_000,
+/// Whether a line stands in a text, of which it isn't the first.
+fn has_line(text: &[u8], line: &[u8]) -> bool {
+    for at in 0..text.len() {
+        if text[at..].starts_with(line) {
+            return true;
+        }
     }
+    false
 }
 
 #[test]
 fn no_record_of_a_usual_day_is_refused(rt: HostRuntime) -> Result<(), Fail> {
     let mut host = MemoryHost::new(rt.alloc(), b"", b"")?;
-    let status = rehearse(&rt, rt.alloc(), &mut host, &OpenGate, &usual(), 1);
-    assert!(rt; status == Status::Done);
-    let lines = host.sent();
-    assert!(rt; lines.starts_with(b"records 400501\nrefused 0\nmessages "));
-    assert!(rt;
-        lines
-            .windows(12)
-            .any(|line| line == b"\nlisted 500\n".as_slice())
-    );
+    let status = rehearse(&rt, rt.alloc(), &mut host, &OpenGate, &USUAL, 1);
+    let is_begun = host
+        .sent()
+        .starts_with(b"records 400501\nrefused 0\nmessages ");
+    let is_listed = has_line(host.sent(), b"\nlisted 500\n");
+    assert!(rt; status == Status::Done && is_begun && is_listed);
     Ok(())
 }
 
@@ -76,19 +58,24 @@ fn a_send_that_fails_ends_a_summary(rt: HostRuntime) -> Result<(), Fail> {
     let mut host = MemoryHost::new(rt.alloc(), b"", b"")?;
     host.pieces(1, 7);
     host.fail(Call::Send, 4)?;
-    let status = rehearse(&rt, rt.alloc(), &mut host, &OpenGate, &clocks(), 1);
-    assert!(rt; status == Status::SendFault);
-    assert!(rt; CLOCKS.starts_with(host.sent()) && host.sent().len() < CLOCKS.len());
+    let status = rehearse(&rt, rt.alloc(), &mut host, &OpenGate, &CLOCKS, 1);
+    let is_cut = SUMMARY.starts_with(host.sent()) && host.sent().len() < SUMMARY.len();
+    assert!(rt; status == Status::SendFault && is_cut);
     Ok(())
 }
 
 #[test]
 fn several_workers_sum_up_alike(rt: HostRuntime) -> Result<(), Fail> {
     let mut one = MemoryHost::new(rt.alloc(), b"", b"")?;
-    let mut four = MemoryHost::new(rt.alloc(), b"", b"")?;
-    let alone = rehearse(&rt, rt.alloc(), &mut one, &OpenGate, &usual(), 1);
-    let status = rehearse(&rt, rt.alloc(), &mut four, &OpenGate, &usual(), 4);
-    assert!(rt; alone == Status::Done && status == Status::Done);
-    assert!(rt; one.sent() == four.sent());
+    let alone = rehearse(&rt, rt.alloc(), &mut one, &OpenGate, &USUAL, 1);
+    assert!(rt; alone == Status::Done);
+    for workers in [2, 4, 64] {
+        let mut many = MemoryHost::new(rt.alloc(), b"", b"")?;
+        let status = rehearse(&rt, rt.alloc(), &mut many, &OpenGate, &USUAL, workers);
+        assert!(rt;
+            status == Status::Done && many.sent() == one.sent(),
+            "by {workers}"
+        );
+    }
     Ok(())
 }

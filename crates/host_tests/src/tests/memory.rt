@@ -1,23 +1,108 @@
+use Step::{
+    Calls, DiskLen, DiskRead, DiskSync, DiskWrite, HasDisk, HasSent, ReadInput, Send, SendAll,
+    Starved,
+};
 use host_core::{Failed, Host, send_all};
 use memory_host::{Call, MemoryHost, Pick};
-use std::alloc::Global;
 use std::process::Abort;
 use std::test::Fail;
+
+/// A call of a host in memory with what it has to answer, or what the host has to tell. Offsets and lengths are in bytes.
+#[derive(Clone, Copy)]
+enum Step<'a> {
+    /// A read into the first bytes of a buffer, as many as these, which it then holds.
+    ReadInput(Result<usize, Failed>, &'a [u8]),
+    Send(&'a [u8], Result<usize, Failed>),
+    SendAll(&'a [u8]),
+    DiskLen(Result<u64, Failed>),
+    DiskRead(u32, &'a [u8]),
+    DiskWrite(u32, &'a [u8], Result<(), Failed>),
+    DiskSync(Result<(), Failed>),
+    HasDisk(&'a [u8]),
+    HasSent(&'a [u8]),
+    /// How many calls there were.
+    Calls(u64),
+    /// How many calls found no memory.
+    Starved(u64),
+}
+
+/// Whether a read of the input into a buffer answers that, and leaves these bytes there.
+fn reads(
+    host: &mut MemoryHost,
+    into: &mut [u8; 4],
+    answer: Result<usize, Failed>,
+    wanted: &[u8],
+) -> bool {
+    let into = &mut into[..wanted.len().min(4)];
+    !into.is_empty() && host.read_input(into) == answer && *into == *wanted
+}
+
+/// Whether a read of the disk gives these bytes.
+fn reads_disk(host: &mut MemoryHost, into: &mut [u8; 4], at: u32, wanted: &[u8]) -> bool {
+    let into = &mut into[..wanted.len().min(4)];
+    let end = u64::from(at) + into.len() as u64;
+    end <= host.disk().len() as u64
+        && host.disk_read(u64::from(at), into) == Ok(())
+        && *into == *wanted
+}
+
+/// Whether a write of the disk answers that.
+fn writes_disk(host: &mut MemoryHost, at: u32, bytes: &[u8], answer: Result<(), Failed>) -> bool {
+    at as usize <= host.disk().len() && host.disk_write(u64::from(at), bytes) == answer
+}
+
+/// Whether a host tells that.
+fn tells(host: &MemoryHost, step: Step<'_>) -> bool {
+    match step {
+        HasDisk(wanted) => host.disk() == wanted,
+        HasSent(wanted) => host.sent() == wanted,
+        Calls(wanted) => host.calls() == wanted,
+        Starved(wanted) => host.starved() == wanted,
+        _ => false,
+    }
+}
+
+/// Whether a host answers or tells what is wanted.
+fn is_met(host: &mut MemoryHost, into: &mut [u8; 4], step: Step<'_>) -> bool {
+    match step {
+        ReadInput(answer, wanted) => reads(host, into, answer, wanted),
+        Send(piece, answer) => !piece.is_empty() && host.send(piece) == answer,
+        SendAll(piece) => send_all(host, piece) == Ok(()),
+        DiskLen(answer) => host.disk_len() == answer,
+        DiskRead(at, wanted) => reads_disk(host, into, at, wanted),
+        DiskWrite(at, bytes, answer) => writes_disk(host, at, bytes, answer),
+        DiskSync(answer) => host.disk_sync() == answer,
+        _ => tells(host, step),
+    }
+}
+
+/// Takes the steps one after the other, with one buffer of four bytes.
+fn play<R: Abort>(rt: &R, host: &mut MemoryHost, steps: &[Step<'_>]) {
+    let mut into = [0; 4];
+    for (place, step) in steps.iter().enumerate() {
+        assert!(rt; is_met(host, &mut into, *step), "step {place}");
+    }
+}
 
 #[test]
 fn reads_and_sends_are_cut_into_pieces(rt: HostRuntime) -> Result<(), Fail> {
     let mut host = MemoryHost::new(rt.alloc(), b"abcde", b"")?;
     host.pieces(2, 3);
-    let mut into = [0; 4];
-    for want in [2, 2, 1, 0] {
-        assert_eq!(rt; host.read_input(&mut into), Ok(want));
-    }
-    assert_eq!(rt; into, *b"ed\0\0");
-    assert_eq!(rt; host.send(b"hello"), Ok(3));
-    send_all(&mut host, b"stacks")?;
-    assert_eq!(rt; host.sent(), b"helstacks".as_slice());
-    assert_eq!(rt; host.calls(), 7);
-    assert_eq!(rt; host.starved(), 0);
+    play(
+        &rt,
+        &mut host,
+        &[
+            ReadInput(Ok(2), b"ab\0\0"),
+            ReadInput(Ok(2), b"cd\0\0"),
+            ReadInput(Ok(1), b"ed\0\0"),
+            ReadInput(Ok(0), b"ed\0\0"),
+            Send(b"hello", Ok(3)),
+            SendAll(b"stacks"),
+            HasSent(b"helstacks"),
+            Calls(7),
+            Starved(0),
+        ],
+    );
     Ok(())
 }
 
@@ -28,48 +113,51 @@ fn the_calls_that_were_asked_to_fail_do(rt: HostRuntime) -> Result<(), Fail> {
     host.fail(Call::Read, 2)?;
     host.fail(Call::Send, 1)?;
     host.stop_at(7);
-    let mut into = [0; 2];
-    assert_eq!(rt; host.read_input(&mut into), Ok(1));
-    assert_eq!(rt; host.read_input(&mut into), Err(Failed));
-    assert_eq!(rt; host.read_input(&mut into), Ok(1));
-    assert_eq!(rt; host.send(b"q"), Err(Failed));
-    assert_eq!(rt; host.send(b"r"), Ok(1));
-    assert_eq!(rt; host.disk_len(), Ok(3));
-    assert_eq!(rt; host.disk_len(), Err(Failed));
-    assert_eq!(rt; host.disk_sync(), Err(Failed));
-    assert_eq!(rt; host.sent(), b"r".as_slice());
-    assert_eq!(rt; host.starved(), 0);
+    play(
+        &rt,
+        &mut host,
+        &[
+            ReadInput(Ok(1), b"a\0"),
+            ReadInput(Err(Failed), b"a\0"),
+            ReadInput(Ok(1), b"b\0"),
+            Send(b"q", Err(Failed)),
+            Send(b"r", Ok(1)),
+            DiskLen(Ok(3)),
+            DiskLen(Err(Failed)),
+            DiskSync(Err(Failed)),
+            HasSent(b"r"),
+            Starved(0),
+        ],
+    );
     Ok(())
 }
 
-// A synced write, one that is not synced and goes past the end, and one that fails.
-fn host_with_writes(rt: &impl Abort, alloc: Global) -> Result<MemoryHost, Fail> {
-    let mut host = MemoryHost::new(alloc, b"", b"abcdef")?;
-    host.fail(Call::Write, 3)?;
-    assert_eq!(rt; host.disk().len(), 6);
-    host.disk_write(2, b"XY")?;
-    host.disk_sync()?;
-    assert_eq!(rt; host.disk().len(), 6);
-    host.disk_write(4, b"12345")?;
-    assert_eq!(rt; host.disk_write(0, b"Q"), Err(Failed));
-    Ok(host)
-}
+/// A synced write, one that is not synced and goes past the end, and one that fails.
+const WRITES: &[Step<'static>] = &[
+    DiskWrite(2, b"XY", Ok(())),
+    DiskSync(Ok(())),
+    HasDisk(b"abXYef"),
+    DiskWrite(4, b"12345", Ok(())),
+    DiskWrite(0, b"Q", Err(Failed)),
+    HasDisk(b"abXY12345"),
+];
 
 #[test]
 fn a_crash_leaves_the_picked_bytes(rt: HostRuntime) -> Result<(), Fail> {
-    let host = host_with_writes(&rt, rt.alloc())?;
-    assert_eq!(rt; host.disk(), b"abXY12345".as_slice());
-    let old = host.crash(Pick::Old, b"in")?;
-    assert_eq!(rt; old.disk(), b"abXYef".as_slice());
-    let new = host.crash(Pick::New, b"")?;
-    assert_eq!(rt; new.disk(), b"QbXY12345".as_slice());
-    let mut torn = host.crash(Pick::Bytes(b'U'), b"in")?;
-    assert_eq!(rt; torn.disk(), b"UbXYUUUUU".as_slice());
-    let mut into = [0; 3];
-    assert_eq!(rt; torn.read_input(&mut into), Ok(2));
-    assert_eq!(rt; into, *b"in\0");
-    assert_eq!(rt; torn.disk().len(), 9);
-    torn.disk_read(2, &mut into)?;
-    assert_eq!(rt; into, *b"XYU");
+    let mut host = MemoryHost::new(rt.alloc(), b"", b"abcdef")?;
+    host.fail(Call::Write, 3)?;
+    play(&rt, &mut host, WRITES);
+    let torn = [
+        HasDisk(b"UbXYUUUUU"),
+        ReadInput(Ok(2), b"in\0"),
+        DiskRead(2, b"XYU"),
+    ];
+    for (pick, input, left) in [
+        (Pick::Old, b"in".as_slice(), [HasDisk(b"abXYef")].as_slice()),
+        (Pick::New, b"", &[HasDisk(b"QbXY12345")]),
+        (Pick::Bytes(b'U'), b"in", &torn),
+    ] {
+        play(&rt, &mut host.crash(pick, input)?, left);
+    }
     Ok(())
 }

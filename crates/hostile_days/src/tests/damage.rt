@@ -1,31 +1,20 @@
 // A small journal with each of its bytes changed, cut at each length, and with bytes behind it.
-use super::sent::{Sent, first_frame};
-use super::{fresh, reopened_day, replays, serves};
+use super::sent::{body_of, first_frame, messages, told};
+use super::{REPLAY, SERVE, Trouble, Way, expect, fresh, host_of, ran, reopened_day, run};
 use host_core::Status;
-use memory_host::{Call, MemoryHost};
-use std::alloc::Global;
+use memory_host::Call;
 use std::process::Abort;
 use std::test::Fail;
 use std::thread::Threads;
 use wire_in::decode;
 
-/// What a file is, by the layout of a journal.
-#[derive(Drop)]
-enum Content {
-    /// No journal.
-    Nothing,
-    /// Damaged in the batch whose gate stands at that byte.
-    Damaged { at: u64 },
-    /// The frames of the records that it holds.
-    Frames(Vec<u8>),
-}
-
 /// A number of bytes, the highest first.
 fn number(bytes: &[u8]) -> u64 {
-    bytes.iter().fold(
-        0u64,
-        |n, byte| n.wrapping_mul(256).wrapping_add(u64::from(*byte)),
-    )
+    let mut number = 0u64;
+    for byte in bytes {
+        number = number.wrapping_mul(256).wrapping_add(u64::from(*byte));
+    }
+    number
 }
 
 /// How many records the journal takes, where the file has a header.
@@ -40,7 +29,7 @@ fn limit_of(file: &[u8]) -> Option<u64> {
 
 /// Whether a frame says a record.
 fn is_record(frame: &[u8]) -> bool {
-    let body = frame.get(1..).unwrap_or(&[]);
+    let body = body_of(frame);
     decode(&body[..body.len().min(255)]).is_ok()
 }
 
@@ -71,140 +60,162 @@ fn batch_of(bytes: &[u8]) -> Option<(&[u8], &[u8])> {
 
 /// Whether each of these frames may follow those before it.
 fn may_follow<Rt: AllocGlobal + Threads + Sync>(rt: &Rt, frames: &[u8]) -> Result<bool, Fail> {
-    let mut host = MemoryHost::new(rt.alloc(), frames, b"")?;
-    let status = replays(rt, &mut host, 1);
-    let sent = Sent::of(rt.alloc(), host.sent())?;
-    Ok(status == Status::Done && sent.refused == 0)
+    let mut host = host_of(rt.alloc(), REPLAY, frames, b"")?;
+    let status = run(rt, REPLAY, &mut host);
+    Ok(status == Status::Done && told(host.sent()).refused == 0)
 }
 
-/// What a file is.
-fn content_of<Rt: AllocGlobal + Threads + Sync>(rt: &Rt, file: &[u8]) -> Result<Content, Fail> {
-    let Some(limit) = limit_of(file) else {
-        return Ok(Content::Nothing);
+/// Puts the frames of the next batch behind those before, and gives the bytes behind the batch; none where it isn't whole,
+/// is one too many or may not follow.
+fn next_batch<'a, Rt: AllocGlobal + Threads + Sync>(
+    rt: &Rt,
+    bytes: &'a [u8],
+    limit: u64,
+    held: &mut Vec<u8>,
+) -> Result<Option<&'a [u8]>, Fail> {
+    let Some((frames, after)) = batch_of(bytes) else {
+        return Ok(None);
     };
-    let mut held = Vec::new(rt.alloc());
+    held.extend_from_slice(frames)?;
+    let is_held = records_in(held).unwrap_or(0) <= limit && may_follow(rt, held)?;
+    Ok(is_held.then_some(after))
+}
+
+/// How a session over a file ends, by the layout of a journal. Where it is done, the frames of the records are put behind those
+/// that are held.
+fn status_of<Rt: AllocGlobal + Threads + Sync>(
+    rt: &Rt,
+    file: &[u8],
+    held: &mut Vec<u8>,
+) -> Result<Status, Fail> {
+    let Some(limit) = limit_of(file) else {
+        return Ok(Status::NoJournal);
+    };
     let mut rest = file.get(16..).unwrap_or(&[]);
     for _ in 0..file.len() {
         if rest.first() == Some(&0) {
-            return Ok(Content::Frames(held));
+            return Ok(Status::Done);
         }
-        let at = file.len().saturating_sub(rest.len()) as u64;
-        let Some((frames, after)) = batch_of(rest) else {
-            return Ok(Content::Damaged { at });
+        let Some(after) = next_batch(rt, rest, limit, held)? else {
+            let at = file.len().saturating_sub(rest.len()) as u64;
+            return Ok(Status::Damaged { at });
         };
-        held.extend_from_slice(frames)?;
-        if records_in(&held).unwrap_or(0) > limit || !may_follow(rt, &held)? {
-            return Ok(Content::Damaged { at });
-        }
         rest = after;
     }
-    Ok(Content::Nothing)
+    Ok(Status::NoJournal)
 }
 
 /// A session of so many workers over a file that it can't serve ends so, and has read no input, sent nothing and written nothing.
 fn expect_unserved<Rt: Abort + AllocGlobal + Threads + Sync>(
     rt: &Rt,
-    file: &[u8],
     workers: u32,
+    file: &[u8],
     want: Status,
 ) -> Result<(), Fail> {
-    let mut host = MemoryHost::new(rt.alloc(), b"\x01\x0a", file)?;
-    host.fail(Call::Read, 1)?;
-    host.fail(Call::Write, 1)?;
-    host.fail(Call::Send, 1)?;
-    assert_eq!(rt; serves(rt, &mut host, workers, 64, None), want);
-    assert!(rt; host.disk() == file);
+    let way = Way {
+        workers,
+        trouble: Trouble::FailsAtFirst,
+        ..SERVE
+    };
+    let host = ran(rt, way, b"\x01\x0a", file, want)?;
+    assert!(rt; host.sent().is_empty() && host.disk() == file);
     Ok(())
 }
 
 /// A session of so many workers over a file gives the messages of the records that it holds, and tells how many there are.
 fn expect_served<Rt: Abort + AllocGlobal + Threads + Sync>(
     rt: &Rt,
-    file: &[u8],
     workers: u32,
+    file: &[u8],
     frames: &[u8],
 ) -> Result<(), Fail> {
-    let mut want = MemoryHost::new(rt.alloc(), frames, b"")?;
-    assert_eq!(rt; replays(rt, &mut want, 1), Status::Done);
-    let mut host = MemoryHost::new(rt.alloc(), b"", file)?;
-    host.fail(Call::Write, 1)?;
-    assert_eq!(rt; serves(rt, &mut host, workers, 64, Some(1)), Status::Done);
-    let sent = Sent::of(rt.alloc(), host.sent())?;
-    assert!(rt; sent.messages.as_slice() == want.sent());
-    assert!(rt; sent.held == records_in(frames));
-    assert!(rt; host.disk() == file);
-    Ok(())
+    let way = Way {
+        workers,
+        from: Some(1),
+        trouble: Trouble::Fails(Call::Write, 1),
+        ..SERVE
+    };
+    let host = ran(rt, way, b"", file, Status::Done)?;
+    assert!(rt; told(host.sent()).held == records_in(frames) && host.disk() == file);
+    let given = messages(rt.alloc(), host.sent())?;
+    expect(rt, REPLAY, frames, b"", Status::Done, &given)
 }
 
-/// How files were taken by so many workers.
-#[derive(Clone, Copy)]
-struct Taken {
+/// A session of so many workers takes a file for what it is. Answers how it ends.
+fn taken<Rt: Abort + AllocGlobal + Threads + Sync>(
+    rt: &Rt,
     workers: u32,
+    file: &[u8],
+) -> Result<Status, Fail> {
+    let mut held = Vec::new(rt.alloc());
+    let status = status_of(rt, file, &mut held)?;
+    if status == Status::Done {
+        expect_served(rt, workers, file, &held)?;
+    } else {
+        expect_unserved(rt, workers, file, status)?;
+    }
+    Ok(status)
+}
+
+/// How many files are no journal, are damaged, and are served.
+#[derive(Clone, Copy)]
+struct Tally {
     missing: u64,
     damaged: u64,
     served: u64,
 }
 
-impl Taken {
-    /// A file is taken for what it is.
-    fn add<Rt: Abort + AllocGlobal + Threads + Sync>(
-        &mut self,
-        rt: &Rt,
-        file: &[u8],
-    ) -> Result<(), Fail> {
-        match content_of(rt, file)? {
-            Content::Nothing => {
-                self.missing = self.missing.saturating_add(1);
-                expect_unserved(rt, file, self.workers, Status::NoJournal)
-            }
-            Content::Damaged { at } => {
-                self.damaged = self.damaged.saturating_add(1);
-                expect_unserved(rt, file, self.workers, Status::Damaged { at })
-            }
-            Content::Frames(frames) => {
-                self.served = self.served.saturating_add(1);
-                expect_served(rt, file, self.workers, &frames)
-            }
-        }
+const NONE: Tally = Tally {
+    missing: 0,
+    damaged: 0,
+    served: 0,
+};
+
+impl Tally {
+    /// One file more ends a session so.
+    fn count(&mut self, status: Status) {
+        let count = match status {
+            Status::NoJournal => &mut self.missing,
+            Status::Damaged { .. } => &mut self.damaged,
+            _ => &mut self.served,
+        };
+        *count = count.saturating_add(1);
     }
 }
 
 /// A journal for twelve records that holds ten, in some batches.
 fn small<Rt: Abort + AllocGlobal + Threads + Sync>(rt: &Rt) -> Result<Vec<u8>, Fail> {
     let day = reopened_day(rt.alloc())?;
-    let mut host = MemoryHost::new(rt.alloc(), &day.input, &fresh(rt.alloc(), 12)?)?;
-    host.pieces(70, 4_096);
-    assert_eq!(rt; serves(rt, &mut host, 1, 64, None), Status::Done);
+    let empty = fresh(rt.alloc(), 12)?;
+    let way = Way {
+        read: 70,
+        send: 4_096,
+        ..SERVE
+    };
+    let host = ran(rt, way, &day.input, &empty, Status::Done)?;
     Ok(host.disk().to_vec(rt.alloc())?)
 }
 
-/// A file with one byte changed.
-fn changed(alloc: Global, file: &[u8], at: usize, by: u8) -> Result<Vec<u8>, Fail> {
-    let mut bytes = Vec::from_slice(alloc, file)?;
-    if let Some(byte) = bytes.get_mut(at) {
-        *byte ^= by;
+/// Changes a bit of a file, of which each byte has eight; once more, and it is as before.
+fn flip(file: &mut [u8], bit: usize) {
+    if let Some(byte) = file.get_mut(bit / 8) {
+        *byte ^= 1 << (bit % 8);
     }
-    Ok(bytes)
 }
 
 #[test]
 fn a_journal_with_any_byte_changed_is_told_as_damaged_or_served_as_what_it_holds(
     rt: HostRuntime,
 ) -> Result<(), Fail> {
-    let whole = small(&rt)?;
-    let mut taken = Taken {
-        workers: 1,
-        missing: 0,
-        damaged: 0,
-        served: 0,
-    };
-    for at in 0..whole.len() {
-        for by in [1, 2, 4, 8, 16, 32, 64, 128u8] {
-            taken.workers = if by == 1 { 2 } else { 1 };
-            taken.add(&rt, &changed(rt.alloc(), &whole, at, by)?)?;
-        }
+    let mut file = small(&rt)?;
+    let mut tally = NONE;
+    for bit in 0..file.len().saturating_mul(8) {
+        let workers = if bit % 8 == 0 { 2 } else { 1 };
+        flip(&mut file, bit);
+        tally.count(taken(&rt, workers, &file)?);
+        flip(&mut file, bit);
     }
-    assert!(rt; taken.missing > 64 && taken.damaged > 600 && taken.served > 600);
+    assert!(rt; tally.missing > 64 && tally.damaged > 600 && tally.served > 600);
     Ok(())
 }
 
@@ -213,42 +224,37 @@ fn a_journal_that_is_cut_at_any_length_is_told_at_its_last_gate(
     rt: HostRuntime,
 ) -> Result<(), Fail> {
     let whole = small(&rt)?;
-    let mut taken = Taken {
-        workers: 2,
-        missing: 0,
-        damaged: 0,
-        served: 0,
-    };
+    let mut tally = NONE;
     for len in 0..whole.len() {
-        taken.add(&rt, whole.get(..len).unwrap_or(&[]))?;
+        tally.count(taken(&rt, 2, &whole[..len])?);
     }
-    assert!(rt; taken.missing == 17 && taken.served == 0);
+    assert!(rt; tally.missing == 17 && tally.served == 0);
     Ok(())
 }
 
-/// A journal with bytes behind it is served as it is without them.
+/// A file with bytes behind it is served as one that holds these frames.
 fn expect_behind<Rt: Abort + AllocGlobal + Threads + Sync>(
     rt: &Rt,
     file: &[u8],
     tail: &[u8],
+    held: &[u8],
 ) -> Result<(), Fail> {
     let longer = [file, tail].concat(rt.alloc())?;
-    match content_of(rt, file)? {
-        Content::Frames(frames) => expect_served(rt, &longer, 2, &frames),
-        _ => rt.abort(),
-    }
+    expect_served(rt, 2, &longer, held)
 }
 
 #[test]
 fn bytes_behind_the_last_gate_mean_nothing(rt: HostRuntime) -> Result<(), Fail> {
     let whole = small(&rt)?;
+    let mut held = Vec::new(rt.alloc());
+    assert!(rt; status_of(&rt, &whole, &mut held)? == Status::Done);
     for tail in [
         b"\0".as_slice(),
         b"\x01",
         b"\x01\0\0\0\x0a\x09\x07\0\0\x1f\x1a\xce\xd9\xf0\0\0",
         b"\xff\xff\xff\xff\xff\xff\xff\xff\xff",
     ] {
-        expect_behind(&rt, &whole, tail)?;
+        expect_behind(&rt, &whole, tail, &held)?;
     }
     Ok(())
 }

@@ -1,6 +1,6 @@
 // Streams of drawn bytes, in pieces of many sizes.
-use super::sent::{Sent, first_frame};
-use super::{fresh, reopened_day, replays, serves};
+use super::sent::{first_frame, messages, told};
+use super::{REPLAY, SERVE, Way, expect, fresh, ran, reopened_day};
 use host_core::Status;
 use memory_host::MemoryHost;
 use std::alloc::Global;
@@ -49,8 +49,8 @@ impl Draw {
     }
 }
 
-/// How many whole frames a stream has, and whether it ends inside one.
-fn frames_in(stream: &[u8]) -> (u64, bool) {
+/// How many whole frames a stream has, and how a command over it ends.
+fn frames_in(stream: &[u8]) -> (u64, Status) {
     let mut rest = stream;
     let mut count = 0u64;
     for _ in 0..stream.len() {
@@ -59,46 +59,85 @@ fn frames_in(stream: &[u8]) -> (u64, bool) {
             count = count.saturating_add(1);
         }
     }
-    (count, !rest.is_empty())
+    let status = if rest.is_empty() {
+        Status::Done
+    } else {
+        Status::Truncated
+    };
+    (count, status)
 }
 
-/// Each frame of a stream is answered, and the same by three workers and in pieces of each size.
+/// A command answers a stream in pieces of each size as it does as a whole.
+fn expect_in_pieces<Rt: Abort + AllocGlobal + Threads + Sync>(
+    rt: &Rt,
+    way: Way,
+    stream: &[u8],
+    disk: &[u8],
+    sent: &[u8],
+) -> Result<(), Fail> {
+    let (_, want) = frames_in(stream);
+    for read in PIECES {
+        let way = Way {
+            read,
+            send: 4_096,
+            ..way
+        };
+        expect(rt, way, stream, disk, want, sent)?;
+    }
+    Ok(())
+}
+
+/// A command by three workers answers a stream as one worker did, and leaves the same disk.
+fn expect_by_three<Rt: Abort + AllocGlobal + Threads + Sync>(
+    rt: &Rt,
+    way: Way,
+    stream: &[u8],
+    disk: &[u8],
+    whole: &MemoryHost,
+) -> Result<(), Fail> {
+    let (_, want) = frames_in(stream);
+    let host = ran(rt, Way { workers: 3, ..way }, stream, disk, want)?;
+    assert!(rt; host.sent() == whole.sent() && host.disk() == whole.disk());
+    Ok(())
+}
+
+/// The host after a command that answers a stream, and in any pieces and by three workers alike.
+fn answered<Rt: Abort + AllocGlobal + Threads + Sync>(
+    rt: &Rt,
+    way: Way,
+    stream: &[u8],
+    disk: &[u8],
+) -> Result<MemoryHost, Fail> {
+    let (_, want) = frames_in(stream);
+    let whole = ran(rt, way, stream, disk, want)?;
+    expect_in_pieces(rt, way, stream, disk, whole.sent())?;
+    expect_by_three(rt, way, stream, disk, &whole)?;
+    Ok(whole)
+}
+
+/// What the commands send for a stream answers each of its frames, and has the same messages.
+fn expect_sent<R: Abort + AllocGlobal>(
+    rt: &R,
+    stream: &[u8],
+    served: &[u8],
+    replayed: &[u8],
+) -> Result<(), Fail> {
+    let (frames, _) = frames_in(stream);
+    let sent = told(served);
+    assert!(rt; sent.acknowledged.saturating_add(sent.refused) == frames);
+    assert!(rt; messages(rt.alloc(), replayed)? == messages(rt.alloc(), served)?);
+    Ok(())
+}
+
+/// Each frame of a stream is answered, in any pieces alike.
 fn expect_answers<Rt: Abort + AllocGlobal + Threads + Sync>(
     rt: &Rt,
     stream: &[u8],
 ) -> Result<(), Fail> {
-    let alloc = rt.alloc();
-    let (frames, is_cut) = frames_in(stream);
-    let want = if is_cut {
-        Status::Truncated
-    } else {
-        Status::Done
-    };
-    let disk = fresh(alloc, 1_000_000)?;
-    let mut whole = MemoryHost::new(alloc, stream, &disk)?;
-    assert_eq!(rt; serves(rt, &mut whole, 1, 64, None), want);
-    let served = Sent::of(alloc, whole.sent())?;
-    assert_eq!(rt; served.acknowledged.saturating_add(served.refused), frames);
-    let mut replayed = MemoryHost::new(alloc, stream, b"")?;
-    assert_eq!(rt; replays(rt, &mut replayed, 1), want);
-    assert!(rt; Sent::of(alloc, replayed.sent())?.messages == served.messages);
-    let mut several = MemoryHost::new(alloc, stream, &disk)?;
-    assert_eq!(rt; serves(rt, &mut several, 3, 64, None), want);
-    assert!(rt; several.sent() == whole.sent() && several.disk() == whole.disk());
-    let mut several = MemoryHost::new(alloc, stream, b"")?;
-    assert_eq!(rt; replays(rt, &mut several, 3), want);
-    assert!(rt; several.sent() == replayed.sent());
-    for read in PIECES {
-        let mut host = MemoryHost::new(alloc, stream, &disk)?;
-        host.pieces(read.max(1), 4_096);
-        assert_eq!(rt; serves(rt, &mut host, 1, 64, None), want);
-        assert!(rt; host.sent() == whole.sent());
-        let mut host = MemoryHost::new(alloc, stream, b"")?;
-        host.pieces(read.max(1), 4_096);
-        assert_eq!(rt; replays(rt, &mut host, 1), want);
-        assert!(rt; host.sent() == replayed.sent());
-    }
-    Ok(())
+    let empty = fresh(rt.alloc(), 1_000_000)?;
+    let served = answered(rt, SERVE, stream, &empty)?;
+    let replayed = answered(rt, REPLAY, stream, b"")?;
+    expect_sent(rt, stream, served.sent(), replayed.sent())
 }
 
 #[test]
@@ -117,21 +156,26 @@ fn a_day_with_drawn_harm_is_answered_frame_by_frame_in_any_pieces(
     expect_answers(&rt, &stream)
 }
 
+/// Puts the bodies that a piece of a stream ends behind others, each with its length before it.
+fn cut(cutter: &mut Cutter, piece: &[u8], bodies: &mut Vec<u8>) -> Result<(), Fail> {
+    let mut rest = piece;
+    for _ in 0..piece.len() {
+        let taken = cutter.take(rest);
+        rest = &rest[taken.used..];
+        if taken.whole {
+            bodies.push(cutter.body().len() as u8)?;
+            bodies.extend_from_slice(cutter.body())?;
+        }
+    }
+    Ok(())
+}
+
 /// The bodies of a stream that comes in two pieces, each with its length before it.
 fn bodies_of_two_pieces(alloc: Global, first: &[u8], then: &[u8]) -> Result<Vec<u8>, Fail> {
     let mut cutter = Cutter::new();
     let mut bodies = Vec::new(alloc);
-    for piece in [first, then] {
-        let mut rest = piece;
-        for _ in 0..piece.len() {
-            let cut = cutter.take(rest);
-            rest = &rest[cut.used..];
-            if cut.whole {
-                bodies.push(cutter.body().len() as u8)?;
-                bodies.extend_from_slice(cutter.body())?;
-            }
-        }
-    }
+    cut(&mut cutter, first, &mut bodies)?;
+    cut(&mut cutter, then, &mut bodies)?;
     Ok(bodies)
 }
 

@@ -1,8 +1,7 @@
 // Each call of each kind fails in turn.
-use super::sent::{Sent, behind, first_frame};
-use super::{fresh, reopened_day, serves};
+use super::sent::{behind, body_of, first_frame, told};
+use super::{SERVE, Trouble, Way, expect, fresh, held_by, host_of, ran, reopened_day, run};
 use host_core::Status;
-use live_core::{ServeOptions, serve};
 use memory_host::{Call, MemoryHost};
 use session_core::Level;
 use std::process::Abort;
@@ -11,7 +10,6 @@ use std::thread::Threads;
 use test_days::Session;
 use test_days::lines::{at, breaker, day, tick};
 use wire_out::{Frame, get_frame};
-use yard_core::OpenGate;
 
 /// The status of a session in which such a call fails.
 fn fault_of(call: Call) -> Status {
@@ -20,14 +18,6 @@ fn fault_of(call: Call) -> Status {
         Call::Send => Status::SendFault,
         Call::Len | Call::DiskRead | Call::Write | Call::Sync => Status::DiskFault,
     }
-}
-
-/// Whether a frame acknowledges a record.
-fn is_ack(frame: &[u8]) -> bool {
-    matches!(
-        get_frame(frame.get(1..).unwrap_or(&[])),
-        Ok(Frame::Ack { .. })
-    )
 }
 
 /// What a session sends behind its greeting and its acknowledgements of so many records.
@@ -39,76 +29,113 @@ fn behind_records(served: &[u8], records: u64) -> &[u8] {
             break;
         }
         if let Some((frame, after)) = first_frame(rest) {
-            acknowledged = acknowledged.saturating_add(u64::from(is_ack(frame)));
+            let is_ack = matches!(get_frame(body_of(frame)), Ok(Frame::Ack { .. }));
+            acknowledged = acknowledged.saturating_add(u64::from(is_ack));
             rest = after;
         }
     }
     rest
 }
 
-/// How a day is served: the most frames of a batch, and the most bytes of a read.
-#[derive(Clone, Copy)]
-struct Way {
-    batch: u32,
-    read: u32,
-}
-
+/// Each record on its own, all as a few batches, and all as one batch.
 const WAYS: [Way; 3] = [
-    Way { batch: 1, read: 30 },
     Way {
-        batch: 64,
-        read: 60,
+        batch: 1,
+        read: 30,
+        send: 7,
+        ..SERVE
     },
     Way {
-        batch: 64,
+        read: 60,
+        send: 7,
+        ..SERVE
+    },
+    Way {
         read: 4_096,
+        send: 7,
+        ..SERVE
     },
 ];
+
+/// The kinds of calls, and how many of each a session makes at least.
+const CALLS: [(Call, u64); 6] = [
+    (Call::Read, 2),
+    (Call::Send, 60),
+    (Call::Len, 1),
+    (Call::DiskRead, 1),
+    (Call::Write, 2),
+    (Call::Sync, 3),
+];
+
+/// A session over the disk of another one gives what that one didn't acknowledge.
+fn expect_rest<Rt: Abort + AllocGlobal + Threads + Sync>(
+    rt: &Rt,
+    whole: &Session,
+    batch: u32,
+    host: &MemoryHost,
+) -> Result<(), Fail> {
+    let held = held_by(rt, host.disk())?;
+    assert!(rt; told(host.sent()).acknowledged <= held);
+    let way = Way { batch, ..SERVE };
+    let rest = behind(&whole.input, held);
+    let next = ran(rt, way, rest, host.disk(), Status::Done)?;
+    assert!(rt; behind(next.sent(), 1) == behind_records(&whole.served, held));
+    Ok(())
+}
+
+/// Whether a session in which such a call is to fail ends so after what it has sent of the whole.
+fn is_answered(whole: &[u8], sent: &[u8], call: Call, status: Status) -> bool {
+    match status {
+        Status::Done => sent == whole,
+        _ => status == fault_of(call) && whole.starts_with(sent),
+    }
+}
 
 /// The nth call of a kind fails, and a session over the disk as it is then gives the rest. Answers whether it failed.
 fn failed_at<Rt: Abort + AllocGlobal + Threads + Sync>(
     rt: &Rt,
     whole: &Session,
+    empty: &[u8],
     way: Way,
     call: Call,
     nth: u64,
 ) -> Result<bool, Fail> {
-    let disk = fresh(rt.alloc(), 100)?;
-    let mut host = MemoryHost::new(rt.alloc(), &whole.input, &disk)?;
-    host.pieces(way.read.max(1), 7);
-    host.fail(call, nth.max(1))?;
-    let status = serves(rt, &mut host, 1, way.batch, None);
-    assert!(rt; whole.served.starts_with(host.sent()));
-    if status == Status::Done {
-        assert!(rt; whole.served.as_slice() == host.sent());
-        return Ok(false);
-    }
-    assert_eq!(rt; status, fault_of(call));
-    let mut greeted = MemoryHost::new(rt.alloc(), b"", host.disk())?;
-    assert_eq!(rt; serves(rt, &mut greeted, 1, 64, None), Status::Done);
-    let held = Sent::of(rt.alloc(), greeted.sent())?
-        .held
-        .unwrap_or(u64::MAX);
-    assert!(rt; Sent::of(rt.alloc(), host.sent())?.acknowledged <= held);
-    let mut next = MemoryHost::new(rt.alloc(), behind(&whole.input, held), host.disk())?;
-    assert_eq!(rt; serves(rt, &mut next, 1, way.batch, None), Status::Done);
-    assert!(rt; behind(next.sent(), 1) == behind_records(&whole.served, held));
-    Ok(true)
+    let trouble = Trouble::Fails(call, nth);
+    let mut host = host_of(rt.alloc(), Way { trouble, ..way }, &whole.input, empty)?;
+    let status = run(rt, way, &mut host);
+    assert!(rt; is_answered(&whole.served, host.sent(), call, status));
+    expect_rest(rt, whole, way.batch, &host)?;
+    Ok(status != Status::Done)
 }
 
 /// How many calls of a kind fail before a session is undisturbed.
 fn failed_in_turn<Rt: Abort + AllocGlobal + Threads + Sync>(
     rt: &Rt,
     whole: &Session,
+    empty: &[u8],
     way: Way,
     call: Call,
 ) -> Result<u64, Fail> {
     for nth in 1..1_000u64 {
-        if !failed_at(rt, whole, way, call, nth)? {
+        if !failed_at(rt, whole, empty, way, call, nth)? {
             return Ok(nth - 1);
         }
     }
     Ok(1_000)
+}
+
+/// Each call of each kind of a session that is run so fails in turn.
+fn fail_in_turn<Rt: Abort + AllocGlobal + Threads + Sync>(
+    rt: &Rt,
+    whole: &Session,
+    empty: &[u8],
+    way: Way,
+) -> Result<(), Fail> {
+    for (call, least) in CALLS {
+        let failed = failed_in_turn(rt, whole, empty, way, call)?;
+        assert!(rt; failed >= least && failed < 1_000);
+    }
+    Ok(())
 }
 
 #[test]
@@ -116,18 +143,9 @@ fn each_failing_call_has_its_status_and_the_next_session_gives_the_rest(
     rt: HostRuntime,
 ) -> Result<(), Fail> {
     let whole = reopened_day(rt.alloc())?;
+    let empty = fresh(rt.alloc(), 100)?;
     for way in WAYS {
-        for (call, least) in [
-            (Call::Read, 2),
-            (Call::Send, 60),
-            (Call::Len, 1),
-            (Call::DiskRead, 1),
-            (Call::Write, 2),
-            (Call::Sync, 3),
-        ] {
-            let failed = failed_in_turn(&rt, &whole, way, call)?;
-            assert!(rt; failed >= least && failed < 1_000);
-        }
+        fail_in_turn(&rt, &whole, &empty, way)?;
     }
     Ok(())
 }
@@ -137,36 +155,48 @@ fn all_that_one_read_gave_is_answered_before_the_next_read_fails(
     rt: HostRuntime,
 ) -> Result<(), Fail> {
     let whole = reopened_day(rt.alloc())?;
+    let empty = fresh(rt.alloc(), 100)?;
     for batch in [1, 2, 64] {
-        let mut host = MemoryHost::new(rt.alloc(), &whole.input, &fresh(rt.alloc(), 100)?)?;
-        host.fail(Call::Read, 2)?;
-        assert_eq!(rt; serves(&rt, &mut host, 1, batch, None), Status::ReadFault);
-        assert!(rt; host.sent() == whole.served.as_slice());
+        let way = Way {
+            batch,
+            trouble: Trouble::Fails(Call::Read, 2),
+            ..SERVE
+        };
+        expect(
+            &rt,
+            way,
+            &whole.input,
+            &empty,
+            Status::ReadFault,
+            &whole.served,
+        )?;
     }
     Ok(())
 }
 
+/// A session that may read 21 bytes answers the frames in them, and is full.
+fn expect_full<Rt: Abort + AllocGlobal + Threads + Sync>(
+    rt: &Rt,
+    input: &[u8],
+    served: &[u8],
+) -> Result<(), Fail> {
+    let empty = fresh(rt.alloc(), 100)?;
+    let way = Way { bytes: 21, ..SERVE };
+    expect(rt, way, input, &empty, Status::SessionFull, served)
+}
+
 #[test]
 fn the_frames_before_the_most_bytes_are_answered(rt: HostRuntime) -> Result<(), Fail> {
-    let alloc = rt.alloc();
     let t = at(10, 0, 0);
-    let lines = [
-        day(3),
-        tick(t, 465_001),
-        tick(t, 465_000),
-        breaker(Level::One, 465_000),
-    ];
-    let whole = Session::of(alloc, &lines)?;
-    let first = Session::of(alloc, &[day(3)])?;
-    let mut host = MemoryHost::new(alloc, &whole.input, &fresh(alloc, 100)?)?;
-    let options = ServeOptions {
-        from: None,
-        workers: 1,
-        batch: 64,
-        bytes: 21,
-    };
-    let status = serve(&rt, alloc, &mut host, &OpenGate, &options);
-    assert_eq!(rt; status, Status::SessionFull);
-    assert!(rt; host.sent() == first.served.as_slice());
-    Ok(())
+    let first = Session::of(rt.alloc(), &[day(3)])?;
+    let whole = Session::of(
+        rt.alloc(),
+        &[
+            day(3),
+            tick(t, 465_001),
+            tick(t, 465_000),
+            breaker(Level::One, 465_000),
+        ],
+    )?;
+    expect_full(&rt, &whole.input, &first.served)
 }

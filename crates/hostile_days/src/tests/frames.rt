@@ -1,8 +1,8 @@
 // Bodies that say no record, as `decode` reads them and as both commands answer them.
-use super::sent::Sent;
-use super::{fresh, replays, serves};
+use super::sent::told;
+use super::{REPLAY, SERVE, Way, expect, fresh, ran};
+use Kind::{Cancel, Clock, Day, IndexTick, Indication, Listing, Notice, Quote, Trade};
 use host_core::Status;
-use memory_host::MemoryHost;
 use std::alloc::Global;
 use std::process::Abort;
 use std::test::Fail;
@@ -33,51 +33,103 @@ const NOTICE: &[u8] = b"\x08\0\0\x20\xbd\xe7\x36\x40\0\0\0\x01";
 
 const INDICATION: &[u8] = b"\x09\0\0\x20\xbd\xe7\x36\x40\0\0\0\0\0\0\0\0\x07\xa1\x20\0";
 
-/// 86,400,000,000,000, 100,000,000,000 and 100,000,000: the least moment, price and index value above the range.
-const LATE: &[u8] = b"\0\0\x4e\x94\x91\x4f\0\0";
+#[derive(Clone, Copy)]
+enum Kind {
+    Day,
+    Listing,
+    Trade,
+    Cancel,
+    Quote,
+    IndexTick,
+    Clock,
+    Notice,
+    Indication,
+}
 
-const DEAR: &[u8] = b"\0\0\0\x17\x48\x76\xe8\0";
+const KINDS: [Kind; 9] = [
+    Day, Listing, Trade, Cancel, Quote, IndexTick, Clock, Notice, Indication,
+];
 
-const HIGH: &[u8] = b"\x05\xf5\xe1\0";
+/// The least moment, price and index value above the range.
+const LATE: u64 = 86_400_000_000_000;
 
-/// The greatest value of any field.
-const ONES: &[u8] = b"\xff\xff\xff\xff\xff\xff\xff\xff";
+const DEAR: u64 = 100_000_000_000;
 
-const ZEROS: &[u8] = b"\0\0\0\0\0\0\0\0";
+const HIGH: u64 = 100_000_000;
 
-/// A stream of frames that are all refused, and the answers to them.
+/// More ones than any body of a kind has bytes, and as many zeros as the longest body has.
+const ONES: [u8; 64] = [255; 64];
+
+const ZEROS: [u8; 255] = [0; 255];
+
+/// A body of that kind.
+fn body_of(kind: Kind) -> &'static [u8] {
+    match kind {
+        Day => DAY,
+        Listing => LISTING,
+        Trade => TRADE,
+        Cancel => CANCEL,
+        Quote => QUOTE,
+        IndexTick => INDEX_TICK,
+        Clock => CLOCK,
+        Notice => NOTICE,
+        Indication => INDICATION,
+    }
+}
+
+/// A stream of frames that are all refused, and what a session sends for it.
 #[derive(Drop)]
 struct Refusals {
     input: Vec<u8>,
-    answers: Vec<u8>,
+    sent: Vec<u8>,
     count: u64,
 }
 
-impl Refusals {
-    fn new(alloc: Global) -> Refusals {
-        Refusals {
-            input: Vec::new(alloc),
-            answers: Vec::new(alloc),
-            count: 0,
+/// A body with other bytes at an offset.
+fn overwritten(alloc: Global, body: &[u8], at: usize, bytes: &[u8]) -> Result<Vec<u8>, Fail> {
+    let mut all = Vec::from_slice(alloc, body)?;
+    for (i, byte) in bytes.iter().enumerate() {
+        if let Some(to) = all.get_mut(at.wrapping_add(i)) {
+            *to = *byte;
         }
+    }
+    Ok(all)
+}
+
+impl Refusals {
+    /// No frame, and the greeting of an empty journal.
+    fn new(alloc: Global) -> Result<Refusals, Fail> {
+        let mut refusals = Refusals {
+            input: Vec::new(alloc),
+            sent: Vec::new(alloc),
+            count: 0,
+        };
+        refusals.send(&Frame::Hello {
+            inputs: 0,
+            messages: 0,
+        })?;
+        Ok(refusals)
+    }
+
+    fn send(&mut self, frame: &Frame) -> Result<(), Fail> {
+        let mut cell = [0; 64];
+        let len = put_frame(frame, &mut cell);
+        self.sent.extend_from_slice(&cell[..len])?;
+        Ok(())
     }
 
     /// A frame of this body, which is refused so.
     fn add<R: Abort>(&mut self, rt: &R, body: &[u8], refusal: Refusal) -> Result<(), Fail> {
         let body = &body[..body.len().min(255)];
-        assert!(rt; decode(body) == Err(refusal), "{:?}", body);
+        assert!(rt; decode(body) == Err(refusal), "frame {}", self.count);
         self.input.push(body.len() as u8)?;
         self.input.extend_from_slice(body)?;
         self.count = self.count.saturating_add(1);
-        let answer = Frame::Refused {
+        self.send(&Frame::Refused {
             frame_number: self.count,
             code: refusal.code(),
             field: refusal.field(),
-        };
-        let mut cell = [0; 64];
-        let len = put_frame(&answer, &mut cell);
-        self.answers.extend_from_slice(&cell[..len])?;
-        Ok(())
+        })
     }
 
     /// A frame of a body that has other bytes at an offset.
@@ -93,6 +145,38 @@ impl Refusals {
         self.add(rt, &changed, refusal)
     }
 
+    /// A frame of that kind whose bytes at an offset say a value outside the range of their field.
+    fn write<R: Abort + AllocGlobal>(
+        &mut self,
+        rt: &R,
+        kind: Kind,
+        at: usize,
+        width: usize,
+        value: u64,
+        field: u8,
+    ) -> Result<(), Fail> {
+        let bytes = value.to_be_bytes();
+        let last = &bytes[8 - width.min(8)..];
+        self.change(rt, body_of(kind), at, last, Refusal::BadField(field))
+    }
+
+    /// Frames of a body that is a byte shorter, of its type alone, and of a body that is a byte longer.
+    fn resize<R: Abort + AllocGlobal>(&mut self, rt: &R, body: &[u8]) -> Result<(), Fail> {
+        let shorter = &body[..body.len().saturating_sub(1)];
+        self.add(rt, shorter, Refusal::BadLength)?;
+        self.add(rt, &body[..body.len().min(1)], Refusal::BadLength)?;
+        let longer = [body, b"\0".as_slice()].concat(rt.alloc())?;
+        self.add(rt, &longer, Refusal::BadLength)
+    }
+
+    /// Frames of several lengths of a type that is none.
+    fn misname<R: Abort + AllocGlobal>(&mut self, rt: &R, kind: u8) -> Result<(), Fail> {
+        for len in [1, 9, 19, 35, 255usize] {
+            self.change(rt, &ZEROS[..len.min(255)], 0, &[kind], Refusal::UnknownType)?;
+        }
+        Ok(())
+    }
+
     /// A frame of a body whose bytes are ones from an offset on, so that each field there with a range is outside of it; and
     /// such frames with a bad length, which comes before a bad field, and with an unknown type, which comes before both.
     fn spoil<R: Abort + AllocGlobal>(
@@ -102,164 +186,170 @@ impl Refusals {
         at: usize,
         field: u8,
     ) -> Result<(), Fail> {
-        let ones = vec![in rt.alloc(); 255_u8; body.len()]?;
-        let rest = ones.get(at..).unwrap_or(&[]);
-        let longer = [body, rest].concat(rt.alloc())?;
+        let rest = &ONES[..body.len().saturating_sub(at).min(64)];
         self.change(rt, body, at, rest, Refusal::BadField(field))?;
+        let longer = [body, rest].concat(rt.alloc())?;
         self.add(rt, &longer, Refusal::BadLength)?;
         self.change(rt, &longer, 0, b"\0", Refusal::UnknownType)
+    }
+
+    /// A replay answers the stream so, in pieces of a size.
+    fn expect_replayed<Rt: Abort + AllocGlobal + Threads + Sync>(
+        &self,
+        rt: &Rt,
+        read: u32,
+    ) -> Result<(), Fail> {
+        let way = Way {
+            read,
+            send: 64,
+            ..REPLAY
+        };
+        let answers = self.sent.get(18..).unwrap_or(&[]);
+        expect(rt, way, &self.input, b"", Status::Done, answers)
+    }
+
+    /// A session answers the stream so, in pieces of a size, and an empty journal stays as it is.
+    fn expect_served<Rt: Abort + AllocGlobal + Threads + Sync>(
+        &self,
+        rt: &Rt,
+        read: u32,
+        empty: &[u8],
+    ) -> Result<(), Fail> {
+        let way = Way {
+            read,
+            send: 64,
+            ..SERVE
+        };
+        let host = ran(rt, way, &self.input, empty, Status::Done)?;
+        let sent = told(host.sent());
+        let is_told = sent.held == Some(0) && sent.refused == self.count;
+        assert!(rt; is_told && host.sent() == self.sent.as_slice() && host.disk() == empty);
+        Ok(())
     }
 
     /// Both commands answer the stream so, in pieces of each size.
     fn expect<Rt: Abort + AllocGlobal + Threads + Sync>(&self, rt: &Rt) -> Result<(), Fail> {
         let empty = fresh(rt.alloc(), 9)?;
-        for read in [1u32, 7, 300, 65_536] {
-            let mut host = MemoryHost::new(rt.alloc(), &self.input, b"")?;
-            host.pieces(read.max(1), 64);
-            assert_eq!(rt; replays(rt, &mut host, 1), Status::Done);
-            assert!(rt; host.sent() == self.answers.as_slice());
-            let mut host = MemoryHost::new(rt.alloc(), &self.input, &empty)?;
-            host.pieces(read.max(1), 64);
-            assert_eq!(rt; serves(rt, &mut host, 1, 64, None), Status::Done);
-            assert!(rt; host.sent().get(18..) == Some(self.answers.as_slice()));
-            assert!(rt; host.disk() == empty.as_slice());
-            let sent = Sent::of(rt.alloc(), host.sent())?;
-            assert!(rt; sent.held == Some(0) && sent.refused == self.count);
+        for read in [1, 7, 300, 65_536] {
+            self.expect_replayed(rt, read)?;
+            self.expect_served(rt, read, &empty)?;
         }
         Ok(())
     }
-}
-
-/// A body with other bytes at an offset.
-fn overwritten(alloc: Global, body: &[u8], at: usize, bytes: &[u8]) -> Result<Vec<u8>, Fail> {
-    let mut all = Vec::from_slice(alloc, body)?;
-    for (i, byte) in bytes.iter().enumerate() {
-        if let Some(to) = all.get_mut(at.wrapping_add(i)) {
-            *to = *byte;
-        }
-    }
-    Ok(all)
 }
 
 #[test]
 fn a_body_of_each_type_that_is_a_byte_shorter_or_longer_has_a_bad_length(
     rt: HostRuntime,
 ) -> Result<(), Fail> {
-    let mut refusals = Refusals::new(rt.alloc());
+    let mut refusals = Refusals::new(rt.alloc())?;
     refusals.add(&rt, &[], Refusal::BadLength)?;
-    for body in [
-        DAY, LISTING, TRADE, CANCEL, QUOTE, INDEX_TICK, CLOCK, NOTICE, INDICATION,
-    ] {
+    for kind in KINDS {
+        let body = body_of(kind);
         assert!(rt; decode(&body[..body.len().min(255)]).is_ok());
-        let shorter = &body[..body.len().saturating_sub(1)];
-        refusals.add(&rt, shorter, Refusal::BadLength)?;
-        let longer = [body, b"\0".as_slice()].concat(rt.alloc())?;
-        refusals.add(&rt, &longer, Refusal::BadLength)?;
-        refusals.add(&rt, &body[..body.len().min(1)], Refusal::BadLength)?;
+        refusals.resize(&rt, body)?;
     }
     refusals.expect(&rt)
 }
 
 #[test]
 fn a_type_that_is_none_is_refused_at_any_length(rt: HostRuntime) -> Result<(), Fail> {
-    let mut refusals = Refusals::new(rt.alloc());
+    let mut refusals = Refusals::new(rt.alloc())?;
     for kind in [0, 10, 17, 129, 255u8] {
-        for len in [1, 9, 19, 35, 255usize] {
-            let mut body = vec![in rt.alloc(); 0_u8; len]?;
-            if let Some(first) = body.first_mut() {
-                *first = kind;
-            }
-            refusals.add(&rt, &body, Refusal::UnknownType)?;
-        }
+        refusals.misname(&rt, kind)?;
     }
     refusals.expect(&rt)
 }
+
+/// Kinds, offsets, how many bytes say a value there, values outside the range, and the fields.
+const OUTSIDE: [(Kind, usize, usize, u64, u8); 35] = [
+    (Day, 9, 2, 1999, 2),
+    (Day, 9, 2, 2100, 2),
+    (Day, 11, 1, 0, 3),
+    (Day, 11, 1, 13, 3),
+    (Day, 12, 1, 0, 4),
+    (Day, 12, 1, 31, 4),
+    (Day, 11, 2, 0x02_1e, 4),
+    (Day, 13, 1, 0, 5),
+    (Day, 13, 1, 3, 5),
+    (Day, 14, 1, 0, 6),
+    (Day, 14, 1, 3, 6),
+    (Day, 15, 4, 0, 7),
+    (Day, 15, 4, HIGH, 7),
+    (Listing, 9, 8, 0, 2),
+    (Listing, 9, 1, 0x20, 2),
+    (Listing, 9, 1, 0x7f, 2),
+    (Listing, 10, 1, 0, 2),
+    (Listing, 16, 1, 0x44, 2),
+    (Listing, 17, 1, 0, 3),
+    (Listing, 17, 1, 3, 3),
+    (Listing, 18, 1, 9, 4),
+    (Listing, 18, 1, 51, 4),
+    (Listing, 19, 8, DEAR, 5),
+    (Trade, 15, 8, 0, 4),
+    (Trade, 15, 8, DEAR, 4),
+    (Trade, 27, 2, 1024, 6),
+    (Quote, 11, 8, DEAR, 3),
+    (Quote, 19, 8, DEAR, 4),
+    (IndexTick, 9, 4, 0, 2),
+    (IndexTick, 9, 4, HIGH, 2),
+    (Notice, 11, 1, 0, 3),
+    (Notice, 11, 1, 5, 3),
+    (Indication, 11, 8, 0, 3),
+    (Indication, 11, 8, DEAR, 3),
+    (Indication, 19, 1, 3, 4),
+];
 
 #[test]
 fn a_value_outside_the_range_of_its_field_is_told_with_the_field(
     rt: HostRuntime,
 ) -> Result<(), Fail> {
-    let mut refusals = Refusals::new(rt.alloc());
-    for body in [
-        DAY, LISTING, TRADE, CANCEL, QUOTE, INDEX_TICK, CLOCK, NOTICE, INDICATION,
-    ] {
-        refusals.change(&rt, body, 1, LATE, Refusal::BadField(1))?;
-        refusals.change(&rt, body, 1, ONES, Refusal::BadField(1))?;
+    let mut refusals = Refusals::new(rt.alloc())?;
+    for kind in KINDS {
+        refusals.write(&rt, kind, 1, 8, LATE, 1)?;
+        refusals.write(&rt, kind, 1, 8, u64::MAX, 1)?;
     }
-    for (body, at, bytes, field) in [
-        (DAY, 9, b"\x07\xcf".as_slice(), 2),
-        (DAY, 9, b"\x08\x34", 2),
-        (DAY, 11, b"\0", 3),
-        (DAY, 11, b"\x0d", 3),
-        (DAY, 12, b"\0", 4),
-        (DAY, 12, b"\x1f", 4),
-        (DAY, 11, b"\x02\x1e", 4),
-        (DAY, 13, b"\0", 5),
-        (DAY, 13, b"\x03", 5),
-        (DAY, 14, b"\0", 6),
-        (DAY, 14, b"\x03", 6),
-        (DAY, 15, b"\0\0\0\0", 7),
-        (DAY, 15, HIGH, 7),
-        (LISTING, 9, ZEROS, 2),
-        (LISTING, 9, b"\x20", 2),
-        (LISTING, 9, b"\x7f", 2),
-        (LISTING, 10, b"\0", 2),
-        (LISTING, 16, b"D", 2),
-        (LISTING, 17, b"\0", 3),
-        (LISTING, 17, b"\x03", 3),
-        (LISTING, 18, b"\x09", 4),
-        (LISTING, 18, b"\x33", 4),
-        (LISTING, 19, DEAR, 5),
-        (TRADE, 15, ZEROS, 4),
-        (TRADE, 15, DEAR, 4),
-        (TRADE, 27, b"\x04\0", 6),
-        (QUOTE, 11, DEAR, 3),
-        (QUOTE, 19, DEAR, 4),
-        (INDEX_TICK, 9, b"\0\0\0\0", 2),
-        (INDEX_TICK, 9, HIGH, 2),
-        (NOTICE, 11, b"\0", 3),
-        (NOTICE, 11, b"\x05", 3),
-        (INDICATION, 11, ZEROS, 3),
-        (INDICATION, 11, DEAR, 3),
-        (INDICATION, 19, b"\x03", 4),
-    ] {
-        refusals.change(&rt, body, at, bytes, Refusal::BadField(field))?;
+    for (kind, at, width, value, field) in OUTSIDE {
+        refusals.write(&rt, kind, at, width, value, field)?;
     }
     refusals.expect(&rt)
 }
 
+/// Kinds, the first byte of a field with a range, and the field.
+const FIRST_FAULTS: [(Kind, usize, u8); 26] = [
+    (Day, 1, 1),
+    (Day, 9, 2),
+    (Day, 11, 3),
+    (Day, 12, 4),
+    (Day, 13, 5),
+    (Day, 14, 6),
+    (Day, 15, 7),
+    (Listing, 1, 1),
+    (Listing, 9, 2),
+    (Listing, 17, 3),
+    (Listing, 18, 4),
+    (Listing, 19, 5),
+    (Trade, 1, 1),
+    (Trade, 9, 4),
+    (Trade, 23, 6),
+    (Cancel, 1, 1),
+    (Quote, 1, 1),
+    (Quote, 9, 3),
+    (Quote, 19, 4),
+    (IndexTick, 1, 1),
+    (IndexTick, 9, 2),
+    (Notice, 1, 1),
+    (Notice, 9, 3),
+    (Indication, 1, 1),
+    (Indication, 9, 3),
+    (Indication, 19, 4),
+];
+
 #[test]
 fn of_several_faults_the_first_is_told(rt: HostRuntime) -> Result<(), Fail> {
-    let mut refusals = Refusals::new(rt.alloc());
-    for (body, at, field) in [
-        (DAY, 1, 1),
-        (DAY, 9, 2),
-        (DAY, 11, 3),
-        (DAY, 12, 4),
-        (DAY, 13, 5),
-        (DAY, 14, 6),
-        (DAY, 15, 7),
-        (LISTING, 1, 1),
-        (LISTING, 9, 2),
-        (LISTING, 17, 3),
-        (LISTING, 18, 4),
-        (LISTING, 19, 5),
-        (TRADE, 1, 1),
-        (TRADE, 9, 4),
-        (TRADE, 23, 6),
-        (CANCEL, 1, 1),
-        (QUOTE, 1, 1),
-        (QUOTE, 9, 3),
-        (QUOTE, 19, 4),
-        (INDEX_TICK, 1, 1),
-        (INDEX_TICK, 9, 2),
-        (NOTICE, 1, 1),
-        (NOTICE, 9, 3),
-        (INDICATION, 1, 1),
-        (INDICATION, 9, 3),
-        (INDICATION, 19, 4),
-    ] {
-        refusals.spoil(&rt, body, at, field)?;
+    let mut refusals = Refusals::new(rt.alloc())?;
+    for (kind, at, field) in FIRST_FAULTS {
+        refusals.spoil(&rt, body_of(kind), at, field)?;
     }
     refusals.expect(&rt)
 }

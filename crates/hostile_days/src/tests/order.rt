@@ -1,7 +1,6 @@
 // Which refusal is told of a frame that may not follow for several reasons.
-use super::{fresh, serves};
+use super::{SERVE, Way, expect, fresh};
 use host_core::Status;
-use memory_host::MemoryHost;
 use price_core::Tier;
 use std::process::Abort;
 use std::test::Fail;
@@ -18,17 +17,28 @@ const FREE_TRADE: &[u8] =
     b"\x1d\x03\0\0\x1f\x1a\xce\xd9\xf0\0\0\x07\0\0\0\x01\0\0\0\0\0\0\0\0\0\0\0\x64\0\0";
 
 /// A journal for so many records answers the lines as they say, in batches of at most so many, by one worker and by two.
-fn expect<Rt: Abort + AllocGlobal + Threads + Sync>(
+fn expect_lines<Rt: Abort + AllocGlobal + Threads + Sync>(
     rt: &Rt,
     limit: u64,
     batch: u32,
     lines: &[Line],
 ) -> Result<(), Fail> {
     let session = Session::of(rt.alloc(), lines)?;
+    let empty = fresh(rt.alloc(), limit)?;
     for workers in [1, 2] {
-        let mut host = MemoryHost::new(rt.alloc(), &session.input, &fresh(rt.alloc(), limit)?)?;
-        assert_eq!(rt; serves(rt, &mut host, workers, batch, None), Status::Done);
-        assert!(rt; host.sent() == session.served.as_slice());
+        let way = Way {
+            workers,
+            batch,
+            ..SERVE
+        };
+        expect(
+            rt,
+            way,
+            &session.input,
+            &empty,
+            Status::Done,
+            &session.served,
+        )?;
     }
     Ok(())
 }
@@ -72,14 +82,13 @@ fn of_several_reasons_to_refuse_the_one_with_the_least_code_is_told(
         day(4),
         refused(Refusal::JournalFull),
     ];
-    expect(&rt, 3, 1, &lines)?;
-    expect(&rt, 3, 64, &lines)
+    expect_lines(&rt, 3, 1, &lines)?;
+    expect_lines(&rt, 3, 64, &lines)
 }
 
-/// A day and listings of all 16,384 names that a directory takes, and then other listings.
-fn all_names<R: AllocGlobal>(rt: &R) -> Result<Vec<Line>, Fail> {
+/// Adds a day and listings of all 16,384 names that a directory takes, and then other listings.
+fn add_all_names(lines: &mut Vec<Line>) -> Result<(), Fail> {
     let t = at(5, 0, 0);
-    let mut lines = Vec::new(rt.alloc());
     lines.extend_from_slice(&[day(3)])?;
     for symbol in 0..16_384u16 {
         let name = name_of(symbol);
@@ -96,10 +105,12 @@ fn all_names<R: AllocGlobal>(rt: &R) -> Result<Vec<Line>, Fail> {
         clock(t),
         refused(Refusal::JournalFull),
     ])?;
-    Ok(lines)
+    Ok(())
 }
 
 #[test]
 fn a_full_directory_is_told_before_a_full_journal(rt: HostRuntime) -> Result<(), Fail> {
-    expect(&rt, 16_385, 64, &all_names(&rt)?)
+    let mut lines = Vec::new(rt.alloc());
+    add_all_names(&mut lines)?;
+    expect_lines(&rt, 16_385, 64, &lines)
 }

@@ -20,51 +20,55 @@ pub fn behind(stream: &[u8], frames: u64) -> &[u8] {
     rest
 }
 
-/// What was sent, up to the last whole frame.
-#[derive(Drop)]
+/// The body of a frame.
+pub fn body_of(frame: &[u8]) -> &[u8] {
+    frame.get(1..).unwrap_or(&[])
+}
+
+/// What was sent tells, up to the last whole frame.
+#[derive(Clone, Copy)]
 pub struct Sent {
     /// How many records the last greeting tells of.
     pub held: Option<u64>,
     /// The number of the last record that was acknowledged; 0 where none was.
     pub acknowledged: u64,
-    /// The frames of the numbered messages, and how many there are.
-    pub messages: Vec<u8>,
-    pub count: u64,
     /// How many frames were refused.
     pub refused: u64,
 }
 
-impl Sent {
-    fn add(&mut self, frame: &[u8], body: &[u8]) -> Result<(), Fail> {
-        match get_frame(body) {
-            Ok(Frame::Hello { inputs, .. }) => self.held = Some(inputs),
-            Ok(Frame::Ack { input }) => self.acknowledged = input,
-            Ok(Frame::Refused { .. }) => self.refused = self.refused.saturating_add(1),
-            Ok(Frame::Numbered { .. }) => {
-                self.messages.extend_from_slice(frame)?;
-                self.count = self.count.saturating_add(1);
+/// What a stream tells.
+pub fn told(stream: &[u8]) -> Sent {
+    let mut sent = Sent {
+        held: None,
+        acknowledged: 0,
+        refused: 0,
+    };
+    let mut rest = stream;
+    for _ in 0..stream.len() {
+        if let Some((frame, after)) = first_frame(rest) {
+            match get_frame(body_of(frame)) {
+                Ok(Frame::Hello { inputs, .. }) => sent.held = Some(inputs),
+                Ok(Frame::Ack { input }) => sent.acknowledged = input,
+                Ok(Frame::Refused { .. }) => sent.refused = sent.refused.saturating_add(1),
+                _ => {}
             }
-            Err(_) => {}
+            rest = after;
         }
-        Ok(())
     }
+    sent
+}
 
-    /// What these bytes say.
-    pub fn of(alloc: Global, stream: &[u8]) -> Result<Sent, Fail> {
-        let mut sent = Sent {
-            held: None,
-            acknowledged: 0,
-            messages: Vec::new(alloc),
-            count: 0,
-            refused: 0,
-        };
-        let mut rest = stream;
-        for _ in 0..stream.len() {
-            if let Some((frame, after)) = first_frame(rest) {
-                sent.add(frame, frame.get(1..).unwrap_or(&[]))?;
-                rest = after;
+/// The frames of the numbered messages of a stream.
+pub fn messages(alloc: Global, stream: &[u8]) -> Result<Vec<u8>, Fail> {
+    let mut messages = Vec::new(alloc);
+    let mut rest = stream;
+    for _ in 0..stream.len() {
+        if let Some((frame, after)) = first_frame(rest) {
+            if matches!(get_frame(body_of(frame)), Ok(Frame::Numbered { .. })) {
+                messages.extend_from_slice(frame)?;
             }
+            rest = after;
         }
-        Ok(sent)
     }
+    Ok(messages)
 }

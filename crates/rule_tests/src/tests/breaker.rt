@@ -1,97 +1,125 @@
+use super::script::{Step, play};
+use super::values::{day, moment};
+use Event::{Start, Stopped, Time, Value};
 use breaker_core::Breaker;
 use price_core::Index;
-use session_core::{Close, Date, Day, Level, Moment, Profile};
-use std::test::Fail;
+use session_core::Close::{self, Early, Regular};
+use session_core::Level;
+use std::process::Abort;
 
-fn day(close: Close) -> Result<Day, Fail> {
-    Ok(Day {
-        date: Date::of(2024, 6, 3)?,
-        close,
-        profile: Profile::Since18,
-    })
+/// What comes to the circuit breakers of a day after an index close of 5000.00, with the wanted answer. Times are nanoseconds
+/// of the day, and index values are in hundredths of a point.
+#[derive(Clone, Copy)]
+enum Event {
+    /// The day begins.
+    Start,
+    /// An index value at a time of a day with that close, and the level that it declares.
+    Value(Close, u64, u32, Option<Level>),
+    /// A time comes: whether a halt ends.
+    Time(u64, bool),
+    /// Whether a halt is in effect.
+    Stopped(bool),
 }
 
-/// A time of the day, and nanoseconds after it.
-fn at(hour: u8, minute: u8, second: u8, nanos: u32) -> Result<Moment, Fail> {
-    let minutes = u64::from(hour) * 60 + u64::from(minute);
-    let seconds = minutes * 60 + u64::from(second);
-    Ok(Moment::new(seconds * 1_000_000_000 + u64::from(nanos))?)
+/// An index value in hundredths of a point.
+fn index<R: Abort>(rt: &R, hundredths: u32) -> Index {
+    Index::new(hundredths).expect(rt, "an index value")
 }
 
-/// A breaker of a day after an index close of 5000.00.
-fn breaker() -> Result<Breaker, Fail> {
-    Ok(Breaker::start(Index::new(500_000)?))
+fn start<R: Abort>(rt: &R) -> Breaker {
+    Breaker::start(index(rt, 500_000))
 }
 
-fn index(hundredths: u32) -> Result<Index, Fail> {
-    Ok(Index::new(hundredths)?)
-}
-
-#[test]
-fn a_level_is_reached_at_its_percentage(rt: HostRuntime) -> Result<(), Fail> {
-    let day = day(Close::Regular)?;
-    for (value, want) in [
-        (465_001, None),
-        (465_000, Some(Level::One)),
-        (435_001, Some(Level::One)),
-        (435_000, Some(Level::Two)),
-        (400_001, Some(Level::Two)),
-        (400_000, Some(Level::Three)),
-    ] {
-        let mut breaker = breaker()?;
-        assert_eq!(rt;
-            breaker.index(at(10, 0, 0, 0)?, index(value)?, &day),
-            want,
-            "at {value}"
-        );
-        assert_eq!(rt; breaker.stopped(), want.is_some(), "at {value}");
+impl Step<Breaker> for Event {
+    fn holds<R: Abort>(&self, rt: &R, breaker: &mut Breaker) -> bool {
+        match *self {
+            Start => {
+                *breaker = start(rt);
+                true
+            }
+            Value(close, nanos, value, want) => {
+                breaker.index(moment(rt, nanos), index(rt, value), &day(rt, close)) == want
+            }
+            Time(nanos, want) => breaker.time(moment(rt, nanos)) == want,
+            Stopped(want) => breaker.stopped() == want,
+        }
     }
-    Ok(())
+}
+
+const MINUTE: u64 = 60_000_000_000;
+
+const AT_9_30: u64 = 570 * MINUTE;
+
+const AT_10_00: u64 = 600 * MINUTE;
+
+const AT_12_25: u64 = 745 * MINUTE;
+
+const AT_12_40: u64 = 760 * MINUTE;
+
+const AT_13_00: u64 = 780 * MINUTE;
+
+const AT_15_25: u64 = 925 * MINUTE;
+
+const AT_15_30: u64 = 930 * MINUTE;
+
+const AT_15_40: u64 = 940 * MINUTE;
+
+#[test]
+fn a_level_is_reached_at_its_percentage(rt: HostRuntime) {
+    play(
+        &rt,
+        &mut start(&rt),
+        &[
+            Value(Regular, AT_10_00, 465_001, None),
+            Stopped(false),
+            Start,
+            Value(Regular, AT_10_00, 465_000, Some(Level::One)),
+            Stopped(true),
+            Start,
+            Value(Regular, AT_10_00, 435_001, Some(Level::One)),
+            Stopped(true),
+            Start,
+            Value(Regular, AT_10_00, 435_000, Some(Level::Two)),
+            Stopped(true),
+            Start,
+            Value(Regular, AT_10_00, 400_001, Some(Level::Two)),
+            Stopped(true),
+            Start,
+            Value(Regular, AT_10_00, 400_000, Some(Level::Three)),
+            Stopped(true),
+        ],
+    )
 }
 
 #[test]
-fn a_level_2_halt_of_15_25_ends_at_15_40(rt: HostRuntime) -> Result<(), Fail> {
-    let day = day(Close::Regular)?;
-    let mut breaker = breaker()?;
-    assert_eq!(rt;
-        breaker.index(at(15, 25, 0, 0)?, index(435_000)?, &day),
-        Some(Level::Two)
-    );
-    assert_eq!(rt;
-        breaker.index(at(15, 30, 0, 0)?, index(400_000)?, &day),
-        None
-    );
-    assert!(rt; !breaker.time(at(15, 39, 59, 999_999_999)?));
-    assert!(rt; breaker.stopped());
-    assert!(rt; breaker.time(at(15, 40, 0, 0)?));
-    assert!(rt; !breaker.stopped());
-    assert!(rt; !breaker.time(at(15, 40, 0, 0)?));
-    Ok(())
+fn a_level_2_halt_of_15_25_ends_at_15_40(rt: HostRuntime) {
+    play(
+        &rt,
+        &mut start(&rt),
+        &[
+            Value(Regular, AT_15_25, 435_000, Some(Level::Two)),
+            Value(Regular, AT_15_30, 400_000, None),
+            Time(AT_15_40 - 1, false),
+            Stopped(true),
+            Time(AT_15_40, true),
+            Stopped(false),
+            Time(AT_15_40, false),
+        ],
+    )
 }
 
 #[test]
-fn an_early_close_moves_the_last_moments(rt: HostRuntime) -> Result<(), Fail> {
-    let day = day(Close::Early)?;
-    let mut breaker = breaker()?;
-    assert_eq!(rt;
-        breaker.index(at(9, 29, 59, 999_999_999)?, index(400_000)?, &day),
-        None
-    );
-    assert_eq!(rt;
-        breaker.index(at(12, 25, 0, 1)?, index(435_000)?, &day),
-        None
-    );
-    assert_eq!(rt;
-        breaker.index(at(12, 25, 0, 0)?, index(435_000)?, &day),
-        Some(Level::Two)
-    );
-    assert!(rt; breaker.time(at(12, 40, 0, 0)?));
-    assert_eq!(rt;
-        breaker.index(at(13, 0, 0, 0)?, index(400_000)?, &day),
-        None
-    );
-    assert!(rt;
-        breaker.index(at(12, 59, 59, 999_999_999)?, index(400_000)?, &day) == Some(Level::Three)
-    );
-    Ok(())
+fn an_early_close_moves_the_last_moments(rt: HostRuntime) {
+    play(
+        &rt,
+        &mut start(&rt),
+        &[
+            Value(Early, AT_9_30 - 1, 400_000, None),
+            Value(Early, AT_12_25 + 1, 435_000, None),
+            Value(Early, AT_12_25, 435_000, Some(Level::Two)),
+            Time(AT_12_40, true),
+            Value(Early, AT_13_00, 400_000, None),
+            Value(Early, AT_13_00 - 1, 400_000, Some(Level::Three)),
+        ],
+    )
 }

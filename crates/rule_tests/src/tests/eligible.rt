@@ -1,77 +1,98 @@
+use super::script::{Step, check};
+use super::values::{day, moment};
+use Row::{Eligible, Opening, Says};
 use eligible_core::{Condition, eligible, opening};
-use session_core::{Close, Date, Day, Moment, Profile};
-use std::test::Fail;
+use session_core::Close;
+use std::process::Abort;
 
-fn day(close: Close) -> Result<Day, Fail> {
-    Ok(Day {
-        date: Date::of(2024, 6, 3)?,
-        close,
-        profile: Profile::Since18,
-    })
+/// A row with the wanted answer.
+#[derive(Clone, Copy)]
+enum Row {
+    /// Whether a trade counts: the close of its day, its second of the day and its condition bits.
+    Eligible(Close, u64, u16, bool),
+    /// Whether a trade with these condition bits is one of an opening.
+    Opening(u16, bool),
+    /// What the condition bit of a number says.
+    Says(u32, Condition),
 }
 
-/// The moment of a second of the day.
-fn at(seconds: u64) -> Result<Moment, Fail> {
-    Ok(Moment::new(seconds.wrapping_mul(1_000_000_000))?)
+impl Step<()> for Row {
+    fn holds<R: Abort>(&self, rt: &R, _: &mut ()) -> bool {
+        match *self {
+            Eligible(close, seconds, flags, want) => {
+                let t = moment(rt, seconds.wrapping_mul(1_000_000_000));
+                flags < 1024 && eligible(flags, t, &day(rt, close)) == want
+            }
+            Opening(flags, want) => opening(flags) == want,
+            Says(bit, want) => bit < 16 && Condition::of(bit) == want,
+        }
+    }
 }
 
 #[test]
-fn seven_of_the_ten_condition_bits_bar_a_trade(rt: HostRuntime) -> Result<(), Fail> {
-    let day = day(Close::Regular)?;
-    for (flags, want) in [
-        (0x0000, true),
-        (0x0001, true),
-        (0x0002, false),
-        (0x0004, false),
-        (0x0008, false),
-        (0x0010, false),
-        (0x0020, false),
-        (0x0040, false),
-        (0x0080, false),
-        (0x0100, true),
-        (0x0200, true),
-        (0x0301, true),
-        (0x0303, false),
-        (0x03ff, false),
-    ] {
-        assert!(rt; flags < 1024);
-        assert_eq!(rt; eligible(flags, at(36_000)?, &day), want, "{flags}");
-    }
-    Ok(())
+fn seven_of_the_ten_condition_bits_bar_a_trade(rt: HostRuntime) {
+    check(
+        &rt,
+        &[
+            Eligible(Close::Regular, 36_000, 0x0000, true),
+            Eligible(Close::Regular, 36_000, 0x0001, true),
+            Eligible(Close::Regular, 36_000, 0x0002, false),
+            Eligible(Close::Regular, 36_000, 0x0004, false),
+            Eligible(Close::Regular, 36_000, 0x0008, false),
+            Eligible(Close::Regular, 36_000, 0x0010, false),
+            Eligible(Close::Regular, 36_000, 0x0020, false),
+            Eligible(Close::Regular, 36_000, 0x0040, false),
+            Eligible(Close::Regular, 36_000, 0x0080, false),
+            Eligible(Close::Regular, 36_000, 0x0100, true),
+            Eligible(Close::Regular, 36_000, 0x0200, true),
+            Eligible(Close::Regular, 36_000, 0x0301, true),
+            Eligible(Close::Regular, 36_000, 0x0303, false),
+            Eligible(Close::Regular, 36_000, 0x03ff, false),
+        ],
+    )
 }
 
 #[test]
-fn a_trade_counts_in_the_session_alone(rt: HostRuntime) -> Result<(), Fail> {
-    for (close, seconds, want) in [
-        (Close::Regular, 34_199, false),
-        (Close::Regular, 34_200, true),
-        (Close::Regular, 57_599, true),
-        (Close::Regular, 57_600, false),
-        (Close::Early, 46_799, true),
-        (Close::Early, 46_800, false),
-    ] {
-        assert_eq!(rt;
-            eligible(0x0100, at(seconds)?, &day(close)?),
-            want,
-            "at {seconds}"
-        );
-    }
-    Ok(())
+fn a_trade_counts_in_the_session_alone(rt: HostRuntime) {
+    check(
+        &rt,
+        &[
+            Eligible(Close::Regular, 34_199, 0x0100, false),
+            Eligible(Close::Regular, 34_200, 0x0100, true),
+            Eligible(Close::Regular, 57_599, 0x0100, true),
+            Eligible(Close::Regular, 57_600, 0x0100, false),
+            Eligible(Close::Early, 46_799, 0x0100, true),
+            Eligible(Close::Early, 46_800, 0x0100, false),
+        ],
+    )
 }
 
 #[test]
 fn the_lowest_bit_marks_an_opening_trade(rt: HostRuntime) {
-    assert!(rt; opening(0x0001));
-    assert!(rt; opening(0x0203));
-    assert!(rt; !opening(0x0000));
-    assert!(rt; !opening(0x03fe));
+    check(
+        &rt,
+        &[
+            Opening(0x0001, true),
+            Opening(0x0203, true),
+            Opening(0x0000, false),
+            Opening(0x03fe, false),
+        ],
+    )
 }
 
 #[test]
 fn the_six_upper_bits_are_not_assigned(rt: HostRuntime) {
-    for bit in 10..16 {
-        assert_eq!(rt; Condition::of(bit), Condition::NotAssigned, "of {bit}");
-    }
-    assert_eq!(rt; Condition::of(9), Condition::BarsNothing);
-    assert_eq!(rt; Condition::of(7), Condition::Bars);
+    check(
+        &rt,
+        &[
+            Says(10, Condition::NotAssigned),
+            Says(11, Condition::NotAssigned),
+            Says(12, Condition::NotAssigned),
+            Says(13, Condition::NotAssigned),
+            Says(14, Condition::NotAssigned),
+            Says(15, Condition::NotAssigned),
+            Says(9, Condition::BarsNothing),
+            Says(7, Condition::Bars),
+        ],
+    )
 }

@@ -1,63 +1,81 @@
+use super::script::{Step, check};
+use super::values::{moment, price};
+use Row::{Expires, Quote};
 use limit_core::{LimitTimer, at_limit, straddles};
 use price_core::{Bands, Price, Quotation, Side};
-use session_core::Moment;
-use std::test::Fail;
+use std::process::Abort;
 
-/// A price, none for 0.
-fn price(units: u64) -> Option<Price> {
-    Price::new(units).ok()
+/// A row with the wanted answer. Prices are in ten-thousandths of a dollar, and times nanoseconds of the day.
+#[derive(Clone, Copy)]
+enum Row {
+    /// A bid and an offer, each 0 for none, at bands of 47.5000 and 52.5000: the side that they're at, and whether they straddle.
+    Quote(u64, u64, Option<Side>, bool),
+    /// Whether a limit state of 10:00:00 has expired at a time.
+    Expires(u64, bool),
 }
 
-fn quote(bid: u64, offer: u64) -> Quotation {
-    Quotation {
-        bid: price(bid),
-        offer: price(offer),
+fn bands<R: Abort>(rt: &R) -> Bands {
+    Bands {
+        lower: price(rt, 475_000),
+        upper: price(rt, 525_000),
+    }
+}
+
+impl Step<()> for Row {
+    fn holds<R: Abort>(&self, rt: &R, _: &mut ()) -> bool {
+        match *self {
+            Quote(bid, offer, side, straddling) => {
+                let bands = bands(rt);
+                let quotation = Quotation {
+                    bid: Price::new(bid).ok(),
+                    offer: Price::new(offer).ok(),
+                };
+                bands.lower.units() < bands.upper.units()
+                    && at_limit(&quotation, &bands) == side
+                    && straddles(&quotation, &bands) == straddling
+            }
+            Expires(nanos, want) => {
+                let timer = LimitTimer::enter(moment(rt, 36_000_000_000_000), Side::High);
+                timer.expired(moment(rt, nanos)) == want && timer.side() == Side::High
+            }
+        }
     }
 }
 
 #[test]
-fn a_quotation_is_at_a_band_or_straddles_it(rt: HostRuntime) -> Result<(), Fail> {
-    let (lower, upper) = (Price::new(475_000)?, Price::new(525_000)?);
-    assert!(rt; lower.units() < upper.units());
-    let bands = Bands { lower, upper };
-    for (bid, offer, side, straddling) in [
-        (474_900, 475_000, Some(Side::Low), true),
-        (475_000, 475_100, None, false),
-        (475_000, 475_001, None, false),
-        (0, 474_000, Some(Side::Low), false),
-        (475_000, 475_000, Some(Side::Low), false),
-        (525_000, 525_000, Some(Side::High), false),
-        (525_000, 525_100, Some(Side::High), true),
-        (524_999, 525_001, None, true),
-        (526_000, 0, Some(Side::High), false),
-        (474_000, 480_000, None, true),
-        (474_999, 0, None, true),
-        (480_000, 475_000, None, false),
-        (530_000, 520_000, None, false),
-        (480_000, 520_000, None, false),
-        (0, 0, None, false),
-    ] {
-        let q = quote(bid, offer);
-        assert_eq!(rt; at_limit(&q, &bands), side, "{bid} {offer}");
-        assert_eq!(rt; straddles(&q, &bands), straddling, "{bid} {offer}");
-    }
-    Ok(())
+fn a_quotation_is_at_a_band_or_straddles_it(rt: HostRuntime) {
+    check(
+        &rt,
+        &[
+            Quote(474_900, 475_000, Some(Side::Low), true),
+            Quote(475_000, 475_100, None, false),
+            Quote(475_000, 475_001, None, false),
+            Quote(0, 474_000, Some(Side::Low), false),
+            Quote(475_000, 475_000, Some(Side::Low), false),
+            Quote(525_000, 525_000, Some(Side::High), false),
+            Quote(525_000, 525_100, Some(Side::High), true),
+            Quote(524_999, 525_001, None, true),
+            Quote(526_000, 0, Some(Side::High), false),
+            Quote(474_000, 480_000, None, true),
+            Quote(474_999, 0, None, true),
+            Quote(480_000, 475_000, None, false),
+            Quote(530_000, 520_000, None, false),
+            Quote(480_000, 520_000, None, false),
+            Quote(0, 0, None, false),
+        ],
+    )
 }
 
 #[test]
-fn a_limit_state_expires_at_15_seconds(rt: HostRuntime) -> Result<(), Fail> {
-    let entered = Moment::new(36_000_000_000_000)?;
-    for (nanos, want) in [
-        (0, false),
-        (36_000_000_000_000, false),
-        (36_014_999_999_999, false),
-        (36_015_000_000_000, true),
-        (86_399_999_999_999, true),
-    ] {
-        let t = Moment::new(nanos)?;
-        let timer = LimitTimer::enter(entered, Side::High);
-        assert_eq!(rt; timer.expired(t), want, "at {nanos}");
-        assert_eq!(rt; timer.side(), Side::High);
-    }
-    Ok(())
+fn a_limit_state_expires_at_15_seconds(rt: HostRuntime) {
+    check(
+        &rt,
+        &[
+            Expires(0, false),
+            Expires(36_000_000_000_000, false),
+            Expires(36_014_999_999_999, false),
+            Expires(36_015_000_000_000, true),
+            Expires(86_399_999_999_999, true),
+        ],
+    )
 }

@@ -1,7 +1,46 @@
+use super::script::{Step, check};
+use Row::{Pause, Turn, TurnTwice};
 use pause_core::{Brakes, Turned, pause, turn};
 use session_core::Phase::{
     self, Closed, Closing, Halted, LimitHigh, LimitLow, Paused, Shut, Stopped, Trading,
 };
+use std::process::Abort;
+
+/// A row with the wanted answer.
+#[derive(Clone, Copy)]
+enum Row {
+    /// The phase that brakes bring from another.
+    Turn(Phase, Brakes, Option<Phase>),
+    /// The two phases that they bring.
+    TurnTwice(Phase, Brakes, Phase, Phase),
+    /// The pause from a phase: whether its 15 seconds have expired, one is asked for, and it's in a straddle state and in the
+    /// last ten minutes.
+    Pause(bool, bool, bool, Phase, bool, Option<Phase>),
+}
+
+impl Step<()> for Row {
+    fn holds<R: Abort>(&self, _: &R, _: &mut ()) -> bool {
+        match *self {
+            Turn(phase, brakes, first) => {
+                let want = Turned {
+                    first,
+                    second: None,
+                };
+                turn(phase, &brakes) == want
+            }
+            TurnTwice(phase, brakes, first, second) => {
+                let want = Turned {
+                    first: Some(first),
+                    second: Some(second),
+                };
+                turn(phase, &brakes) == want
+            }
+            Pause(expired, asked, straddling, phase, last_10, want) => {
+                pause(expired, asked, straddling, phase, last_10) == want
+            }
+        }
+    }
+}
 
 const FREE: Brakes = Brakes {
     closed: false,
@@ -10,104 +49,97 @@ const FREE: Brakes = Brakes {
     halted: false,
 };
 
-/// One phase, or none.
-fn only(first: Option<Phase>) -> Turned {
-    Turned {
-        first,
-        second: None,
-    }
-}
+const CLOSED: Brakes = Brakes {
+    closed: true,
+    in_session: false,
+    stopped: true,
+    halted: true,
+};
+
+const EARLY: Brakes = Brakes {
+    in_session: false,
+    ..FREE
+};
+
+const STOPPED: Brakes = Brakes {
+    stopped: true,
+    ..FREE
+};
+
+const HALTED: Brakes = Brakes {
+    halted: true,
+    ..FREE
+};
+
+const STOPPED_AND_HALTED: Brakes = Brakes {
+    stopped: true,
+    ..HALTED
+};
 
 #[test]
 fn the_close_and_the_session_bring_their_phases(rt: HostRuntime) {
-    let closed = Brakes {
-        closed: true,
-        in_session: false,
-        stopped: true,
-        halted: true,
-    };
-    let early = Brakes {
-        in_session: false,
-        ..FREE
-    };
-    for (phase, b, want) in [
-        (Trading, closed, Some(Closed)),
-        (Halted, closed, Some(Closed)),
-        (Closed, closed, None),
-        (Closed, FREE, None),
-        (Shut, early, None),
-        (Stopped, early, None),
-        (Halted, early, Some(Shut)),
-        (Shut, FREE, Some(Trading)),
-        (Stopped, FREE, Some(Trading)),
-        (Halted, FREE, Some(Trading)),
-        (Paused, FREE, None),
-        (Closing, FREE, None),
-    ] {
-        assert_eq!(rt; turn(phase, &b), only(want), "from {phase:?}");
-    }
+    check(
+        &rt,
+        &[
+            Turn(Trading, CLOSED, Some(Closed)),
+            Turn(Halted, CLOSED, Some(Closed)),
+            Turn(Closed, CLOSED, None),
+            Turn(Closed, FREE, None),
+            Turn(Shut, EARLY, None),
+            Turn(Stopped, EARLY, None),
+            Turn(Halted, EARLY, Some(Shut)),
+            Turn(Shut, FREE, Some(Trading)),
+            Turn(Stopped, FREE, Some(Trading)),
+            Turn(Halted, FREE, Some(Trading)),
+            Turn(Paused, FREE, None),
+            Turn(Closing, FREE, None),
+        ],
+    )
 }
 
 #[test]
 fn a_market_halt_and_a_regulatory_halt_bring_theirs(rt: HostRuntime) {
-    let stopped = Brakes {
-        stopped: true,
-        ..FREE
-    };
-    let halted = Brakes {
-        halted: true,
-        ..FREE
-    };
-    for (phase, b, want) in [
-        (Shut, stopped, Some(Stopped)),
-        (LimitHigh, stopped, Some(Stopped)),
-        (Paused, stopped, Some(Stopped)),
-        (Closing, stopped, Some(Stopped)),
-        (Stopped, stopped, None),
-        (Halted, stopped, Some(Stopped)),
-        (LimitLow, halted, Some(Halted)),
-        (Halted, halted, None),
-    ] {
-        assert_eq!(rt; turn(phase, &b), only(want), "from {phase:?}");
-    }
+    check(
+        &rt,
+        &[
+            Turn(Shut, STOPPED, Some(Stopped)),
+            Turn(LimitHigh, STOPPED, Some(Stopped)),
+            Turn(Paused, STOPPED, Some(Stopped)),
+            Turn(Closing, STOPPED, Some(Stopped)),
+            Turn(Stopped, STOPPED, None),
+            Turn(Halted, STOPPED, Some(Stopped)),
+            Turn(LimitLow, HALTED, Some(Halted)),
+            Turn(Halted, HALTED, None),
+        ],
+    )
 }
 
 #[test]
 fn a_regulatory_halt_follows_a_start_or_a_market_halt(rt: HostRuntime) {
-    for (stopped, first) in [(true, Stopped), (false, Trading)] {
-        let b = Brakes {
-            stopped,
-            halted: true,
-            ..FREE
-        };
-        assert_eq!(rt;
-            turn(Shut, &b),
-            Turned {
-                first: Some(first),
-                second: Some(Halted)
-            }
-        );
-    }
+    check(
+        &rt,
+        &[
+            TurnTwice(Shut, STOPPED_AND_HALTED, Stopped, Halted),
+            TurnTwice(Shut, HALTED, Trading, Halted),
+        ],
+    )
 }
 
 #[test]
 fn a_pause_follows_15_seconds_or_a_request_in_a_straddle(rt: HostRuntime) {
-    for (expired, asked, straddling, phase, last_10, want) in [
-        (true, false, false, LimitLow, false, Some(Paused)),
-        (true, false, false, LimitHigh, true, Some(Closing)),
-        (false, true, true, LimitLow, false, None),
-        (true, false, true, Trading, false, None),
-        (false, true, true, Trading, false, Some(Paused)),
-        (false, true, true, Trading, true, Some(Closing)),
-        (false, true, false, Trading, false, None),
-        (false, false, true, Trading, false, None),
-        (true, true, true, Paused, false, None),
-        (true, true, true, Stopped, false, None),
-    ] {
-        assert_eq!(rt;
-            pause(expired, asked, straddling, phase, last_10),
-            want,
-            "in {phase:?}"
-        );
-    }
+    check(
+        &rt,
+        &[
+            Pause(true, false, false, LimitLow, false, Some(Paused)),
+            Pause(true, false, false, LimitHigh, true, Some(Closing)),
+            Pause(false, true, true, LimitLow, false, None),
+            Pause(true, false, true, Trading, false, None),
+            Pause(false, true, true, Trading, false, Some(Paused)),
+            Pause(false, true, true, Trading, true, Some(Closing)),
+            Pause(false, true, false, Trading, false, None),
+            Pause(false, false, true, Trading, false, None),
+            Pause(true, true, true, Paused, false, None),
+            Pause(true, true, true, Stopped, false, None),
+        ],
+    )
 }

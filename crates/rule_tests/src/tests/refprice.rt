@@ -1,92 +1,119 @@
-use price_core::{Cause, Price};
+use super::script::{Step, play};
+use super::values::{moment, price, price_or_none};
+use Call::{Adopt, Adopted, AwaitsMean, Current, Force, Observe};
+use price_core::Cause;
 use refprice_core::Reference;
 use session_core::Moment;
-use std::test::Fail;
+use std::process::Abort;
 
-/// A moment after 09:30:00.
-fn after(seconds: u16, nanos: u32) -> Result<Moment, Fail> {
-    let seconds = 34_200 + u64::from(seconds);
-    Ok(Moment::new(seconds * 1_000_000_000 + u64::from(nanos))?)
+/// A call of a reference price, with the wanted answer. Times are nanoseconds after 09:30:00, and prices are in
+/// ten-thousandths of a dollar.
+#[derive(Clone, Copy)]
+enum Call {
+    /// A time, the price of an opening, the mean, and the cause of a new reference price.
+    Observe(u64, Option<u64>, Option<u64>, Option<Cause>),
+    /// The end of a limit state at a time, the mean, and the cause of a new reference price.
+    Force(u64, Option<u64>, Option<Cause>),
+    Adopt(u64, u64),
+    Current(Option<u64>),
+    Adopted(u64),
+    /// Whether a mean is awaited at a time.
+    AwaitsMean(u64, bool),
 }
 
-fn price(units: u64) -> Result<Option<Price>, Fail> {
-    Ok(Some(Price::new(units)?))
+/// A moment so many nanoseconds after 09:30:00.
+fn after<R: Abort>(rt: &R, nanos: u64) -> Moment {
+    moment(rt, nanos.wrapping_add(34_200_000_000_000))
 }
 
-#[test]
-fn a_mean_moves_by_one_per_cent_after_30_seconds(rt: HostRuntime) -> Result<(), Fail> {
-    let mut reference = Reference::begin(after(0, 0)?);
-    let opening = price(500_000)?;
-    assert_eq!(rt;
-        reference.observe(after(0, 0)?, opening, opening),
-        Some(Cause::First)
-    );
-    assert_eq!(rt; reference.current(), opening);
-    for (seconds, nanos, mean, cause) in [
-        (29, 999_999_999, 505_000, None),
-        (30, 0, 504_999, None),
-        (30, 0, 505_000, Some(Cause::Moved)),
-        (59, 999_999_999, 400_000, None),
-        (60, 0, 499_951, None),
-        (60, 0, 499_950, Some(Cause::Moved)),
-    ] {
-        assert_eq!(rt;
-            reference.observe(after(seconds, nanos)?, None, price(mean)?),
-            cause,
-            "of {mean} after {seconds}"
-        );
+impl Step<Reference> for Call {
+    fn holds<R: Abort>(&self, rt: &R, reference: &mut Reference) -> bool {
+        match *self {
+            Observe(nanos, opening, mean, want) => {
+                let (opening, mean) = (price_or_none(rt, opening), price_or_none(rt, mean));
+                reference.observe(after(rt, nanos), opening, mean) == want
+            }
+            Force(nanos, mean, want) => reference.force(after(rt, nanos), price_or_none(rt, mean))
+                == want,
+            Adopt(nanos, units) => {
+                reference.adopt(after(rt, nanos), price(rt, units));
+                true
+            }
+            Current(want) => reference.current() == price_or_none(rt, want),
+            Adopted(want) => reference.adopted() == after(rt, want),
+            AwaitsMean(nanos, want) => reference.awaits_mean(after(rt, nanos)) == want,
+        }
     }
-    assert_eq!(rt; reference.adopted(), after(60, 0)?);
-    Ok(())
 }
 
 #[test]
-fn the_mean_is_the_first_price_from_five_minutes_on(rt: HostRuntime) -> Result<(), Fail> {
-    let mut reference = Reference::begin(after(0, 0)?);
-    let mean = price(500_000)?;
-    assert_eq!(rt;
-        reference.observe(after(299, 999_999_999)?, None, mean),
-        None
-    );
-    assert_eq!(rt; reference.current(), None);
-    assert_eq!(rt; reference.adopted(), after(0, 0)?);
-    assert_eq!(rt;
-        reference.observe(after(300, 0)?, price(510_000)?, None),
-        None
-    );
-    assert_eq!(rt;
-        reference.observe(after(300, 0)?, price(510_000)?, mean),
-        Some(Cause::First)
-    );
-    assert_eq!(rt; reference.current(), mean);
-    Ok(())
+fn a_mean_moves_by_one_per_cent_after_30_seconds(rt: HostRuntime) {
+    play(
+        &rt,
+        &mut Reference::begin(after(&rt, 0)),
+        &[
+            Observe(0, Some(500_000), Some(500_000), Some(Cause::First)),
+            Current(Some(500_000)),
+            Observe(29_999_999_999, None, Some(505_000), None),
+            Observe(30_000_000_000, None, Some(504_999), None),
+            Observe(30_000_000_000, None, Some(505_000), Some(Cause::Moved)),
+            Observe(59_999_999_999, None, Some(400_000), None),
+            Observe(60_000_000_000, None, Some(499_951), None),
+            Observe(60_000_000_000, None, Some(499_950), Some(Cause::Moved)),
+            Adopted(60_000_000_000),
+        ],
+    )
 }
 
 #[test]
-fn the_end_of_a_limit_state_takes_any_mean(rt: HostRuntime) -> Result<(), Fail> {
-    let mut reference = Reference::released(after(0, 0)?, Price::new(500_000)?);
-    assert_eq!(rt; reference.force(after(1, 0)?, None), None);
-    assert_eq!(rt; reference.current(), price(500_000)?);
-    assert_eq!(rt; reference.adopted(), after(0, 0)?);
-    assert_eq!(rt;
-        reference.force(after(2, 0)?, price(500_001)?),
-        Some(Cause::Forced)
-    );
-    assert_eq!(rt; reference.current(), price(500_001)?);
-    assert_eq!(rt; reference.adopted(), after(2, 0)?);
-    Ok(())
+fn the_mean_is_the_first_price_from_five_minutes_on(rt: HostRuntime) {
+    play(
+        &rt,
+        &mut Reference::begin(after(&rt, 0)),
+        &[
+            Observe(299_999_999_999, None, Some(500_000), None),
+            Current(None),
+            Adopted(0),
+            Observe(300_000_000_000, Some(510_000), None, None),
+            Observe(
+                300_000_000_000,
+                Some(510_000),
+                Some(500_000),
+                Some(Cause::First),
+            ),
+            Current(Some(500_000)),
+        ],
+    )
 }
 
 #[test]
-fn a_mean_is_awaited_after_five_minutes_and_then_after_30_seconds(
-    rt: HostRuntime,
-) -> Result<(), Fail> {
-    let mut reference = Reference::begin(after(0, 0)?);
-    assert!(rt; !reference.awaits_mean(after(299, 999_999_999)?));
-    assert!(rt; reference.awaits_mean(after(300, 0)?));
-    reference.adopt(after(300, 0)?, Price::new(500_000)?);
-    assert_eq!(rt; reference.current(), price(500_000)?);
-    assert!(rt; !reference.awaits_mean(after(329, 999_999_999)?));
-    assert!(rt; reference.awaits_mean(after(330, 0)?));
-    Ok(())
+fn the_end_of_a_limit_state_takes_any_mean(rt: HostRuntime) {
+    play(
+        &rt,
+        &mut Reference::released(after(&rt, 0), price(&rt, 500_000)),
+        &[
+            Force(1_000_000_000, None, None),
+            Current(Some(500_000)),
+            Adopted(0),
+            Force(2_000_000_000, Some(500_001), Some(Cause::Forced)),
+            Current(Some(500_001)),
+            Adopted(2_000_000_000),
+        ],
+    )
+}
+
+#[test]
+fn a_mean_is_awaited_after_five_minutes_and_then_after_30_seconds(rt: HostRuntime) {
+    play(
+        &rt,
+        &mut Reference::begin(after(&rt, 0)),
+        &[
+            AwaitsMean(299_999_999_999, false),
+            AwaitsMean(300_000_000_000, true),
+            Adopt(300_000_000_000, 500_000),
+            Current(Some(500_000)),
+            AwaitsMean(329_999_999_999, false),
+            AwaitsMean(330_000_000_000, true),
+        ],
+    )
 }

@@ -1,108 +1,153 @@
-use price_core::{Bands, Collars, Price, Unmatched};
+use super::script::{Step, play};
+use super::values::{moment, price};
+use Call::{Begin, Closes, Collars, Due, Extends, Indicate, NotDue, Releases, Round};
+use price_core::{Bands, Unmatched};
 use reopen_core::{Auction, Origin, Trial};
 use session_core::Moment;
-use std::test::Fail;
+use std::process::Abort;
 
-/// A moment after 10:00:00.
-fn after(seconds: u16, nanos: u32) -> Result<Moment, Fail> {
-    let seconds = 36_000 + u64::from(seconds);
-    Ok(Moment::new(seconds * 1_000_000_000 + u64::from(nanos))?)
+/// A call of an auction, with the wanted answer. Times are nanoseconds after 10:00:00, and prices are in ten-thousandths of
+/// a dollar.
+#[derive(Clone, Copy)]
+enum Call {
+    /// An auction at 10:00:00 with these bands and a reference price of 50.0000.
+    Begin(Origin, u64, u64),
+    Indicate(u64, Unmatched),
+    Collars(u64, u64),
+    /// The time of the next trial, in nanoseconds of the day.
+    Due(u64),
+    Round(u16),
+    /// A trial at a time that is too early.
+    NotDue(u64),
+    /// A trial at a time that gives these collars.
+    Extends(u64, u64, u64),
+    /// A trial at a time that gives a price.
+    Releases(u64, u64),
+    /// A trial at a time of the last ten minutes.
+    Closes(u64),
 }
 
-fn collars(lower: u64, upper: u64) -> Result<Collars, Fail> {
-    Ok(Collars {
-        lower: Price::new(lower)?,
-        upper: Price::new(upper)?,
-    })
+/// A moment so many nanoseconds after 10:00:00.
+fn after<R: Abort>(rt: &R, nanos: u64) -> Moment {
+    moment(rt, nanos.wrapping_add(36_000_000_000_000))
 }
 
-/// An auction of 10:00:00 with these bands and the reference price.
-fn auction(origin: Origin, lower: u64, upper: u64, reference: u64) -> Result<Auction, Fail> {
+fn collars<R: Abort>(rt: &R, lower: u64, upper: u64) -> price_core::Collars {
+    price_core::Collars {
+        lower: price(rt, lower),
+        upper: price(rt, upper),
+    }
+}
+
+fn begin<R: Abort>(rt: &R, origin: Origin, lower: u64, upper: u64) -> Auction {
     let bands = Bands {
-        lower: Price::new(lower)?,
-        upper: Price::new(upper)?,
+        lower: price(rt, lower),
+        upper: price(rt, upper),
     };
-    Ok(Auction::begin(after(0, 0)?, origin, &bands, Price::new(reference)?))
+    Auction::begin(after(rt, 0), origin, &bands, price(rt, 500_000))
 }
 
-#[test]
-fn a_price_below_widens_the_lower_collar_and_then_releases(rt: HostRuntime) -> Result<(), Fail> {
-    let mut auction = auction(Origin::Low, 475_000, 525_000, 500_000)?;
-    assert_eq!(rt; auction.collars(), collars(451_200, 525_000)?);
-    assert_eq!(rt; auction.due(), 36_300_000_000_000);
-    auction.indicate(Price::new(440_000)?, Unmatched::Nothing);
-    assert_eq!(rt;
-        auction.trial(after(299, 999_999_999)?, false),
-        Trial::NotDue
-    );
-    assert_eq!(rt; auction.round(), 0);
-    let wider = collars(427_400, 525_000)?;
-    assert_eq!(rt; auction.trial(after(300, 0)?, false), Trial::Extend(wider));
-    assert_eq!(rt; auction.collars(), wider);
-    assert_eq!(rt; auction.round(), 1);
-    assert_eq!(rt;
-        auction.trial(after(599, 999_999_999)?, false),
-        Trial::NotDue
-    );
-    assert_eq!(rt; auction.trial(after(600, 0)?, true), Trial::Closing);
-    let price = Price::new(440_000)?;
-    assert_eq!(rt; auction.trial(after(600, 0)?, false), Trial::Release(price));
-    assert_eq!(rt; auction.round(), 1);
-    Ok(())
-}
-
-#[test]
-fn the_side_that_an_indication_widens(rt: HostRuntime) -> Result<(), Fail> {
-    for (price, unmatched, lower, upper) in [
-        (470_000, Unmatched::Sell, 427_400, 525_000),
-        (470_000, Unmatched::Buy, 451_200, 548_800),
-        (530_000, Unmatched::Sell, 451_200, 548_800),
-        (440_000, Unmatched::Buy, 427_400, 525_000),
-    ] {
-        let mut auction = auction(Origin::Low, 475_000, 525_000, 500_000)?;
-        auction.indicate(Price::new(price)?, unmatched);
-        assert_eq!(rt;
-            auction.trial(after(300, 0)?, false),
-            Trial::Extend(collars(lower, upper)?),
-            "at {price}"
-        );
+impl Step<Auction> for Call {
+    fn holds<R: Abort>(&self, rt: &R, auction: &mut Auction) -> bool {
+        match *self {
+            Begin(origin, lower, upper) => {
+                *auction = begin(rt, origin, lower, upper);
+                true
+            }
+            Indicate(units, unmatched) => {
+                auction.indicate(price(rt, units), unmatched);
+                true
+            }
+            Collars(lower, upper) => auction.collars() == collars(rt, lower, upper),
+            Due(nanos) => auction.due() == nanos,
+            Round(number) => auction.round() == number,
+            NotDue(nanos) => auction.trial(after(rt, nanos), false) == Trial::NotDue,
+            Extends(nanos, lower, upper) => {
+                auction.trial(after(rt, nanos), false) == Trial::Extend(collars(rt, lower, upper))
+            }
+            Releases(nanos, units) => {
+                auction.trial(after(rt, nanos), false) == Trial::Release(price(rt, units))
+            }
+            Closes(nanos) => auction.trial(after(rt, nanos), true) == Trial::Closing,
+        }
     }
-    Ok(())
 }
 
 #[test]
-fn the_first_collars_of_each_origin(rt: HostRuntime) -> Result<(), Fail> {
-    for (origin, bands, first) in [
-        (Origin::High, (475_000, 525_000), (475_000, 551_300)),
-        (Origin::Straddle, (475_000, 525_000), (475_000, 525_000)),
-        (Origin::Low, (30_000, 40_000), (28_500, 40_000)),
-        (Origin::Low, (31_000, 40_000), (29_400, 40_000)),
-        (Origin::Low, (100, 200), (1, 200)),
-        (Origin::High, (1, 99_999_999_900), (1, 99_999_999_999)),
-    ] {
-        let auction = auction(origin, bands.0, bands.1, 500_000)?;
-        assert_eq!(rt;
-            auction.collars(),
-            collars(first.0, first.1)?,
-            "at {origin:?} {bands:?}"
-        );
-    }
-    Ok(())
+fn a_price_below_widens_the_lower_collar_and_then_releases(rt: HostRuntime) {
+    play(
+        &rt,
+        &mut begin(&rt, Origin::Low, 475_000, 525_000),
+        &[
+            Collars(451_200, 525_000),
+            Due(36_300_000_000_000),
+            Indicate(440_000, Unmatched::Nothing),
+            NotDue(299_999_999_999),
+            Round(0),
+            Extends(300_000_000_000, 427_400, 525_000),
+            Collars(427_400, 525_000),
+            Round(1),
+            NotDue(599_999_999_999),
+            Closes(600_000_000_000),
+            Releases(600_000_000_000, 440_000),
+            Round(1),
+        ],
+    )
 }
 
 #[test]
-fn without_an_indication_it_releases_at_the_auction_reference(rt: HostRuntime) -> Result<(), Fail> {
-    for (origin, units) in [
-        (Origin::Low, 475_000),
-        (Origin::High, 525_000),
-        (Origin::Straddle, 500_000),
-    ] {
-        let mut auction = auction(origin, 475_000, 525_000, 500_000)?;
-        assert_eq!(rt;
-            auction.trial(after(300, 0)?, false),
-            Trial::Release(Price::new(units)?),
-            "at {units}"
-        );
-    }
-    Ok(())
+fn the_side_that_an_indication_widens(rt: HostRuntime) {
+    play(
+        &rt,
+        &mut begin(&rt, Origin::Low, 475_000, 525_000),
+        &[
+            Indicate(470_000, Unmatched::Sell),
+            Extends(300_000_000_000, 427_400, 525_000),
+            Begin(Origin::Low, 475_000, 525_000),
+            Indicate(470_000, Unmatched::Buy),
+            Extends(300_000_000_000, 451_200, 548_800),
+            Begin(Origin::Low, 475_000, 525_000),
+            Indicate(530_000, Unmatched::Sell),
+            Extends(300_000_000_000, 451_200, 548_800),
+            Begin(Origin::Low, 475_000, 525_000),
+            Indicate(440_000, Unmatched::Buy),
+            Extends(300_000_000_000, 427_400, 525_000),
+        ],
+    )
+}
+
+#[test]
+fn the_first_collars_of_each_origin(rt: HostRuntime) {
+    play(
+        &rt,
+        &mut begin(&rt, Origin::High, 475_000, 525_000),
+        &[
+            Collars(475_000, 551_300),
+            Begin(Origin::Straddle, 475_000, 525_000),
+            Collars(475_000, 525_000),
+            Begin(Origin::Low, 30_000, 40_000),
+            Collars(28_500, 40_000),
+            Begin(Origin::Low, 31_000, 40_000),
+            Collars(29_400, 40_000),
+            Begin(Origin::Low, 100, 200),
+            Collars(1, 200),
+            Begin(Origin::High, 1, 99_999_999_900),
+            Collars(1, 99_999_999_999),
+        ],
+    )
+}
+
+#[test]
+fn without_an_indication_it_releases_at_the_auction_reference(rt: HostRuntime) {
+    play(
+        &rt,
+        &mut begin(&rt, Origin::Low, 475_000, 525_000),
+        &[
+            Releases(300_000_000_000, 475_000),
+            Begin(Origin::High, 475_000, 525_000),
+            Releases(300_000_000_000, 525_000),
+            Begin(Origin::Straddle, 475_000, 525_000),
+            Releases(300_000_000_000, 500_000),
+        ],
+    )
 }

@@ -1,179 +1,257 @@
-ghost use Rattle.std.specs.Prelude.{◌≡◌, ◌+◌, ◌<◌, IfOk};
-
+use Step::{
+    Add, Advance, Cancel, IsLive, IsNear, LiveUntil, Mean, MovesFrom, Oldest, Restart, Trade,
+};
 use price_core::Price;
 use session_core::Moment;
+use std::process::Abort;
 use std::test::Fail;
 use std::time::{Duration, Instant};
 use window_core::{Deal, Window};
 
+/// A call of a window, or what one has to answer. Times are nanoseconds after 09:30:00, and prices are in ten-thousandths of
+/// a dollar.
+#[derive(Clone, Copy)]
+enum Step {
+    /// A time comes, and a trade at it: its number and price.
+    Trade(u64, u32, u64),
+    /// The same with no time that comes.
+    Add(u64, u32, u64),
+    Advance(u64),
+    Cancel(u32),
+    Restart,
+    Mean(Option<u64>),
+    Oldest(Option<u64>),
+    /// Whether all deals are live at a time.
+    IsLive(u64, bool),
+    LiveUntil(Option<u64>),
+    /// Whether all prices are near one.
+    IsNear(u64, bool),
+    /// From a time on, against a reference price: when the mean moves, if it does.
+    MovesFrom(u64, u64, Option<u64>),
+}
+
+const OPEN: u64 = 34_200_000_000_000;
+
+/// The nanoseconds of the day of an answer that may be never.
+fn time_of(nanos: Option<u64>) -> u64 {
+    nanos.map_or(u64::MAX, |nanos| OPEN.wrapping_add(nanos))
+}
+
 /// A moment that many nanoseconds after 09:30:00.
-fn after(nanos: u64) -> Result<Moment, Fail>
-    requires { nanos < 1000000000000 }
-    ensures { IfOk result (λ t. t ≡ 34200000000000 + nanos) }
-{
-    Ok(Moment::new(34_200_000_000_000 + nanos)?)
+fn after(nanos: u64) -> Result<Moment, Fail> {
+    Ok(Moment::new(OPEN.wrapping_add(nanos))?)
 }
 
-fn price(units: u64) -> Result<Option<Price>, Fail> {
-    Ok(Some(Price::new(units)?))
-}
-
-fn trade(window: &mut Window, t: Moment, number: u32, units: u64) -> Result<(), Fail> {
-    window.advance(t);
+fn add(window: &mut Window, nanos: u64, number: u32, units: u64) -> Result<(), Fail> {
     window.reserve()?;
     window.add(Deal {
-        moment: t,
+        moment: after(nanos)?,
         number,
         price: Price::new(units)?,
     });
     Ok(())
 }
 
+/// Calls a window.
+fn call(window: &mut Window, step: Step) -> Result<(), Fail> {
+    match step {
+        Trade(nanos, number, units) => {
+            window.advance(after(nanos)?);
+            add(window, nanos, number, units)
+        }
+        Add(nanos, number, units) => add(window, nanos, number, units),
+        Advance(nanos) => {
+            window.advance(after(nanos)?);
+            Ok(())
+        }
+        Cancel(number) => {
+            window.cancel(number);
+            Ok(())
+        }
+        Restart => {
+            window.restart();
+            Ok(())
+        }
+        _ => Ok(()),
+    }
+}
+
+/// Whether a window answers what is wanted.
+fn answers(window: &Window, step: Step) -> Result<bool, Fail> {
+    Ok(match step {
+        Mean(want) => window.mean().map(|it| it.units()) == want,
+        Oldest(want) => window.oldest().map_or(u64::MAX, |it| it.nanos()) == time_of(want),
+        IsLive(nanos, want) => window.are_live(after(nanos)?) == want,
+        LiveUntil(want) => window.live_until() == time_of(want),
+        IsNear(units, want) => window.stays_near(Price::new(units)?) == want,
+        MovesFrom(nanos, units, want) => {
+            window.moves_from(after(nanos)?.nanos(), Price::new(units)?) == time_of(want)
+        }
+        _ => true,
+    })
+}
+
+/// Takes the steps one after the other over a new window.
+fn play<R: Abort + AllocGlobal>(rt: &R, steps: &[Step]) -> Result<(), Fail> {
+    let mut window = Window::new(rt.alloc())?;
+    for (place, step) in steps.iter().enumerate() {
+        call(&mut window, *step)?;
+        assert!(rt; answers(&window, *step)?, "step {place}");
+    }
+    Ok(())
+}
+
 #[test]
 fn a_mean_is_rounded_half_up(rt: HostRuntime) -> Result<(), Fail> {
-    let mut window = Window::new(rt.alloc())?;
-    assert_eq!(rt; window.mean(), None);
-    assert_eq!(rt; window.oldest(), None);
-    trade(&mut window, after(0)?, 1, 500_000)?;
-    trade(&mut window, after(29_999_999_999)?, 2, 510_000)?;
-    assert_eq!(rt; window.mean(), price(505_000)?);
-    window.cancel(2);
-    trade(&mut window, after(30_000_000_000)?, 3, 500_001)?;
-    assert_eq!(rt; window.mean(), price(500_001)?);
-    assert_eq!(rt; window.oldest(), Some(after(0)?));
-    Ok(())
+    play(
+        &rt,
+        &[
+            Mean(None),
+            Oldest(None),
+            Trade(0, 1, 500_000),
+            Trade(29_999_999_999, 2, 510_000),
+            Mean(Some(505_000)),
+            Cancel(2),
+            Trade(30_000_000_000, 3, 500_001),
+            Mean(Some(500_001)),
+            Oldest(Some(0)),
+        ],
+    )
 }
 
 #[test]
 fn a_mean_moves_when_a_deal_leaves(rt: HostRuntime) -> Result<(), Fail> {
-    let mut window = Window::new(rt.alloc())?;
-    let reference = Price::new(500_000)?;
-    assert_eq!(rt; window.moves_from(0, reference), u64::MAX);
-    trade(&mut window, after(0)?, 1, 500_000)?;
-    trade(&mut window, after(1)?, 2, 500_000)?;
-    trade(&mut window, after(2)?, 3, 512_000)?;
     // Of all three the mean is 50.4000, and behind the first one 50.6000.
-    let end = after(300_000_000_000)?.nanos();
-    assert_eq!(rt; window.moves_from(after(2)?.nanos(), reference), end);
-    assert_eq!(rt; window.moves_from(end - 1, reference), end);
-    assert_eq!(rt; window.moves_from(end, reference), end);
-    assert_eq!(rt; window.moves_from(end + 2, reference), u64::MAX);
-    window.cancel(3);
-    assert_eq!(rt; window.moves_from(0, reference), u64::MAX);
-    Ok(())
+    play(
+        &rt,
+        &[
+            MovesFrom(0, 500_000, None),
+            Trade(0, 1, 500_000),
+            Trade(1, 2, 500_000),
+            Trade(2, 3, 512_000),
+            MovesFrom(2, 500_000, Some(300_000_000_000)),
+            MovesFrom(299_999_999_999, 500_000, Some(300_000_000_000)),
+            MovesFrom(300_000_000_000, 500_000, Some(300_000_000_000)),
+            MovesFrom(300_000_000_002, 500_000, None),
+            Cancel(3),
+            MovesFrom(0, 500_000, None),
+        ],
+    )
 }
 
 /// Nine deals, a nanosecond one after the other, of which the last has a price of its own.
-fn nine(window: &mut Window, last: u64) -> Result<(), Fail> {
-    for number in 0..8 {
-        trade(window, after(u64::from(number))?, number, 500_000)?;
-    }
-    trade(window, after(8)?, 8, last)
+fn nine<R: Abort + AllocGlobal>(rt: &R, last: u64, moves: Option<u64>) -> Result<(), Fail> {
+    play(
+        rt,
+        &[
+            Trade(0, 0, 500_000),
+            Trade(1, 1, 500_000),
+            Trade(2, 2, 500_000),
+            Trade(3, 3, 500_000),
+            Trade(4, 4, 500_000),
+            Trade(5, 5, 500_000),
+            Trade(6, 6, 500_000),
+            Trade(7, 7, 500_000),
+            Trade(8, 8, last),
+            MovesFrom(0, 500_000, moves),
+        ],
+    )
 }
 
 #[test]
 fn of_nine_deals_the_first_alone_is_looked_at(rt: HostRuntime) -> Result<(), Fail> {
-    let mut window = Window::new(rt.alloc())?;
-    nine(&mut window, 510_000)?;
-    let reference = Price::new(500_000)?;
-    assert_eq!(rt;
-        window.moves_from(0, reference),
-        after(300_000_000_000)?.nanos()
-    );
-    Ok(())
+    nine(&rt, 510_000, Some(300_000_000_000))
 }
 
 #[test]
 fn nine_deals_near_the_reference_price_move_at_no_time(rt: HostRuntime) -> Result<(), Fail> {
-    let mut window = Window::new(rt.alloc())?;
-    nine(&mut window, 504_999)?;
-    assert_eq!(rt; window.moves_from(0, Price::new(500_000)?), u64::MAX);
-    Ok(())
+    nine(&rt, 504_999, None)
 }
 
 #[test]
 fn a_trade_of_exactly_five_minutes_does_not_count(rt: HostRuntime) -> Result<(), Fail> {
-    let mut window = Window::new(rt.alloc())?;
-    trade(&mut window, after(0)?, 1, 490_000)?;
-    trade(&mut window, after(1)?, 2, 500_000)?;
-    window.advance(after(299_999_999_999)?);
-    assert_eq!(rt; window.mean(), price(495_000)?);
-    window.advance(after(300_000_000_000)?);
-    assert_eq!(rt; window.mean(), price(500_000)?);
-    assert_eq!(rt; window.oldest(), Some(after(1)?));
-    window.cancel(2);
-    assert_eq!(rt; window.mean(), None);
-    Ok(())
+    play(
+        &rt,
+        &[
+            Trade(0, 1, 490_000),
+            Trade(1, 2, 500_000),
+            Advance(299_999_999_999),
+            Mean(Some(495_000)),
+            Advance(300_000_000_000),
+            Mean(Some(500_000)),
+            Oldest(Some(1)),
+            Cancel(2),
+            Mean(None),
+        ],
+    )
 }
 
 #[test]
 fn a_cancel_removes_each_trade_of_its_number(rt: HostRuntime) -> Result<(), Fail> {
-    let mut window = Window::new(rt.alloc())?;
-    window.cancel(2);
-    trade(&mut window, after(0)?, 2, 490_000)?;
-    trade(&mut window, after(0)?, 1, 500_000)?;
-    trade(&mut window, after(0)?, 2, 510_000)?;
-    assert_eq!(rt; window.mean(), price(500_000)?);
-    window.cancel(2);
-    assert_eq!(rt; window.mean(), price(500_000)?);
-    window.cancel(2);
-    assert_eq!(rt; window.mean(), price(500_000)?);
-    window.cancel(1);
-    assert_eq!(rt; window.mean(), None);
-    Ok(())
+    play(
+        &rt,
+        &[
+            Cancel(2),
+            Trade(0, 2, 490_000),
+            Trade(0, 1, 500_000),
+            Trade(0, 2, 510_000),
+            Mean(Some(500_000)),
+            Cancel(2),
+            Mean(Some(500_000)),
+            Cancel(2),
+            Mean(Some(500_000)),
+            Cancel(1),
+            Mean(None),
+        ],
+    )
 }
 
 #[test]
 fn a_restart_begins_a_new_day(rt: HostRuntime) -> Result<(), Fail> {
-    let mut window = Window::new(rt.alloc())?;
-    trade(&mut window, after(600_000_000_000)?, 1, 490_000)?;
-    window.restart();
-    assert_eq!(rt; window.mean(), None);
-    trade(&mut window, after(0)?, 1, 99_999_999_999)?;
-    assert_eq!(rt; window.mean(), price(99_999_999_999)?);
-    assert_eq!(rt; window.oldest(), Some(after(0)?));
-    Ok(())
-}
-
-fn deal(nanos: u64, number: u32) -> Result<Deal, Fail>
-    requires { nanos < 1000000000000 }
-{
-    Ok(Deal {
-        moment: after(nanos)?,
-        number,
-        price: Price::new(500_000)?,
-    })
+    play(
+        &rt,
+        &[
+            Trade(600_000_000_000, 1, 490_000),
+            Restart,
+            Mean(None),
+            Trade(0, 1, 99_999_999_999),
+            Mean(Some(99_999_999_999)),
+            Oldest(Some(0)),
+        ],
+    )
 }
 
 #[test]
 fn after_a_restart_earlier_deals_are_in_order(rt: HostRuntime) -> Result<(), Fail> {
-    let mut window = Window::new(rt.alloc())?;
-    window.reserve()?;
-    window.add(deal(600_000_000_000, 1)?);
-    window.restart();
-    assert_eq!(rt; window.live_until(), u64::MAX);
-    window.reserve()?;
-    window.add(deal(0, 1)?);
-    assert!(rt; window.are_live(after(299_999_999_999)?));
-    assert!(rt; !window.are_live(after(300_000_000_000)?));
-    assert_eq!(rt; window.live_until(), 34_500_000_000_000);
-    Ok(())
+    play(
+        &rt,
+        &[
+            Add(600_000_000_000, 1, 500_000),
+            Restart,
+            LiveUntil(None),
+            Add(0, 1, 500_000),
+            IsLive(299_999_999_999, true),
+            IsLive(300_000_000_000, false),
+            LiveUntil(Some(300_000_000_000)),
+        ],
+    )
 }
 
 #[test]
 fn deals_out_of_order_leave_when_they_are_five_minutes_old(rt: HostRuntime) -> Result<(), Fail> {
-    let mut window = Window::new(rt.alloc())?;
-    for (nanos, number) in [(60_000_000_000, 1), (0, 2)] {
-        window.reserve()?;
-        window.add(deal(nanos, number)?);
-    }
-    assert!(rt; window.are_live(after(299_999_999_999)?));
-    assert!(rt; !window.are_live(after(300_000_000_000)?));
-    window.advance(after(300_000_000_000)?);
-    assert_eq!(rt; window.oldest(), Some(after(60_000_000_000)?));
-    window.advance(after(360_000_000_000)?);
-    assert_eq!(rt; window.oldest(), None);
-    Ok(())
+    play(
+        &rt,
+        &[
+            Add(60_000_000_000, 1, 500_000),
+            Add(0, 2, 500_000),
+            IsLive(299_999_999_999, true),
+            IsLive(300_000_000_000, false),
+            Advance(300_000_000_000),
+            Oldest(Some(60_000_000_000)),
+            Advance(360_000_000_000),
+            Oldest(None),
+        ],
+    )
 }
 
 #[test]
@@ -184,12 +262,16 @@ fn prices_are_near_where_none_is_one_per_cent_away(rt: HostRuntime) -> Result<()
         (504_999, true),
         (505_000, false),
     ] {
-        let mut window = Window::new(rt.alloc())?;
-        assert!(rt; window.stays_near(Price::new(500_000)?));
-        trade(&mut window, after(0)?, 1, 500_000)?;
-        trade(&mut window, after(1)?, 2, units)?;
-        trade(&mut window, after(2)?, 3, 500_000)?;
-        assert_eq!(rt; window.stays_near(Price::new(500_000)?), near, "{units}");
+        play(
+            &rt,
+            &[
+                IsNear(500_000, true),
+                Trade(0, 1, 500_000),
+                Trade(1, 2, units),
+                Trade(2, 3, 500_000),
+                IsNear(500_000, near),
+            ],
+        )?;
     }
     Ok(())
 }
@@ -201,64 +283,61 @@ fn prices_that_drift_by_one_per_cent_and_a_half_stay_near_the_last(
     let mut window = Window::new(rt.alloc())?;
     for step in 0..96_u32 {
         let units = 500_000 + 80 * u64::from(step);
-        trade(
-            &mut window,
-            after(10_000_000_000 * u64::from(step))?,
-            step,
-            units,
-        )?;
-        assert!(rt; window.stays_near(Price::new(units)?));
-        assert!(rt; !window.stays_near(Price::new(units + 5_100)?));
+        let nanos = 10_000_000_000 * u64::from(step);
+        call(&mut window, Trade(nanos, step, units))?;
+        for wanted in [IsNear(units, true), IsNear(units + 5_100, false)] {
+            assert!(rt; answers(&window, wanted)?);
+        }
     }
-    assert!(rt; !window.stays_near(Price::new(500_000)?));
+    assert!(rt; answers(&window, IsNear(500_000, false))?);
     Ok(())
 }
 
 #[test]
 fn a_far_price_is_forgotten_within_ten_minutes(rt: HostRuntime) -> Result<(), Fail> {
-    let mut window = Window::new(rt.alloc())?;
-    let reference = Price::new(500_000)?;
-    trade(&mut window, after(0)?, 1, 600_000)?;
-    trade(&mut window, after(200_000_000_000)?, 2, 500_000)?;
-    assert!(rt; !window.stays_near(reference));
-    trade(&mut window, after(400_000_000_000)?, 3, 500_000)?;
-    window.advance(after(500_000_000_000)?);
-    assert!(rt; window.stays_near(reference));
-    Ok(())
+    play(
+        &rt,
+        &[
+            Trade(0, 1, 600_000),
+            Trade(200_000_000_000, 2, 500_000),
+            IsNear(500_000, false),
+            Trade(400_000_000_000, 3, 500_000),
+            Advance(500_000_000_000),
+            IsNear(500_000, true),
+        ],
+    )
 }
 
 #[test]
 fn a_far_price_is_forgotten_with_the_last_deal(rt: HostRuntime) -> Result<(), Fail> {
-    let mut window = Window::new(rt.alloc())?;
-    let reference = Price::new(500_000)?;
-    trade(&mut window, after(0)?, 1, 600_000)?;
-    window.advance(after(300_000_000_000)?);
-    assert!(rt; window.stays_near(reference));
-    trade(&mut window, after(300_000_000_001)?, 2, 600_000)?;
-    window.restart();
-    trade(&mut window, after(0)?, 1, 500_000)?;
-    assert!(rt; window.stays_near(reference));
-    Ok(())
+    play(
+        &rt,
+        &[
+            Trade(0, 1, 600_000),
+            Advance(300_000_000_000),
+            IsNear(500_000, true),
+            Trade(300_000_000_001, 2, 600_000),
+            Restart,
+            Trade(0, 1, 500_000),
+            IsNear(500_000, true),
+        ],
+    )
 }
 
 #[test]
 fn prices_of_deals_out_of_order_stay_known(rt: HostRuntime) -> Result<(), Fail> {
-    let mut window = Window::new(rt.alloc())?;
-    let reference = Price::new(500_000)?;
-    trade(&mut window, after(100_000_000_000)?, 1, 500_000)?;
-    for (nanos, number, units) in [(60_000_000_000, 2, 600_000), (0, 3, 500_000)] {
-        window.reserve()?;
-        window.add(Deal {
-            moment: after(nanos)?,
-            number,
-            price: Price::new(units)?,
-        });
-    }
-    window.advance(after(300_000_000_000)?);
-    assert!(rt; !window.stays_near(reference));
-    window.advance(after(360_000_000_000)?);
-    assert_eq!(rt; window.mean(), price(500_000)?);
-    Ok(())
+    play(
+        &rt,
+        &[
+            Trade(100_000_000_000, 1, 500_000),
+            Add(60_000_000_000, 2, 600_000),
+            Add(0, 3, 500_000),
+            Advance(300_000_000_000),
+            IsNear(500_000, false),
+            Advance(360_000_000_000),
+            Mean(Some(500_000)),
+        ],
+    )
 }
 
 #[test]
@@ -266,17 +345,17 @@ fn an_advance_of_the_next_day_takes_no_time_for_each_of_50_000_trades(
     rt: HostRuntime,
 ) -> Result<(), Fail> {
     let mut window = Window::new(rt.alloc())?;
-    trade(&mut window, after(600_000_000_000)?, 1, 500_000)?;
+    call(&mut window, Trade(600_000_000_000, 1, 500_000))?;
     window.restart();
     for number in 0..50_000_u32 {
-        trade(&mut window, after(u64::from(number))?, number, 500_000)?;
+        call(&mut window, Trade(u64::from(number), number, 500_000))?;
     }
     let start = Instant::now(&rt)?;
     for tick in 0..50_000_u64 {
-        window.advance(after(tick + 60_000_000_000)?);
+        call(&mut window, Advance(tick + 60_000_000_000))?;
     }
     // A look at each trade at each advance would be 2,500,000,000 looks.
     assert!(rt; start.elapsed(&rt)? < Duration::from_secs(5));
-    assert_eq!(rt; window.mean(), price(500_000)?);
+    assert!(rt; answers(&window, Mean(Some(500_000)))?);
     Ok(())
 }

@@ -1,195 +1,284 @@
 // Until when ticks bring a stock nothing.
-use super::{at, clock, halt, listing, name_of, new_day, quote, third, trade};
+use super::scene::Scene;
+use super::script::{Script, play};
+use super::{at, clock, listing, new_day, price, trade};
+use Step::{
+    Begin, Clock, Day, DueAt, Halt, InPhase, IsListed, Listing, NeverDue, Opening, Quote,
+    StopMarket, Trade,
+};
 use session_core::Phase;
 use std::process::Abort;
 use std::test::Fail;
-use symbol_core::{Messages, Symbol};
-use wire_in::Record;
+use wire_in::{NoticeKind, Record};
 
-/// ABC is listed, trading begins at 09:30:00, and then come these records, in a market that stands still or doesn't: ticks
-/// bring nothing until that second of the day.
-fn expect_due<R: Abort + AllocGlobal>(
-    rt: &R,
-    stopped: bool,
-    then: &[Record],
-    seconds: u64,
-) -> Result<(), Fail> {
-    let mut symbol = Symbol::new(rt.alloc(), 0)?;
-    let mut out = Messages::new(rt.alloc())?;
-    let market = third(stopped);
-    let first = [
-        new_day(3),
-        listing(at(14_400), name_of(0)),
-        clock(at(34_200)),
-    ];
-    for x in first.iter().chain(then) {
-        symbol.evaluate(x, &market, &mut out)?;
+/// What happens to ABC, or what it has to answer. Times are seconds of the day, and prices are in ten-thousandths of a dollar.
+#[derive(Clone, Copy)]
+enum Step {
+    /// A market-wide halt is in effect from now on.
+    StopMarket,
+    /// ABC is new again, 3 June begins, ABC is listed, and trading begins at 09:30:00.
+    Begin,
+    Day(u8),
+    Listing,
+    Clock(u64),
+    /// An opening trade at $50.00.
+    Opening(u64),
+    /// A trade of a number and a price.
+    Trade(u64, u32, u64),
+    /// A bid and an offer.
+    Quote(u64, u64, u64),
+    Halt(u64),
+    IsListed(bool),
+    InPhase(Phase),
+    DueAt(u64),
+    NeverDue,
+}
+
+/// The record of a step that brings one.
+fn record(step: Step) -> Option<Record> {
+    Some(match step {
+        Day(number) => new_day(number),
+        Listing => listing(14_400, 0),
+        Clock(seconds) => clock(at(seconds)),
+        Opening(seconds) => trade(at(seconds), 1, 500_000, 1),
+        Trade(seconds, number, units) => trade(at(seconds), number, units, 0),
+        Quote(seconds, bid, offer) => Record::Quote {
+            moment: at(seconds),
+            symbol: 0,
+            bid: Some(price(bid)),
+            offer: Some(price(offer)),
+            bid_size: 1,
+            offer_size: 1,
+        },
+        Halt(seconds) => Record::Notice {
+            moment: at(seconds),
+            symbol: 0,
+            kind: NoticeKind::Halt,
+        },
+        _ => return None,
+    })
+}
+
+/// Whether ABC answers what is wanted.
+fn is_as_wanted(scene: &Scene, step: Step) -> bool {
+    match step {
+        IsListed(want) => scene.symbol.is_listed() == want,
+        InPhase(want) => scene.symbol.phase() == want,
+        DueAt(seconds) => scene.due() == Some(seconds.wrapping_mul(1_000_000_000)),
+        NeverDue => scene.due() == Some(u64::MAX),
+        _ => true,
     }
-    let due = symbol.due().map(|due| due.until);
-    assert!(rt; due == Some(seconds.wrapping_mul(1_000_000_000)));
-    Ok(())
+}
+
+impl Script<Step> for Scene {
+    fn answers(&mut self, step: Step) -> Result<bool, Fail> {
+        match step {
+            StopMarket => self.market.stopped = true,
+            Begin => self.begin()?,
+            _ => {
+                if let Some(x) = record(step) {
+                    self.take(&x)?;
+                }
+            }
+        }
+        Ok(is_as_wanted(self, step))
+    }
+}
+
+/// Takes the steps from a new scene on.
+fn follow<R: Abort + AllocGlobal>(rt: &R, steps: &[Step]) -> Result<(), Fail> {
+    play(rt, Scene::new(rt.alloc())?, steps)
 }
 
 #[test]
 fn a_symbol_is_listed_from_its_listing_to_the_end_of_the_day(rt: HostRuntime) -> Result<(), Fail> {
-    let mut symbol = Symbol::new(rt.alloc(), 0)?;
-    let mut out = Messages::new(rt.alloc())?;
-    let market = third(false);
-    assert!(rt; !symbol.is_listed());
-    symbol.evaluate(&new_day(3), &market, &mut out)?;
-    symbol.evaluate(&listing(at(14_400), name_of(0)), &market, &mut out)?;
-    assert!(rt; symbol.is_listed());
-    symbol.evaluate(&clock(at(57_600)), &market, &mut out)?;
-    assert!(rt; symbol.phase() == Phase::Closed);
-    symbol.evaluate(&new_day(4), &market, &mut out)?;
-    assert!(rt; !symbol.is_listed());
-    assert!(rt; symbol.phase() == Phase::Shut);
-    Ok(())
-}
-
-/// After these records ticks bring the stock nothing at all.
-fn expect_never<R: Abort + AllocGlobal>(rt: &R, xs: &[Record]) -> Result<(), Fail> {
-    let mut symbol = Symbol::new(rt.alloc(), 0)?;
-    let mut out = Messages::new(rt.alloc())?;
-    for x in xs {
-        symbol.evaluate(x, &third(false), &mut out)?;
-    }
-    assert!(rt; symbol.due().map(|due| due.until) == Some(u64::MAX));
-    Ok(())
+    follow(
+        &rt,
+        &[
+            IsListed(false),
+            Day(3),
+            Listing,
+            IsListed(true),
+            Clock(57_600),
+            InPhase(Phase::Closed),
+            Day(4),
+            IsListed(false),
+            InPhase(Phase::Shut),
+        ],
+    )
 }
 
 #[test]
 fn an_unlisted_or_closed_symbol_is_due_at_no_tick(rt: HostRuntime) -> Result<(), Fail> {
-    expect_never(&rt, &[new_day(3)])?;
-    let closed = [
-        new_day(3),
-        listing(at(14_400), name_of(0)),
-        clock(at(34_200)),
-        trade(at(57_599), 1, 500_000, 1),
-        clock(at(57_600)),
-    ];
-    expect_never(&rt, &closed)
+    follow(
+        &rt,
+        &[
+            Day(3),
+            NeverDue,
+            Begin,
+            Opening(57_599),
+            Clock(57_600),
+            NeverDue,
+        ],
+    )
 }
 
 #[test]
 fn a_shut_symbol_is_due_at_the_open(rt: HostRuntime) -> Result<(), Fail> {
-    let mut symbol = Symbol::new(rt.alloc(), 0)?;
-    let mut out = Messages::new(rt.alloc())?;
-    for x in [new_day(3), listing(at(14_400), name_of(0))] {
-        symbol.evaluate(&x, &third(false), &mut out)?;
-    }
-    assert!(rt; symbol.due().map(|due| due.until) == Some(34_200_000_000_000));
-    Ok(())
+    follow(&rt, &[Day(3), Listing, DueAt(34_200)])
 }
 
 #[test]
 fn a_symbol_without_trades_is_due_where_percentages_may_change(
     rt: HostRuntime,
 ) -> Result<(), Fail> {
-    expect_due(&rt, false, &[], 35_100)?;
-    expect_due(&rt, false, &[clock(at(35_100))], 56_100)?;
-    expect_due(&rt, false, &[clock(at(56_100))], 57_600)
-}
-
-/// An opening trade at $50.00.
-fn opening(seconds: u64) -> Record {
-    trade(at(seconds), 1, 500_000, 1)
+    follow(
+        &rt,
+        &[
+            Begin,
+            DueAt(35_100),
+            Begin,
+            Clock(35_100),
+            DueAt(56_100),
+            Begin,
+            Clock(56_100),
+            DueAt(57_600),
+        ],
+    )
 }
 
 #[test]
 fn a_symbol_is_due_where_a_mean_may_come(rt: HostRuntime) -> Result<(), Fail> {
-    let plain = [trade(at(34_210), 1, 500_000, 0)];
-    expect_due(&rt, false, &plain, 34_500)?;
-    let with_bands = [opening(34_210), trade(at(34_211), 2, 505_000, 0)];
-    expect_due(&rt, false, &with_bands, 34_510)?;
-    let far_before_30_seconds = [opening(34_210), trade(at(34_211), 2, 515_000, 0)];
-    expect_due(&rt, false, &far_before_30_seconds, 34_240)?;
-    let after_30_seconds = [
-        opening(34_210),
-        trade(at(34_211), 2, 505_000, 0),
-        quote(at(34_240), 499_900, 500_100),
-    ];
-    expect_due(&rt, false, &after_30_seconds, 34_510)
+    follow(
+        &rt,
+        &[
+            Begin,
+            Trade(34_210, 1, 500_000),
+            DueAt(34_500),
+            // With bands.
+            Begin,
+            Opening(34_210),
+            Trade(34_211, 2, 505_000),
+            DueAt(34_510),
+            // A mean far from the reference price before 30 seconds are over.
+            Begin,
+            Opening(34_210),
+            Trade(34_211, 2, 515_000),
+            DueAt(34_240),
+            // Behind 30 seconds.
+            Begin,
+            Opening(34_210),
+            Trade(34_211, 2, 505_000),
+            Quote(34_240, 499_900, 500_100),
+            DueAt(34_510),
+        ],
+    )
 }
 
 #[test]
 fn a_symbol_whose_trades_are_near_its_reference_price_is_due_at_no_end_of_a_trade(
     rt: HostRuntime,
 ) -> Result<(), Fail> {
-    let first = [opening(34_210), trade(at(34_211), 2, 504_999, 0)];
-    expect_due(&rt, false, &first, 35_100)?;
-    let later = [
-        opening(34_210),
-        trade(at(34_400), 2, 495_001, 0),
-        clock(at(34_510)),
-        clock(at(34_700)),
-        clock(at(35_100)),
-        trade(at(40_000), 3, 504_999, 0),
-    ];
-    expect_due(&rt, false, &later, 56_100)
+    follow(
+        &rt,
+        &[
+            Begin,
+            Opening(34_210),
+            Trade(34_211, 2, 504_999),
+            DueAt(35_100),
+            Begin,
+            Opening(34_210),
+            Trade(34_400, 2, 495_001),
+            Clock(34_510),
+            Clock(34_700),
+            Clock(35_100),
+            Trade(40_000, 3, 504_999),
+            DueAt(56_100),
+        ],
+    )
 }
 
 #[test]
 fn a_limit_state_is_due_after_15_seconds_and_a_pause_after_five_minutes(
     rt: HostRuntime,
 ) -> Result<(), Fail> {
-    let limit = [
-        opening(34_200),
-        quote(at(36_000), 474_900, 475_000),
-        trade(at(36_005), 2, 475_000, 0),
-    ];
-    expect_due(&rt, false, &limit, 36_015)?;
-    let paused = [
-        opening(34_200),
-        quote(at(36_000), 474_900, 475_000),
-        clock(at(36_015)),
-        quote(at(36_020), 474_900, 476_000),
-    ];
-    expect_due(&rt, false, &paused, 36_315)
+    follow(
+        &rt,
+        &[
+            Begin,
+            Opening(34_200),
+            Quote(36_000, 474_900, 475_000),
+            Trade(36_005, 2, 475_000),
+            DueAt(36_015),
+            Begin,
+            Opening(34_200),
+            Quote(36_000, 474_900, 475_000),
+            Clock(36_015),
+            Quote(36_020, 474_900, 476_000),
+            DueAt(36_315),
+        ],
+    )
 }
 
 #[test]
 fn a_halted_or_stopped_symbol_is_due_at_the_close(rt: HostRuntime) -> Result<(), Fail> {
-    expect_due(&rt, false, &[opening(34_200), halt(at(36_000))], 57_600)?;
-    expect_due(&rt, true, &[], 57_600)
+    follow(
+        &rt,
+        &[
+            Begin,
+            Opening(34_200),
+            Halt(36_000),
+            DueAt(57_600),
+            StopMarket,
+            Begin,
+            DueAt(57_600),
+        ],
+    )
 }
 
 #[test]
 fn a_tick_that_is_passed_over_leaves_the_due_as_it_was(rt: HostRuntime) -> Result<(), Fail> {
-    let passed = [
-        opening(34_200),
-        halt(at(34_201)),
-        clock(at(34_600)),
-        clock(at(40_000)),
-    ];
-    expect_due(&rt, false, &passed, 57_600)
-}
-
-/// Three trades, of which the first one opens at 09:30:10, and then two ticks.
-fn leaving() -> [Record; 5] {
-    [
-        opening(34_210),
-        trade(at(34_260), 2, 499_000, 0),
-        trade(at(34_261), 3, 513_000, 0),
-        clock(at(34_510)),
-        clock(at(34_561)),
-    ]
+    follow(
+        &rt,
+        &[
+            Begin,
+            Opening(34_200),
+            Halt(34_201),
+            Clock(34_600),
+            Clock(40_000),
+            DueAt(57_600),
+        ],
+    )
 }
 
 #[test]
 fn a_tick_at_which_an_old_trade_leaves_finds_the_next_due(rt: HostRuntime) -> Result<(), Fail> {
-    let records = leaving();
-    expect_due(&rt, false, &records[..3], 34_510)?;
-    expect_due(&rt, false, &records[..4], 34_560)?;
-    expect_due(&rt, false, &records, 35_100)
+    follow(
+        &rt,
+        &[
+            Begin,
+            Opening(34_210),
+            Trade(34_260, 2, 499_000),
+            Trade(34_261, 3, 513_000),
+            DueAt(34_510),
+            Clock(34_510),
+            DueAt(34_560),
+            Clock(34_561),
+            DueAt(35_100),
+        ],
+    )
 }
 
 #[test]
 fn a_trade_that_leaves_and_keeps_the_mean_near_wakes_no_stock(rt: HostRuntime) -> Result<(), Fail> {
-    let trades = [
-        opening(34_210),
-        trade(at(34_260), 2, 506_000, 0),
-        trade(at(34_261), 3, 494_000, 0),
-    ];
-    expect_due(&rt, false, &trades, 34_560)
+    follow(
+        &rt,
+        &[
+            Begin,
+            Opening(34_210),
+            Trade(34_260, 2, 506_000),
+            Trade(34_261, 3, 494_000),
+            DueAt(34_560),
+        ],
+    )
 }

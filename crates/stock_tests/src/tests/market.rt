@@ -1,149 +1,215 @@
-// What an admission and a market tell beside their verdicts and messages, and their room.
-use super::{at, clock, listing, moment, name_of, new_day, trade};
-use market_core::{Admission, Lead, Market};
+// What a market tells beside its messages, and its room.
+use super::script::{Script, play};
+use super::{Entry, at, clock, listing, moment, name_of, new_day, record};
+use Entry::{Clock, Day, Listing, Tick};
+use Leading::{GaveHalt, HasId, Leads};
+use Step::{AllTrade, Apply, ClockAt, Given, ListAll, QuietClocks};
+use market_core::{Lead, Market};
 use price_core::Index;
-use session_core::{Level, Moment, Phase};
+use session_core::{Level, Phase};
 use std::alloc::Global;
 use std::process::Abort;
 use std::test::Fail;
-use wire_in::{Record, Refusal};
 use wire_out::{Message, Stamped};
 
-/// The verdict on a record, which is admitted where there is none.
-fn tried(admission: &mut Admission, x: &Record) -> Result<Option<Refusal>, Fail> {
-    let verdict = admission.verdict(x);
-    if verdict.is_none() {
-        admission.admit(x)?;
-    }
-    Ok(verdict)
+/// What a market is given, or what it has to answer.
+#[derive(Clone, Copy)]
+enum Step {
+    Apply(Entry),
+    /// 3 June begins, and the first 16,384 names are listed at 09:00:00.
+    ListAll,
+    /// A clock at a nanosecond of the day.
+    ClockAt(u64),
+    /// Clocks at a second of the day, as many as asked for, which take no room.
+    QuietClocks(u64, u32),
+    /// As many messages until now.
+    Given(usize),
+    /// Behind the messages of the 16,384 listings each stock, in the order of their ids, begins to trade.
+    AllTrade,
 }
 
-#[test]
-fn an_admission_tells_how_many_records_and_names_it_holds_and_the_day(
-    rt: HostRuntime,
-) -> Result<(), Fail> {
-    let mut admission = Admission::new(rt.alloc(), 100)?;
-    assert!(rt; admission.count() == 0 && admission.names() == 0);
-    assert!(rt; admission.today().is_none());
-    for x in [
-        clock(at(36_000)),
-        new_day(3),
-        listing(at(18_000), name_of(7)),
-        listing(at(18_000), name_of(7)),
-        new_day(4),
-        listing(at(18_000), name_of(7)),
-    ] {
-        let _verdict = tried(&mut admission, &x)?;
-    }
-    assert!(rt; admission.count() == 4 && admission.names() == 1);
-    assert!(rt; admission.today().map(|day| day.date.day()) == Some(4));
-    Ok(())
-}
-
-/// An admission of a day and of 16,384 names, which takes two records more.
-fn full_directory(alloc: Global) -> Result<Admission, Fail> {
-    let mut admission = Admission::new(alloc, 16_386)?;
-    let _verdict = tried(&mut admission, &new_day(3))?;
+/// Begins 3 June and lists the first names, up to the most that there can be.
+fn list_all(market: &mut Market, out: &mut Vec<Stamped>) -> Result<(), Fail> {
+    market.apply(&new_day(3), out)?;
     for number in 0..16_384 {
-        let x = listing(at(18_000), name_of(number));
-        if tried(&mut admission, &x)?.is_some() {
-            return Ok(admission);
-        }
+        market.apply(&listing(32_400, number), out)?;
     }
-    Ok(admission)
+    Ok(())
 }
 
-#[test]
-fn the_directory_takes_16_384_names(rt: HostRuntime) -> Result<(), Fail> {
-    let mut admission = full_directory(rt.alloc())?;
-    assert!(rt; admission.names() == 16_384);
-    let known = listing(at(18_000), name_of(0));
-    let new = listing(at(18_000), name_of(16_384));
-    assert!(rt; tried(&mut admission, &new)? == Some(Refusal::DirectoryFull));
-    assert!(rt; tried(&mut admission, &known)? == Some(Refusal::AlreadyListed));
-    assert!(rt; tried(&mut admission, &new_day(4))?.is_none());
-    assert!(rt; tried(&mut admission, &new)? == Some(Refusal::DirectoryFull));
-    assert!(rt; tried(&mut admission, &known)? == Some(Refusal::JournalFull));
-    Ok(())
+/// Whether the same record, as many times as asked for, takes no room.
+fn is_quiet(
+    market: &mut Market,
+    entry: Entry,
+    times: u32,
+    out: &mut Vec<Stamped>,
+) -> Result<bool, Fail> {
+    let (messages, room) = (out.len(), out.capacity());
+    for _ in 0..times {
+        market.apply(&record(entry), out)?;
+    }
+    Ok(out.len() == messages && out.capacity() == room)
+}
+
+/// Whether behind the messages of the listings each stock begins to trade, in the order of their ids.
+fn all_trade(messages: &[Stamped]) -> bool {
+    let mut symbol = 0u16;
+    let phase = Phase::Trading;
+    for stamped in messages.iter().skip(16_384) {
+        if stamped.message != (Message::State { symbol, phase }) {
+            return false;
+        }
+        symbol = symbol.wrapping_add(1);
+    }
+    true
+}
+
+/// A market, and what it gave.
+#[derive(Drop)]
+struct Session {
+    market: Market,
+    out: Vec<Stamped>,
+}
+
+impl Session {
+    fn new(alloc: Global) -> Result<Session, Fail> {
+        Ok(Session {
+            market: Market::new(alloc)?,
+            out: Vec::new(alloc),
+        })
+    }
+}
+
+impl Script<Step> for Session {
+    fn answers(&mut self, step: Step) -> Result<bool, Fail> {
+        let Session { market, out } = self;
+        match step {
+            Apply(entry) => market.apply(&record(entry), out)?,
+            ListAll => list_all(market, out)?,
+            ClockAt(nanos) => market.apply(&clock(moment(nanos)), out)?,
+            QuietClocks(seconds, times) => return is_quiet(market, Clock(seconds), times, out),
+            Given(messages) => return Ok(out.len() == messages),
+            AllTrade => return Ok(all_trade(out)),
+        }
+        Ok(true)
+    }
+}
+
+/// Takes the steps from a new market on.
+fn follow<R: Abort + AllocGlobal>(rt: &R, steps: &[Step]) -> Result<(), Fail> {
+    play(rt, Session::new(rt.alloc())?, steps)
 }
 
 #[test]
 fn each_of_16_384_stocks_begins_to_trade_at_the_open(rt: HostRuntime) -> Result<(), Fail> {
-    let mut market = Market::new(rt.alloc())?;
-    let mut out = Vec::new(rt.alloc());
-    market.apply(&new_day(3), &mut out)?;
-    for number in 0..16_384 {
-        market.apply(&listing(at(32_400), name_of(number)), &mut out)?;
-    }
-    assert!(rt; out.len() == 16_384);
-    market.apply(&clock(moment(34_199_999_999_999)), &mut out)?;
-    assert!(rt; out.len() == 16_384);
-    market.apply(&clock(at(34_200)), &mut out)?;
-    assert!(rt; out.len() == 32_768);
-    let mut symbol = 0u16;
-    for stamped in out.iter().skip(16_384) {
-        let phase = Phase::Trading;
-        assert!(rt; stamped.message == Message::State { symbol, phase });
-        symbol = symbol.wrapping_add(1);
-    }
-    Ok(())
+    follow(
+        &rt,
+        &[
+            ListAll,
+            Given(16_384),
+            ClockAt(34_199_999_999_999),
+            Given(16_384),
+            ClockAt(34_200_000_000_000),
+            Given(32_768),
+            AllTrade,
+        ],
+    )
 }
 
 #[test]
 fn quiet_clocks_take_no_room(rt: HostRuntime) -> Result<(), Fail> {
-    let start = at(36_000);
-    let mut market = Market::new(rt.alloc())?;
-    let mut out = Vec::new(rt.alloc());
-    for x in [
-        new_day(3),
-        listing(start, name_of(0)),
-        listing(start, name_of(1)),
-        clock(start),
-    ] {
-        market.apply(&x, &mut out)?;
-    }
-    let (messages, room) = (out.len(), out.capacity());
-    for _ in 0..1000 {
-        market.apply(&clock(start), &mut out)?;
-    }
-    assert!(rt; out.len() == messages && out.capacity() == room);
-    Ok(())
+    follow(
+        &rt,
+        &[
+            Apply(Day(3)),
+            Apply(Listing(36_000, 0)),
+            Apply(Listing(36_000, 1)),
+            Apply(Clock(36_000)),
+            QuietClocks(36_000, 1000),
+        ],
+    )
 }
 
-fn tick(moment: Moment, hundredths: u32) -> Record {
-    let value = Index::new(hundredths.clamp(1, 99_999_999)).unwrap();
-    Record::IndexTick { moment, value }
+/// What a market that is led is given, or what it has to answer.
+#[derive(Clone, Copy)]
+enum Leading {
+    /// A record, and whether the market stands still behind it.
+    Leads(Entry, bool),
+    /// The id of the name of a number.
+    HasId(u16, Option<u16>),
+    /// The messages of a halt at 10:00:00 and of its end, and no other.
+    GaveHalt,
+}
+
+/// A market that is led, and what it gave.
+#[derive(Drop)]
+struct Led {
+    lead: Lead,
+    out: Vec<Stamped>,
+}
+
+impl Led {
+    fn new(alloc: Global) -> Result<Led, Fail> {
+        Ok(Led {
+            lead: Lead::new(alloc)?,
+            out: Vec::new(alloc),
+        })
+    }
+
+    /// Whether the market stands still behind a record, where a day has begun.
+    fn stops(&mut self, entry: Entry) -> Result<Option<bool>, Fail> {
+        let x = record(entry);
+        if !x.is_day() && self.lead.view().is_none() {
+            return Ok(None);
+        }
+        Ok(Some(self.lead.lead(&x, &mut self.out)?.stopped))
+    }
+}
+
+/// A breaker of level one at 10:00:00, and the resumption of the market at 10:15:00.
+fn halt_of_the_market() -> [Stamped; 2] {
+    let breaker = Message::Breaker {
+        level: Level::One,
+        index: Index::new(465_000).unwrap(),
+    };
+    [
+        Stamped {
+            moment: at(36_000),
+            message: breaker,
+        },
+        Stamped {
+            moment: at(36_900),
+            message: Message::MarketResume,
+        },
+    ]
+}
+
+impl Script<Leading> for Led {
+    fn answers(&mut self, step: Leading) -> Result<bool, Fail> {
+        Ok(match step {
+            Leads(entry, want) => self.stops(entry)? == Some(want),
+            HasId(number, want) => self.lead.id(&name_of(number)) == want,
+            GaveHalt => self.out.as_slice() == halt_of_the_market().as_slice(),
+        })
+    }
 }
 
 #[test]
 fn a_led_market_gives_its_own_messages_alone(rt: HostRuntime) -> Result<(), Fail> {
-    let (start, end) = (at(36_000), at(36_900));
-    let mut lead = Lead::new(rt.alloc())?;
-    let mut out = Vec::new(rt.alloc());
-    for (x, stopped) in [
-        (new_day(3), false),
-        (listing(at(32_400), name_of(1)), false),
-        (listing(at(32_400), name_of(0)), false),
-        (clock(start), false),
-        (tick(start, 465_000), true),
-        (clock(end), false),
-    ] {
-        assert!(rt; x.is_day() || lead.view().is_some());
-        let seen = lead.lead(&x, &mut out)?;
-        assert!(rt; seen.stopped == stopped);
-    }
-    let index = Index::new(465_000)?;
-    let level = Level::One;
-    let breaker = Stamped {
-        moment: start,
-        message: Message::Breaker { level, index },
-    };
-    let resumption = Stamped {
-        moment: end,
-        message: Message::MarketResume,
-    };
-    assert!(rt; out.as_slice() == [breaker, resumption].as_slice());
-    assert!(rt; lead.id(&name_of(1)) == Some(0) && lead.id(&name_of(0)) == Some(1));
-    assert!(rt; lead.id(&name_of(2)).is_none());
-    Ok(())
+    play(
+        &rt,
+        Led::new(rt.alloc())?,
+        &[
+            Leads(Day(3), false),
+            Leads(Listing(32_400, 1), false),
+            Leads(Listing(32_400, 0), false),
+            Leads(Clock(36_000), false),
+            Leads(Tick(36_000, 465_000), true),
+            Leads(Clock(36_900), false),
+            GaveHalt,
+            HasId(1, Some(0)),
+            HasId(0, Some(1)),
+            HasId(2, None),
+        ],
+    )
 }

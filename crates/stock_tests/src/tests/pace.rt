@@ -1,48 +1,69 @@
 // Ticks take no time for each trade.
-use super::{at, clock, listing, moment, name_of, new_day, third, trade};
+use super::scene::Scene;
+use super::script::{Script, play};
+use super::{clock, moment, trade};
+use Step::{Begin, QuietTicks, Trades};
 use std::process::Abort;
 use std::rt::Clock;
 use std::test::Fail;
 use std::time::{Duration, Instant};
-use symbol_core::{Messages, Symbol};
 
 /// The nanoseconds of 09:30:00.
 const OPEN: u64 = 34_200_000_000_000;
 
-/// A stock with an opening trade at 09:30:00 and as many of the same price as asked for, a nanosecond apart; and then as many
-/// ticks, a nanosecond apart, from that nanosecond of the session on. They bring nothing, in less than five seconds.
-fn expect_quiet<R: Abort + AllocGlobal + Clock>(
-    rt: &R,
-    trades: u32,
-    ticks: u64,
-    from: u64,
-) -> Result<(), Fail> {
-    let mut symbol = Symbol::new(rt.alloc(), 0)?;
-    let mut out = Messages::new(rt.alloc())?;
-    let market = third(false);
-    for x in [
-        new_day(3),
-        listing(at(14_400), name_of(0)),
-        clock(at(34_200)),
-    ] {
-        symbol.evaluate(&x, &market, &mut out)?;
-    }
+#[derive(Clone, Copy)]
+enum Step {
+    /// Trading begins at 09:30:00.
+    Begin,
+    /// An opening trade at 09:30:00 and as many of the same price as asked for, a nanosecond apart. The first one alone brings
+    /// messages.
+    Trades(u32),
+    /// As many ticks as asked for, a nanosecond apart, from a nanosecond of the session on, which bring nothing.
+    QuietTicks(u64, u64),
+}
+
+/// Whether of these trades the first one alone brings messages.
+fn trade_all(scene: &mut Scene, trades: u32) -> Result<bool, Fail> {
     for number in 0..trades {
-        let x = trade(
-            moment(OPEN + u64::from(number)),
-            number,
-            500_000,
-            u16::from(number == 0),
-        );
-        symbol.evaluate(&x, &market, &mut out)?;
-        assert!(rt; out.items().is_empty() == (number > 0));
+        let is_first = number == 0;
+        let t = moment(OPEN + u64::from(number));
+        scene.take(&trade(t, number, 500_000, u16::from(is_first)))?;
+        if scene.out.items().is_empty() == is_first {
+            return Ok(false);
+        }
     }
-    let start = Instant::now(rt)?;
+    Ok(true)
+}
+
+/// Whether these ticks bring nothing.
+fn are_quiet(scene: &mut Scene, ticks: u64, from: u64) -> Result<bool, Fail> {
     for tick in 0..ticks {
-        let x = clock(moment(OPEN.saturating_add(from).saturating_add(tick)));
-        symbol.evaluate(&x, &market, &mut out)?;
-        assert!(rt; out.items().is_empty());
+        let nanos = OPEN.saturating_add(from).saturating_add(tick);
+        scene.take(&clock(moment(nanos)))?;
+        if !scene.out.items().is_empty() {
+            return Ok(false);
+        }
     }
+    Ok(true)
+}
+
+impl Script<Step> for Scene {
+    fn answers(&mut self, step: Step) -> Result<bool, Fail> {
+        match step {
+            Begin => {
+                self.begin()?;
+                Ok(true)
+            }
+            Trades(count) => trade_all(self, count),
+            QuietTicks(count, from) => are_quiet(self, count, from),
+        }
+    }
+}
+
+/// The steps take less than five seconds.
+fn expect_fast<R: Abort + AllocGlobal + Clock>(rt: &R, steps: &[Step]) -> Result<(), Fail> {
+    let start = Instant::now(rt)?;
+    play(rt, Scene::new(rt.alloc())?, steps)?;
     assert!(rt; start.elapsed(rt)? < Duration::from_secs(5));
     Ok(())
 }
@@ -50,7 +71,10 @@ fn expect_quiet<R: Abort + AllocGlobal + Clock>(
 // A look at each trade at each tick would be 20,000,000,000 looks.
 #[test]
 fn clock_ticks_take_no_time_for_each_of_50_000_trades(rt: HostRuntime) -> Result<(), Fail> {
-    expect_quiet(&rt, 50_000, 400_000, 60_000_000_000)
+    expect_fast(
+        &rt,
+        &[Begin, Trades(50_000), QuietTicks(400_000, 60_000_000_000)],
+    )
 }
 
 // A look at each trade that is left at each tick would be 200,000,000 looks.
@@ -58,5 +82,8 @@ fn clock_ticks_take_no_time_for_each_of_50_000_trades(rt: HostRuntime) -> Result
 fn trades_that_leave_one_by_one_take_no_time_for_each_of_20_000(
     rt: HostRuntime,
 ) -> Result<(), Fail> {
-    expect_quiet(&rt, 20_000, 20_000, 300_000_000_000)
+    expect_fast(
+        &rt,
+        &[Begin, Trades(20_000), QuietTicks(20_000, 300_000_000_000)],
+    )
 }

@@ -1,4 +1,5 @@
 // Frames of each type that are a byte short, a byte long, or have a field out of its range, at `print`.
+use Flaw::{Bytes, Late, Long, Short};
 use host_core::{Host, Status};
 use memory_host::MemoryHost;
 use std::alloc::Global;
@@ -39,77 +40,83 @@ fn frame_of(alloc: Global, kind: Kind, line: &str) -> Result<Vec<u8>, Fail> {
     Ok(host.sent().to_vec(alloc)?)
 }
 
-/// A frame without the last byte of its body.
-fn short_of(alloc: Global, frame: &[u8]) -> Result<Vec<u8>, Fail> {
-    let mut bytes = Vec::new(alloc);
-    if let [len, body @ .., _] = frame {
-        bytes.push(len.saturating_sub(1))?;
-        bytes.extend_from_slice(body)?;
+/// A frame with these bytes of its body, so many as its first byte tells.
+fn with_length(mut frame: Vec<u8>) -> Vec<u8> {
+    let len = frame.len().saturating_sub(1).min(255) as u8;
+    if let Some(first) = frame.first_mut() {
+        *first = len;
     }
-    Ok(bytes)
+    frame
 }
 
-/// A frame with a further byte of its body.
-fn long_of(alloc: Global, frame: &[u8]) -> Result<Vec<u8>, Fail> {
-    let mut bytes = Vec::new(alloc);
-    if let [len, body @ ..] = frame {
-        bytes.push(len.saturating_add(1))?;
-        bytes.extend_from_slice(body)?;
-        bytes.push(0)?;
-    }
-    Ok(bytes)
+/// What is bad in a frame.
+#[derive(Clone, Copy)]
+enum Flaw {
+    /// It lacks the last byte of its body.
+    Short,
+    /// It has a further byte of its body.
+    Long,
+    /// Its moment, which begins at that byte, is behind the day's end.
+    Late(usize),
+    /// In its place these bytes stand.
+    Bytes(&'static [u8]),
 }
 
-/// A frame whose moment, which begins at that byte, is behind the day's end.
-fn late_of(alloc: Global, frame: &[u8], moment: usize) -> Result<Vec<u8>, Fail> {
-    let mut bytes = Vec::new(alloc);
-    for (at, byte) in frame.iter().enumerate() {
-        bytes.push(if at == moment { 0xff } else { *byte })?;
+/// A frame with a flaw.
+fn flawed(alloc: Global, frame: &[u8], flaw: Flaw) -> Result<Vec<u8>, Fail> {
+    let mut bytes = frame.to_vec(alloc)?;
+    match flaw {
+        Short => {
+            bytes.pop();
+        }
+        Long => bytes.push(0)?,
+        Late(moment) => {
+            if let Some(first) = bytes.get_mut(moment) {
+                *first = 0xff;
+            }
+        }
+        Bytes(others) => bytes = others.to_vec(alloc)?,
     }
-    Ok(bytes)
+    Ok(with_length(bytes))
 }
 
-/// These bytes are bad behind a frame that is printed.
-fn expect_bad<Rt: Abort + AllocGlobal>(
-    rt: &Rt,
+/// Whether these bytes are bad behind the frame of a line, which alone is printed.
+fn is_bad_behind(
+    alloc: Global,
     kind: Kind,
-    line: &str,
+    (line, frame): (&str, &[u8]),
     bad: &[u8],
-) -> Result<(), Fail> {
-    let alloc = rt.alloc();
-    let mut input = frame_of(alloc, kind, line)?;
-    assert!(rt; !input.is_empty(), "{line}");
-    input.extend_from_slice(bad)?;
+) -> Result<bool, Fail> {
+    let input = [frame, bad].concat(alloc)?;
     let mut host = MemoryHost::new(alloc, &input, b"")?;
-    let status = print_stream(alloc, &mut host, kind);
-    assert_eq!(rt;
-        status,
-        Status::BadText { line: 2 },
-        "{bad:?} behind {line}"
-    );
+    let end = print_stream(alloc, &mut host, kind);
     let printed = host.sent().strip_suffix(b"\n");
-    assert!(rt; printed == Some(line.as_bytes()), "{line}");
-    Ok(())
+    Ok(end == Status::BadText { line: 2 } && printed == Some(line.as_bytes()))
 }
 
-/// The frame of a line is bad with a byte less, with a byte more, and with a moment out of its range.
-fn expect_bad_lengths_and_moments<Rt: Abort + AllocGlobal>(
-    rt: &Rt,
+/// The frame of a line is bad with each of these flaws.
+fn expect_bad<R: Abort + AllocGlobal>(
+    rt: &R,
     kind: Kind,
     line: &str,
-    moment: usize,
+    flaws: &[Flaw],
 ) -> Result<(), Fail> {
     let alloc = rt.alloc();
     let frame = frame_of(alloc, kind, line)?;
-    expect_bad(rt, kind, line, &short_of(alloc, &frame)?)?;
-    expect_bad(rt, kind, line, &long_of(alloc, &frame)?)?;
-    expect_bad(rt, kind, line, &late_of(alloc, &frame, moment)?)
+    for flaw in flaws {
+        let bad = flawed(alloc, &frame, *flaw)?;
+        assert!(rt;
+            is_bad_behind(alloc, kind, (line, &frame), &bad)?,
+            "{bad:?}"
+        );
+    }
+    Ok(())
 }
 
 #[test]
 fn a_record_of_each_type_has_its_length_and_its_ranges(rt: HostRuntime) -> Result<(), Fail> {
     for line in RECORDS {
-        expect_bad_lengths_and_moments(&rt, Kind::Records, line, 2)?;
+        expect_bad(&rt, Kind::Records, line, &[Short, Long, Late(2)])?;
     }
     Ok(())
 }
@@ -117,26 +124,21 @@ fn a_record_of_each_type_has_its_length_and_its_ranges(rt: HostRuntime) -> Resul
 #[test]
 fn a_message_of_each_type_has_its_length_and_its_ranges(rt: HostRuntime) -> Result<(), Fail> {
     for line in MESSAGES {
-        expect_bad_lengths_and_moments(&rt, Kind::Published, line, 10)?;
+        expect_bad(&rt, Kind::Published, line, &[Short, Long, Late(10)])?;
     }
     Ok(())
 }
 
 #[test]
 fn an_answer_of_each_type_has_its_length_and_its_ranges(rt: HostRuntime) -> Result<(), Fail> {
-    let alloc = rt.alloc();
     for line in ["hello 0 0", "ack 1", "refused 1 3 7"] {
-        let frame = frame_of(alloc, Kind::Published, line)?;
-        expect_bad(&rt, Kind::Published, line, &short_of(alloc, &frame)?)?;
-        expect_bad(&rt, Kind::Published, line, &long_of(alloc, &frame)?)?;
+        expect_bad(&rt, Kind::Published, line, &[Short, Long])?;
     }
     // The Ack of record 0, and refusals with the code 10 and with the field 8.
-    for bad in [
-        b"\x09\x82\0\0\0\0\0\0\0\0".as_slice(),
-        b"\x0b\x83\0\0\0\0\0\0\0\x01\x0a\0",
-        b"\x0b\x83\0\0\0\0\0\0\0\x01\x03\x08",
-    ] {
-        expect_bad(&rt, Kind::Published, "ack 1", bad)?;
-    }
-    Ok(())
+    let others = [
+        Bytes(b"\x09\x82\0\0\0\0\0\0\0\0"),
+        Bytes(b"\x0b\x83\0\0\0\0\0\0\0\x01\x0a\0"),
+        Bytes(b"\x0b\x83\0\0\0\0\0\0\0\x01\x03\x08"),
+    ];
+    expect_bad(&rt, Kind::Published, "ack 1", &others)
 }

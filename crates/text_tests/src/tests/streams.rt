@@ -1,9 +1,27 @@
 // Frames that are printed and lines that are packed, over a host in memory.
+use Way::{Pack, Print};
 use host_core::{Host, Status};
 use memory_host::{Call, MemoryHost};
 use std::alloc::Global;
+use std::process::Abort;
 use std::test::Fail;
 use text_core::{Kind, pack_stream, print_stream};
+
+/// What is done with the stream of a host.
+#[derive(Clone, Copy)]
+enum Way {
+    Pack,
+    Print,
+}
+
+/// A stream: what is done with it, what is sent, and how it ends.
+#[derive(Clone, Copy)]
+struct Stream<'a> {
+    way: Way,
+    kind: Kind,
+    sent: &'a [u8],
+    end: Status,
+}
 
 /// The day of the worked session, in one frame.
 const DAY: [u8; 20] = [
@@ -21,217 +39,199 @@ trade 09:30:00.000000001 0 1 50.0000 100 0000
 clock 09:30:01.000000000
 ";
 
-/// Whether a host gets that status and these bytes.
-fn gives(
-    mut host: MemoryHost,
-    alloc: Global,
-    pack: bool,
-    kind: Kind,
-    sent: &[u8],
-    want: Status,
-) -> bool {
-    let status = if pack {
-        pack_stream(alloc, &mut host, kind)
-    } else {
-        print_stream(alloc, &mut host, kind)
-    };
-    status == want && host.sent() == sent && host.disk() == b"disk".as_slice()
+/// A stream of records with its end.
+fn ending(way: Way, sent: &[u8], end: Status) -> Stream<'_> {
+    Stream {
+        way,
+        kind: Kind::Records,
+        sent,
+        end,
+    }
 }
 
-#[test]
-fn the_frame_of_a_day_is_printed(rt: HostRuntime) -> Result<(), Fail> {
-    let alloc = rt.alloc();
-    let host = MemoryHost::new(alloc, &DAY, b"disk")?;
-    assert!(rt; gives(host, alloc, false, Kind::Records, DAY_LINE, Status::Done));
+/// A stream of records to its end.
+fn records(way: Way, sent: &[u8]) -> Stream<'_> {
+    ending(way, sent, Status::Done)
+}
+
+/// Does it with the stream of a host, and tells how it ends.
+fn end_of(alloc: Global, host: &mut MemoryHost, way: Way, kind: Kind) -> Status {
+    match way {
+        Pack => pack_stream(alloc, host, kind),
+        Print => print_stream(alloc, host, kind),
+    }
+}
+
+/// Whether a host gets such a stream, and its disk stays.
+fn gives(alloc: Global, host: &mut MemoryHost, stream: Stream<'_>) -> bool {
+    let end = end_of(alloc, host, stream.way, stream.kind);
+    end == stream.end && host.sent() == stream.sent && host.disk() == b"disk".as_slice()
+}
+
+/// An input gives such a stream.
+fn expect<R: Abort + AllocGlobal>(rt: &R, input: &[u8], stream: Stream<'_>) -> Result<(), Fail> {
+    let mut host = MemoryHost::new(rt.alloc(), input, b"disk")?;
+    let is_given = gives(rt.alloc(), &mut host, stream);
+    assert!(rt; is_given, "of {} bytes", input.len());
     Ok(())
 }
 
 #[test]
+fn the_frame_of_a_day_is_printed(rt: HostRuntime) -> Result<(), Fail> {
+    expect(&rt, &DAY, records(Print, DAY_LINE))
+}
+
+#[test]
 fn the_line_of_a_day_is_packed(rt: HostRuntime) -> Result<(), Fail> {
-    let alloc = rt.alloc();
     for len in [57, 58] {
-        let host = MemoryHost::new(alloc, &DAY_LINE[..len], b"disk")?;
-        assert!(rt;
-            gives(host, alloc, true, Kind::Records, &DAY, Status::Done),
-            "{len} bytes"
-        );
+        expect(&rt, &DAY_LINE[..len], records(Pack, &DAY))?;
     }
     Ok(())
 }
 
 #[test]
 fn an_input_with_nothing_gives_nothing(rt: HostRuntime) -> Result<(), Fail> {
-    let alloc = rt.alloc();
-    for pack in [false, true] {
-        let host = MemoryHost::new(alloc, b"", b"disk")?;
-        assert!(rt; gives(host, alloc, pack, Kind::Published, b"", Status::Done));
+    for way in [Print, Pack] {
+        let nothing = Stream {
+            way,
+            kind: Kind::Published,
+            sent: b"",
+            end: Status::Done,
+        };
+        expect(&rt, b"", nothing)?;
     }
+    Ok(())
+}
+
+/// Cuts what a host moves into pieces of at most so many bytes, where these are told.
+fn cut(host: &mut MemoryHost, read: Option<u32>, send: u32) {
+    if let Some(read) = read {
+        host.pieces(read.max(1), send.max(1));
+    }
+}
+
+/// A page that is packed, and printed again, is the same page, read in pieces where these are told.
+fn expect_again<R: Abort + AllocGlobal>(
+    rt: &R,
+    kind: Kind,
+    page: &[u8],
+    read: Option<u32>,
+) -> Result<(), Fail> {
+    let mut packing = MemoryHost::new(rt.alloc(), page, b"disk")?;
+    cut(&mut packing, read, 3);
+    let packed = end_of(rt.alloc(), &mut packing, Pack, kind);
+    let mut printing = MemoryHost::new(rt.alloc(), packing.sent(), b"disk")?;
+    cut(&mut printing, read, 5);
+    let stream = Stream {
+        way: Print,
+        kind,
+        sent: page,
+        end: Status::Done,
+    };
+    let is_page = gives(rt.alloc(), &mut printing, stream);
+    assert!(rt; packed == Status::Done && is_page, "in pieces of {read:?}");
     Ok(())
 }
 
 #[test]
 fn a_page_is_packed_and_printed_again_in_pieces_of_any_size(rt: HostRuntime) -> Result<(), Fail> {
-    let alloc = rt.alloc();
     for size in [1, 2, 7, 65_536] {
-        let mut packing = MemoryHost::new(alloc, PAGE, b"disk")?;
-        packing.pieces(size, 3);
-        let packed = pack_stream(alloc, &mut packing, Kind::Records);
-        assert_eq!(rt; packed, Status::Done);
-        let mut printing = MemoryHost::new(alloc, packing.sent(), b"disk")?;
-        printing.pieces(size, 5);
-        assert!(rt;
-            gives(printing, alloc, false, Kind::Records, PAGE, Status::Done),
-            "pieces of {size}"
-        );
+        expect_again(&rt, Kind::Records, PAGE, Some(size))?;
     }
     Ok(())
 }
 
-/// The line of the day, and a further one.
-fn behind_the_day(alloc: Global, line: &[u8]) -> Result<Vec<u8>, Fail> {
-    let mut text = Vec::new(alloc);
-    text.extend_from_slice(DAY_LINE)?;
-    text.extend_from_slice(line)?;
-    text.extend_from_slice(b"\n")?;
-    Ok(text)
+/// Behind the line of the day another line is bad.
+fn expect_bad<R: Abort + AllocGlobal>(rt: &R, line: &[u8]) -> Result<(), Fail> {
+    let text = [DAY_LINE, line, b"\n"].concat(rt.alloc())?;
+    let end = Status::BadText { line: 2 };
+    expect(rt, &text, ending(Pack, &DAY, end))
 }
+
+/// Lines that are none of a record.
+const BAD_LINES: &[&str] = &[
+    "",
+    "clock",
+    "clock 9:30:00",
+    "clocl 04:00:00.000000000",
+    "clock 04:00:00.00000000:",
+    "clock 04:00:00.00000000",
+    "clock 04:00:00.000000000clock 04:00:00.000000000",
+    "clock 04:00:00.000000000 ",
+    "clock  04:00:00.000000000",
+    "clock 04:00:00.000000000\r",
+    "clock 24:00:00.000000000",
+    "cancel 09:30:00.000000000 0 01",
+    "cancel 09:30:00.000000000 65536 1",
+    "indication 09:30:00.000000000 0 0.0000 none",
+    "day 04:00:00.000000000 2024-02-30 regular since18 5000.00",
+    "ack 1",
+];
 
 #[test]
 fn a_bad_line_ends_the_stream_at_its_number(rt: HostRuntime) -> Result<(), Fail> {
-    let alloc = rt.alloc();
-    for line in [
-        "",
-        "clock",
-        "clock 9:30:00",
-        "clocl 04:00:00.000000000",
-        "clock 04:00:00.00000000:",
-        "clock 04:00:00.00000000",
-        "clock 04:00:00.000000000clock 04:00:00.000000000",
-        "clock 04:00:00.000000000 ",
-        "clock  04:00:00.000000000",
-        "clock 04:00:00.000000000\r",
-        "clock 24:00:00.000000000",
-        "cancel 09:30:00.000000000 0 01",
-        "cancel 09:30:00.000000000 65536 1",
-        "indication 09:30:00.000000000 0 0.0000 none",
-        "day 04:00:00.000000000 2024-02-30 regular since18 5000.00",
-        "ack 1",
-    ] {
-        let text = behind_the_day(alloc, line.as_bytes())?;
-        let host = MemoryHost::new(alloc, &text, b"disk")?;
-        assert!(rt;
-            gives(
-                host,
-                alloc,
-                true,
-                Kind::Records,
-                &DAY,
-                Status::BadText { line: 2 }
-            ),
-            "{line}"
-        );
+    for line in BAD_LINES {
+        expect_bad(&rt, line.as_bytes())?;
     }
     Ok(())
 }
 
 #[test]
 fn a_bad_frame_ends_the_stream_at_its_number(rt: HostRuntime) -> Result<(), Fail> {
-    let alloc = rt.alloc();
+    let frames = [DAY.as_slice(), &[0, 9]].concat(rt.alloc())?;
+    let second = ending(Print, DAY_LINE, Status::BadText { line: 2 });
+    expect(&rt, &frames, second)?;
     let mut short = DAY;
     short[0] = 18;
-    let mut frames = Vec::new(alloc);
-    frames.extend_from_slice(&DAY)?;
-    frames.extend_from_slice(&[0, 9])?;
-    for (input, sent, line) in [(&frames[..], DAY_LINE, 2), (&short[..], b"", 1)] {
-        let host = MemoryHost::new(alloc, input, b"disk")?;
-        assert!(rt;
-            gives(
-                host,
-                alloc,
-                false,
-                Kind::Records,
-                sent,
-                Status::BadText { line }
-            ),
-            "frame {line}"
-        );
-    }
-    Ok(())
+    expect(&rt, &short, ending(Print, b"", Status::BadText { line: 1 }))
 }
 
 #[test]
 fn an_input_that_ends_inside_a_frame_is_truncated(rt: HostRuntime) -> Result<(), Fail> {
-    let alloc = rt.alloc();
     for len in 1..20 {
-        let host = MemoryHost::new(alloc, &DAY[..len], b"disk")?;
-        assert!(rt;
-            gives(host, alloc, false, Kind::Records, b"", Status::Truncated),
-            "{len} bytes"
-        );
+        expect(&rt, &DAY[..len], ending(Print, b"", Status::Truncated))?;
     }
     Ok(())
 }
 
 #[test]
 fn a_line_that_goes_on_with_blanks_is_bad(rt: HostRuntime) -> Result<(), Fail> {
-    let alloc = rt.alloc();
-    // With the 24 of the clock these are 255, 256 and 300 bytes.
-    for blanks in [231, 232, 276] {
-        let mut line = Vec::new(alloc);
-        line.extend_from_slice(b"clock 04:00:00.000000000")?;
-        line.extend_from_slice(&Vec::from_elem(alloc, b' ', blanks)?)?;
-        let text = behind_the_day(alloc, &line)?;
-        let host = MemoryHost::new(alloc, &text, b"disk")?;
-        assert!(rt;
-            gives(
-                host,
-                alloc,
-                true,
-                Kind::Records,
-                &DAY,
-                Status::BadText { line: 2 }
-            ),
-            "{blanks} blanks"
-        );
+    let mut line = [b' '; 300];
+    line[..24].copy_from_slice(b"clock 04:00:00.000000000");
+    for len in [255, 256, 300] {
+        expect_bad(&rt, &line[..len])?;
     }
+    Ok(())
+}
+
+/// Where such a call of a host fails, an input gives such a stream.
+fn expect_failing<R: Abort + AllocGlobal>(
+    rt: &R,
+    input: &[u8],
+    call: Call,
+    nth: u64,
+    stream: Stream<'_>,
+) -> Result<(), Fail> {
+    let mut host = MemoryHost::new(rt.alloc(), input, b"disk")?;
+    host.fail(call, nth.max(1))?;
+    assert!(rt; gives(rt.alloc(), &mut host, stream));
     Ok(())
 }
 
 #[test]
 fn a_read_that_fails_comes_behind_what_was_read_before(rt: HostRuntime) -> Result<(), Fail> {
-    let alloc = rt.alloc();
-    let mut host = MemoryHost::new(alloc, &DAY, b"disk")?;
-    host.fail(Call::Read, 2)?;
-    assert!(rt;
-        gives(
-            host,
-            alloc,
-            false,
-            Kind::Records,
-            DAY_LINE,
-            Status::ReadFault
-        )
-    );
-    Ok(())
+    let stream = ending(Print, DAY_LINE, Status::ReadFault);
+    expect_failing(&rt, &DAY, Call::Read, 2, stream)
 }
 
 #[test]
 fn a_send_that_fails_ends_the_stream(rt: HostRuntime) -> Result<(), Fail> {
-    let alloc = rt.alloc();
-    let mut host = MemoryHost::new(alloc, DAY_LINE, b"disk")?;
-    host.fail(Call::Send, 1)?;
-    assert!(rt; gives(host, alloc, true, Kind::Records, b"", Status::SendFault));
-    Ok(())
+    let stream = ending(Pack, b"", Status::SendFault);
+    expect_failing(&rt, DAY_LINE, Call::Send, 1, stream)
 }
 
 #[test]
 fn published_frames_are_packed_and_printed_again(rt: HostRuntime) -> Result<(), Fail> {
-    let alloc = rt.alloc();
     let page = b"hello 0 0\nack 1\nrefused 2 9 0\n";
-    let mut packing = MemoryHost::new(alloc, page, b"disk")?;
-    let packed = pack_stream(alloc, &mut packing, Kind::Published);
-    assert_eq!(rt; packed, Status::Done);
-    let printing = MemoryHost::new(alloc, packing.sent(), b"disk")?;
-    assert!(rt; gives(printing, alloc, false, Kind::Published, page, Status::Done));
-    Ok(())
+    expect_again(&rt, Kind::Published, page, None)
 }

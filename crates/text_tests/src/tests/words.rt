@@ -1,269 +1,228 @@
+use Taken::{As, Refused, Told};
 use std::alloc::Global;
-use std::test::Fail;
+use std::process::Abort;
 use text_core::Kind;
 use words_core::{Asked, Command, WordsError, parse};
 
-/// Whether the words ask for this command.
-fn asks(alloc: Global, words: &[&str], wanted: Command) -> bool {
-    match parse(alloc, words) {
-        Ok(Asked::Command(command)) => command == wanted,
+/// How the words of a process are taken: as a command, as a question that is answered by a text with these words in it, or
+/// not at all.
+#[derive(Clone, Copy)]
+enum Taken {
+    As(Command),
+    Told(&'static str),
+    Refused,
+}
+
+/// The most bytes that a session reads.
+const BYTES_MAX: u64 = 1_099_511_627_776;
+
+/// Whether the words are taken in that way.
+fn is_taken(alloc: Global, words: &[&str], taken: Taken) -> bool {
+    match (parse(alloc, words), taken) {
+        (Ok(Asked::Command(command)), As(wanted)) => command == wanted,
+        (Ok(Asked::Text(text)), Told(part)) => text.as_str().contains(part),
+        (Err(error), Refused) => error == WordsError::Usage,
         _ => false,
     }
 }
 
-/// Whether the words are refused.
-fn is_refused(alloc: Global, words: &[&str]) -> bool {
-    match parse(alloc, words) {
-        Err(error) => error == WordsError::Usage,
-        _ => false,
+/// Each line of words is taken in its way.
+fn expect<R: Abort + AllocGlobal>(rt: &R, lines: &[(&[&str], Taken)]) {
+    for (place, (words, taken)) in lines.iter().enumerate() {
+        assert!(rt; is_taken(rt.alloc(), words, *taken), "line {place}");
     }
 }
 
-/// Whether the words ask for a text with these words in it.
-fn tells(alloc: Global, words: &[&str], part: &str) -> bool {
-    match parse(alloc, words) {
-        Ok(Asked::Text(text)) => text.as_str().contains(part),
-        _ => false,
-    }
+/// A session served by batches of at most so many frames, by so many workers, up to so many bytes.
+fn serve(from: Option<u64>, workers: u32, batch: u32, bytes: u64) -> Taken {
+    As(Command::Serve {
+        from,
+        workers,
+        batch,
+        bytes,
+    })
+}
+
+/// A generated day.
+fn generate(seed: u64, symbols: u32, records: u32, workers: u32, summary: bool) -> Taken {
+    As(Command::Generate {
+        seed,
+        symbols,
+        records,
+        workers,
+        summary,
+    })
+}
+
+/// A replay by so many workers.
+fn replay(workers: u32) -> Taken {
+    As(Command::Replay {
+        workers,
+        bytes: BYTES_MAX,
+    })
 }
 
 #[test]
 fn plain_lines_ask_for_their_commands(rt: HostRuntime) {
-    let alloc = rt.alloc();
-    let limit = 100_000_000;
-    assert!(rt; asks(alloc, &["format"], Command::Format { limit }));
-    let bytes = 1_099_511_627_776;
-    let from = Some(7);
-    assert!(rt;
-        asks(
-            alloc,
-            &[
-                "serve",
-                "--bytes",
-                "20",
-                "--from",
-                "7",
-                "--batch",
-                "64",
-                "--workers",
-                "2"
-            ],
-            Command::Serve {
-                from,
-                workers: 2,
-                batch: 64,
-                bytes: 20
-            }
-        )
-    );
-    assert!(rt;
-        asks(
-            alloc,
-            &["serve"],
-            Command::Serve {
-                from: None,
-                workers: 1,
-                batch: 64,
-                bytes
-            }
-        )
-    );
-    assert!(rt;
-        asks(
-            alloc,
-            &["serve", "--batch", "1"],
-            Command::Serve {
-                from: None,
-                workers: 1,
-                batch: 1,
-                bytes
-            }
-        )
-    );
-    assert!(rt; asks(alloc, &["replay"], Command::Replay { workers: 1, bytes }));
-    assert!(rt; asks(alloc, &["status"], Command::Status));
-    assert!(rt;
-        asks(
-            alloc,
-            &["print", "--kind", "records"],
-            Command::Print {
-                kind: Kind::Records
-            }
-        )
-    );
-    assert!(rt;
-        asks(
-            alloc,
-            &["pack", "--kind", "published"],
-            Command::Pack {
-                kind: Kind::Published
-            }
-        )
+    expect(
+        &rt,
+        &[
+            (&["format"], As(Command::Format { limit: 100_000_000 })),
+            (
+                &[
+                    "serve",
+                    "--bytes",
+                    "20",
+                    "--from",
+                    "7",
+                    "--batch",
+                    "64",
+                    "--workers",
+                    "2",
+                ],
+                serve(Some(7), 2, 64, 20),
+            ),
+            (&["serve"], serve(None, 1, 64, BYTES_MAX)),
+            (&["serve", "--batch", "1"], serve(None, 1, 1, BYTES_MAX)),
+            (&["replay"], replay(1)),
+            (&["status"], As(Command::Status)),
+            (
+                &["print", "--kind", "records"],
+                As(Command::Print {
+                    kind: Kind::Records,
+                }),
+            ),
+            (
+                &["pack", "--kind", "published"],
+                As(Command::Pack {
+                    kind: Kind::Published,
+                }),
+            ),
+        ],
     );
 }
 
 #[test]
 fn a_generated_day_takes_its_options_in_any_order(rt: HostRuntime) {
-    let alloc = rt.alloc();
-    let day = Command::Generate {
-        seed: 1,
-        symbols: 500,
-        records: 400_000,
-        workers: 1,
-        summary: false,
-    };
-    assert!(rt; asks(alloc, &["generate"], day));
-    let day = Command::Generate {
-        seed: 0,
-        symbols: 16_384,
-        records: 0,
-        workers: 2,
-        summary: true,
-    };
-    assert!(rt;
-        asks(
-            alloc,
-            &[
-                "generate",
-                "--workers",
-                "2",
-                "--records",
-                "0",
-                "--summary",
-                "--symbols",
-                "16384",
-                "--seed",
-                "0"
-            ],
-            day
-        )
+    expect(
+        &rt,
+        &[
+            (&["generate"], generate(1, 500, 400_000, 1, false)),
+            (
+                &[
+                    "generate",
+                    "--workers",
+                    "2",
+                    "--records",
+                    "0",
+                    "--summary",
+                    "--symbols",
+                    "16384",
+                    "--seed",
+                    "0",
+                ],
+                generate(0, 16_384, 0, 2, true),
+            ),
+        ],
     );
 }
 
 #[test]
 fn other_spellings_are_taken(rt: HostRuntime) {
-    let alloc = rt.alloc();
-    assert!(rt;
-        asks(
-            alloc,
-            &["format", "--limit=3"],
-            Command::Format { limit: 3 }
-        )
-    );
-    assert!(rt;
-        asks(
-            alloc,
-            &["format", "--limit", "+03"],
-            Command::Format { limit: 3 }
-        )
-    );
-    assert!(rt;
-        asks(
-            alloc,
-            &["serve", "--from=2", "--workers=3", "--batch=5"],
-            Command::Serve {
-                from: Some(2),
-                workers: 3,
-                batch: 5,
-                bytes: 1_099_511_627_776
-            }
-        )
-    );
-    assert!(rt;
-        asks(
-            alloc,
-            &["print", "--kind=records"],
-            Command::Print {
-                kind: Kind::Records
-            }
-        )
+    expect(
+        &rt,
+        &[
+            (&["format", "--limit=3"], As(Command::Format { limit: 3 })),
+            (
+                &["format", "--limit", "+03"],
+                As(Command::Format { limit: 3 }),
+            ),
+            (
+                &["serve", "--from=2", "--workers=3", "--batch=5"],
+                serve(Some(2), 3, 5, BYTES_MAX),
+            ),
+            (
+                &["print", "--kind=records"],
+                As(Command::Print {
+                    kind: Kind::Records,
+                }),
+            ),
+        ],
     );
 }
 
 #[test]
 fn workers_are_told_by_their_number(rt: HostRuntime) {
-    let alloc = rt.alloc();
-    let replay = Command::Replay {
-        workers: 64,
-        bytes: 1_099_511_627_776,
-    };
-    assert!(rt; asks(alloc, &["replay", "--workers", "64"], replay));
-    assert!(rt; asks(alloc, &["replay", "--workers", "064"], replay));
+    expect(
+        &rt,
+        &[
+            (&["replay", "--workers", "64"], replay(64)),
+            (&["replay", "--workers", "064"], replay(64)),
+        ],
+    );
 }
 
 #[test]
 fn a_generated_day_is_spelled_in_another_way(rt: HostRuntime) {
-    let alloc = rt.alloc();
-    let day = Command::Generate {
-        seed: 5,
-        symbols: 500,
-        records: 400_000,
-        workers: 64,
-        summary: true,
-    };
-    assert!(rt;
-        asks(
-            alloc,
+    expect(
+        &rt,
+        &[(
             &["generate", "--seed=5", "--workers=64", "--summary"],
-            day
-        )
+            generate(5, 500, 400_000, 64, true),
+        )],
     );
 }
+
+/// Lines of words that ask for nothing.
+const REFUSED: &[(&[&str], Taken)] = &[
+    (&[], Refused),
+    (&["serve", "--batch", "65"], Refused),
+    (&["serve", "--from", "0"], Refused),
+    (&["format", "--limit", "2000000001"], Refused),
+    (&["format", "--limit", "3", "--limit", "3"], Refused),
+    (&["replay", "--bytes"], Refused),
+    (&["print"], Refused),
+    (&["pack", "--kind", "frames"], Refused),
+    (&["generate", "--symbols", "0"], Refused),
+    (&["generate", "--seed", "-1"], Refused),
+    (&["serve", "--workers", "65"], Refused),
+    (&["replay", "--workers", "0"], Refused),
+    (&["generate", "--workers", "2", "--workers", "2"], Refused),
+    (&["status", "--workers", "2"], Refused),
+    (&["status", "now"], Refused),
+    (&["stop"], Refused),
+];
 
 #[test]
 fn other_words_are_refused(rt: HostRuntime) {
-    let alloc = rt.alloc();
-    assert!(rt; is_refused(alloc, &[]));
-    assert!(rt; is_refused(alloc, &["serve", "--batch", "65"]));
-    assert!(rt; is_refused(alloc, &["serve", "--from", "0"]));
-    assert!(rt; is_refused(alloc, &["format", "--limit", "2000000001"]));
-    assert!(rt; is_refused(alloc, &["format", "--limit", "3", "--limit", "3"]));
-    assert!(rt; is_refused(alloc, &["replay", "--bytes"]));
-    assert!(rt; is_refused(alloc, &["print"]));
-    assert!(rt; is_refused(alloc, &["pack", "--kind", "frames"]));
-    assert!(rt; is_refused(alloc, &["generate", "--symbols", "0"]));
-    assert!(rt; is_refused(alloc, &["generate", "--seed", "-1"]));
-    assert!(rt; is_refused(alloc, &["serve", "--workers", "65"]));
-    assert!(rt; is_refused(alloc, &["replay", "--workers", "0"]));
-    assert!(rt; is_refused(alloc, &["generate", "--workers", "2", "--workers", "2"]));
-    assert!(rt; is_refused(alloc, &["status", "--workers", "2"]));
-    assert!(rt; is_refused(alloc, &["status", "now"]));
-    assert!(rt; is_refused(alloc, &["stop"]));
+    expect(&rt, REFUSED);
 }
+
+/// Lines of words that ask for a text.
+const TOLD: &[(&[&str], Taken)] = &[
+    (&["--help"], Told("Usage: halts <journal> <COMMAND>")),
+    (&["-h"], Told("generate")),
+    (&["help"], Told("status")),
+    (&["--version"], Told("halts 0.1.0")),
+    (
+        &["format", "--help"],
+        Told("from 1 to 2000000000 [default: 100000000]"),
+    ),
+    (
+        &["serve", "-h"],
+        Told("Usage: halts <journal> serve [OPTIONS]"),
+    ),
+    (
+        &["help", "generate"],
+        Told("from 1 to 16384 [default: 500]"),
+    ),
+    (
+        &["replay", "--help"],
+        Told("evaluate the records, from 1 to 64 [default: 1]"),
+    ),
+];
 
 #[test]
 fn help_and_the_version_are_told(rt: HostRuntime) {
-    let alloc = rt.alloc();
-    assert!(rt; tells(alloc, &["--help"], "Usage: halts <journal> <COMMAND>"));
-    assert!(rt; tells(alloc, &["-h"], "generate"));
-    assert!(rt; tells(alloc, &["help"], "status"));
-    assert!(rt; tells(alloc, &["--version"], "halts 0.1.0"));
-    assert!(rt;
-        tells(
-            alloc,
-            &["format", "--help"],
-            "from 1 to 2000000000 [default: 100000000]"
-        )
-    );
-    assert!(rt;
-        tells(
-            alloc,
-            &["serve", "-h"],
-            "Usage: halts <journal> serve [OPTIONS]"
-        )
-    );
-    assert!(rt;
-        tells(
-            alloc,
-            &["help", "generate"],
-            "from 1 to 16384 [default: 500]"
-        )
-    );
-    assert!(rt;
-        tells(
-            alloc,
-            &["replay", "--help"],
-            "evaluate the records, from 1 to 64 [default: 1]"
-        )
-    );
+    expect(&rt, TOLD);
 }

@@ -1,104 +1,143 @@
+use super::script::{Step, play};
+use Call::{Fill, First, Get, Length, Set};
 use alarms::Alarms;
-use std::alloc::Global;
 use std::process::Abort;
-use std::test::Fail;
+
+/// A call of alarms, with the wanted answer.
+#[derive(Clone, Copy)]
+enum Call {
+    /// A place gets a moment.
+    Set(usize, u64),
+    /// Each place gets a moment.
+    Fill(u64),
+    Length(usize),
+    /// The moment of a place.
+    Get(usize, Option<u64>),
+    /// From a place on, the first that is due at a moment.
+    First(usize, u64, Option<usize>),
+}
+
+impl Step<Alarms> for Call {
+    fn holds<R: Abort>(&self, _: &R, alarms: &mut Alarms) -> bool {
+        match *self {
+            Set(place, moment) => {
+                let is_there = place < alarms.len();
+                if is_there {
+                    alarms.set(place, moment);
+                }
+                is_there
+            }
+            Fill(moment) => {
+                alarms.fill(moment);
+                true
+            }
+            Length(want) => alarms.len() == want,
+            Get(place, want) => alarms.get(place) == want,
+            First(from, moment, want) => alarms.next(from, moment) == want,
+        }
+    }
+}
 
 /// So many places, each at one moment.
-fn all_at(alloc: Global, places: usize, moment: u64) -> Result<Alarms, Fail> {
-    let mut alarms = Alarms::new(alloc);
+fn all_at<R: Abort + AllocGlobal>(rt: &R, places: usize, moment: u64) -> Alarms {
+    let mut alarms = Alarms::new(rt.alloc());
     for _ in 0..places {
-        alarms.push(moment)?;
+        alarms.push(moment).expect(rt, "memory");
     }
-    Ok(alarms)
+    alarms
 }
 
-fn set(alarms: &mut Alarms, place: usize, moment: u64) {
-    if place < alarms.len() {
-        alarms.set(place, moment);
-    }
-}
-
-/// From these places on, these are the first that are due at a moment.
-fn expect_due<R: Abort + AllocGlobal>(
-    rt: &R,
-    alarms: &mut Alarms,
-    t: u64,
-    cases: &[(usize, Option<usize>)],
-) {
-    for (from, want) in cases {
-        assert_eq!(rt; alarms.next(*from, t), *want, "from {from} on, at {t}");
-    }
-}
+const SIZES: [usize; 8] = [1, 7, 8, 9, 63, 64, 65, 16_384];
 
 #[test]
-fn a_place_is_due_from_its_moment_on(rt: HostRuntime) -> Result<(), Fail> {
-    for places in [1, 7, 8, 9, 63, 64, 65, 16_384] {
-        let mut alarms = all_at(rt.alloc(), places, 10)?;
+fn a_place_is_due_from_its_moment_on(rt: HostRuntime) {
+    for places in SIZES {
         let last = places - 1;
-        assert_eq!(rt; alarms.len(), places);
-        expect_due(&rt, &mut alarms, 9, &[(0, None), (last, None)]);
-        expect_due(&rt, &mut alarms, 10, &[(0, Some(0)), (last, Some(last))]);
-        expect_due(
+        play(
             &rt,
-            &mut alarms,
-            u64::MAX,
-            &[(places, None), (20_000, None)],
+            &mut all_at(&rt, places, 10),
+            &[
+                Length(places),
+                First(0, 9, None),
+                First(last, 9, None),
+                First(0, 10, Some(0)),
+                First(last, 10, Some(last)),
+                First(places, u64::MAX, None),
+                First(20_000, u64::MAX, None),
+            ],
         );
     }
-    Ok(())
 }
 
 #[test]
-fn the_last_place_alone_is_due(rt: HostRuntime) -> Result<(), Fail> {
-    for places in [1, 7, 8, 9, 63, 64, 65, 16_384] {
-        let mut alarms = all_at(rt.alloc(), places, 10)?;
+fn the_last_place_alone_is_due(rt: HostRuntime) {
+    for places in SIZES {
         let last = places - 1;
-        set(&mut alarms, last, 5);
-        expect_due(&rt, &mut alarms, 4, &[(0, None)]);
-        expect_due(&rt, &mut alarms, 5, &[(0, Some(last)), (places, None)]);
-        set(&mut alarms, last, 20);
-        assert_eq!(rt; alarms.get(last), Some(20));
-        assert_eq!(rt; alarms.get(places), None);
-        expect_due(&rt, &mut alarms, 9, &[(0, None)]);
-        expect_due(&rt, &mut alarms, 19, &[(last, None)]);
+        play(
+            &rt,
+            &mut all_at(&rt, places, 10),
+            &[
+                Set(last, 5),
+                First(0, 4, None),
+                First(0, 5, Some(last)),
+                First(places, 5, None),
+                Set(last, 20),
+                Get(last, Some(20)),
+                Get(places, None),
+                First(0, 9, None),
+                First(last, 19, None),
+            ],
+        );
     }
-    Ok(())
 }
 
 #[test]
-fn each_of_64_places_may_have_the_lowest_moment(rt: HostRuntime) -> Result<(), Fail> {
-    let mut alarms = all_at(rt.alloc(), 64, 100)?;
+fn each_of_64_places_may_have_the_lowest_moment(rt: HostRuntime) {
+    let mut alarms = all_at(&rt, 64, 100);
     for place in 0..64 {
-        set(&mut alarms, place, 50);
-        expect_due(&rt, &mut alarms, 49, &[(0, None)]);
-        expect_due(&rt, &mut alarms, 50, &[(0, Some(place)), (place + 1, None)]);
-        set(&mut alarms, place, 100);
-        expect_due(&rt, &mut alarms, 99, &[(0, None)]);
+        play(
+            &rt,
+            &mut alarms,
+            &[
+                Set(place, 50),
+                First(0, 49, None),
+                First(0, 50, Some(place)),
+                First(place + 1, 50, None),
+                Set(place, 100),
+                First(0, 99, None),
+            ],
+        );
     }
-    Ok(())
 }
 
 #[test]
-fn no_place_without_a_moment_is_due(rt: HostRuntime) -> Result<(), Fail> {
-    let mut alarms = all_at(rt.alloc(), 130, u64::MAX)?;
-    expect_due(&rt, &mut alarms, u64::MAX - 1, &[(0, None)]);
-    set(&mut alarms, 129, 86_400_000_000_000);
-    expect_due(&rt, &mut alarms, 86_400_000_000_000, &[(0, Some(129))]);
-    Ok(())
+fn no_place_without_a_moment_is_due(rt: HostRuntime) {
+    play(
+        &rt,
+        &mut all_at(&rt, 130, u64::MAX),
+        &[
+            First(0, u64::MAX - 1, None),
+            Set(129, 86_400_000_000_000),
+            First(0, 86_400_000_000_000, Some(129)),
+        ],
+    );
 }
 
 #[test]
-fn all_places_are_due_after_all_were_set(rt: HostRuntime) -> Result<(), Fail> {
-    let mut alarms = all_at(rt.alloc(), 130, 7)?;
-    expect_due(
+fn all_places_are_due_after_all_were_set(rt: HostRuntime) {
+    let mut alarms = all_at(&rt, 130, 7);
+    play(
         &rt,
         &mut alarms,
-        6,
-        &[(0, None), (8, None), (64, None), (128, None)],
+        &[
+            First(0, 6, None),
+            First(8, 6, None),
+            First(64, 6, None),
+            First(128, 6, None),
+            Fill(0),
+        ],
     );
-    alarms.fill(0);
     for place in 0..130 {
-        expect_due(&rt, &mut alarms, 0, &[(place, Some(place))]);
+        play(&rt, &mut alarms, &[First(place, 0, Some(place))]);
     }
-    Ok(())
 }

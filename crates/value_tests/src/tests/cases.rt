@@ -1,4 +1,6 @@
-use case_table::{Cases, cases};
+ghost use Rattle.std.specs.Prelude.{◌≤◌};
+
+use case_table::{Case, Cases, cases};
 
 /// From 4 on the answer is 1, below 2 it is 2, and else 3.
 const EIGHT: Cases<3> = Cases {
@@ -9,6 +11,26 @@ const EIGHT: Cases<3> = Cases {
         6 2 => 3;
     },
 };
+
+/// From 6 on no row matches.
+const BELOW_6: [Case; 3] = cases! { 6 4 => 1; 6 0 => 2; 6 2 => 3; };
+
+/// Two rows match 2.
+const TWICE: [Case; 3] = cases! { 4 4 => 1; 4 0 => 2; 6 2 => 3; };
+
+/// From 4 on no row matches, since the mask of the first leaves out a bit of its value.
+const OUTSIDE_MASK: [Case; 3] = cases! { 4 5 => 1; 6 0 => 2; 6 2 => 3; };
+
+/// From 4 on no row matches.
+const BELOW_4: [Case; 2] = cases! { 6 0 => 2; 6 2 => 3; };
+
+/// Whether each key below a number matches exactly one row.
+fn is_table<const N: usize>(keys: u32, rows: [Case; N]) -> bool
+    requires some { 1 ≤ keys }
+    requires few { keys ≤ 4096 }
+{
+    Cases::new(keys, rows).is_some()
+}
 
 #[test]
 fn the_one_row_of_a_key_answers(rt: HostRuntime) {
@@ -22,40 +44,26 @@ fn the_one_row_of_a_key_answers(rt: HostRuntime) {
         (6, 1),
         (7, 1),
     ] {
-        assert!(rt; key < 8);
-        assert_eq!(rt; EIGHT.pick(key), want, "of {key}");
+        assert!(rt; key < 8 && EIGHT.pick(key) == want, "of {key}");
     }
 }
 
 #[test]
 fn rows_that_cover_each_key_once_are_a_table(rt: HostRuntime) {
-    assert_eq!(rt; Cases::new(8, EIGHT.rows), Some(EIGHT));
-    let every = cases! { 0 0 => 5; };
-    let Some(table) = Cases::new(4096, every) else {
-        assert!(rt; false, "no table");
-        return;
-    };
-    assert_eq!(rt; table.pick(4095), 5);
+    let is_eight = Cases::new(8, EIGHT.rows) == Some(EIGHT);
+    let every = Cases::new(4096, cases! { 0 0 => 5; }).expect(&rt, "a table");
+    assert!(rt; is_eight && every.pick(4095) == 5);
 }
 
 #[test]
 fn rows_that_leave_a_key_out_or_cover_one_twice_are_none(rt: HostRuntime) {
-    assert_eq!(rt;
-        Cases::new(8, cases! { 6 4 => 1; 6 0 => 2; 6 2 => 3; }),
-        None
-    );
-    assert_eq!(rt;
-        Cases::new(8, cases! { 4 4 => 1; 4 0 => 2; 6 2 => 3; }),
-        None
-    );
-    assert_eq!(rt;
-        Cases::new(8, cases! { 4 5 => 1; 6 0 => 2; 6 2 => 3; }),
-        None
-    );
-    assert_eq!(rt; Cases::new(1, cases! {}), None);
-    assert_eq!(rt;
-        Cases::new(4, cases! { 6 0 => 2; 6 2 => 3; }).is_some(),
-        true
-    );
-    assert_eq!(rt; Cases::new(5, cases! { 6 0 => 2; 6 2 => 3; }), None);
+    let are_tables = [
+        is_table(8, BELOW_6),
+        is_table(8, TWICE),
+        is_table(8, OUTSIDE_MASK),
+        is_table(1, cases! {}),
+        is_table(4, BELOW_4),
+        is_table(5, BELOW_4),
+    ];
+    assert!(rt; are_tables == [false, false, false, false, true, false]);
 }

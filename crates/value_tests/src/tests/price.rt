@@ -1,97 +1,171 @@
+use super::script::{Step, check};
+use Arithmetic::{Fell, Mean, Moved, RoundCent};
+use Number::{OfIndex, OfLeverage, OfPrice};
 use price_core::{Index, Leverage, OutOfRange, Price, fell, mean, moved_one_percent, round_cent};
-use std::test::Fail;
+use std::process::Abort;
+
+/// A number, and whether it stands in the range of a type.
+#[derive(Clone, Copy)]
+enum Number {
+    OfPrice(u64, bool),
+    OfIndex(u32, bool),
+    OfLeverage(u8, bool),
+}
+
+impl Step<()> for Number {
+    fn holds<R: Abort>(&self, _: &R, _: &mut ()) -> bool {
+        match *self {
+            OfPrice(units, stands) => match Price::new(units) {
+                Ok(price) => stands && price.units() == units,
+                Err(OutOfRange) => !stands,
+            },
+            OfIndex(hundredths, stands) => match Index::new(hundredths) {
+                Ok(index) => stands && index.hundredths() == hundredths,
+                Err(OutOfRange) => !stands,
+            },
+            OfLeverage(tenths, stands) => match Leverage::new(tenths) {
+                Ok(leverage) => stands && leverage.tenths() == tenths,
+                Err(OutOfRange) => !stands,
+            },
+        }
+    }
+}
+
+/// An operation, with the wanted result. Prices are in ten-thousandths of a dollar, and index values in hundredths of a point.
+#[derive(Clone, Copy)]
+enum Arithmetic {
+    /// The sum of some prices and how many they are, with their mean.
+    Mean(u128, u64, u64),
+    /// Whether a price has moved by one per cent from 50.0000.
+    Moved(u64, bool),
+    /// A number of ten-thousandths of a dollar over another, in whole cents.
+    RoundCent(u128, u128, u128),
+    /// Whether an index value has fallen by a percentage from 5000.00.
+    Fell(u32, u32, bool),
+}
+
+fn price<R: Abort>(rt: &R, units: u64) -> Price {
+    Price::new(units).expect(rt, "a price")
+}
+
+fn index<R: Abort>(rt: &R, hundredths: u32) -> Index {
+    Index::new(hundredths).expect(rt, "an index value")
+}
+
+impl Step<()> for Arithmetic {
+    fn holds<R: Abort>(&self, rt: &R, _: &mut ()) -> bool {
+        match *self {
+            Mean(sum, n, want) => {
+                let has_mean = 0 < n
+                    && u128::from(n) <= sum
+                    && sum <= 99_999_999_999 * u128::from(n);
+                has_mean && mean(sum, n).units() == want
+            }
+            Moved(units, want) => moved_one_percent(price(rt, units), price(rt, 500_000)) == want,
+            RoundCent(num, den, want) => {
+                let is_small = 0 < den && den <= 1_000_000 && num < 1 << 100;
+                is_small && round_cent(num, den) == want
+            }
+            Fell(value, percent, want) => {
+                percent <= 100 && fell(index(rt, value), index(rt, 500_000), percent) == want
+            }
+        }
+    }
+}
 
 #[test]
-fn values_stand_in_their_ranges(rt: HostRuntime) -> Result<(), Fail> {
-    assert_eq!(rt; Price::new(0), Err(OutOfRange));
-    assert_eq!(rt; Price::new(1)?.units(), 1);
-    assert_eq!(rt; Price::new(99_999_999_999)?.units(), 99_999_999_999);
-    assert_eq!(rt; Price::new(100_000_000_000), Err(OutOfRange));
-    assert_eq!(rt; Index::new(0), Err(OutOfRange));
-    assert_eq!(rt; Index::new(1)?.hundredths(), 1);
-    assert_eq!(rt; Index::new(99_999_999)?.hundredths(), 99_999_999);
-    assert_eq!(rt; Index::new(100_000_000), Err(OutOfRange));
-    assert_eq!(rt; Leverage::new(9), Err(OutOfRange));
-    assert_eq!(rt; Leverage::new(10)?.tenths(), 10);
-    assert_eq!(rt; Leverage::new(50)?.tenths(), 50);
-    assert_eq!(rt; Leverage::new(51), Err(OutOfRange));
-    Ok(())
+fn values_stand_in_their_ranges(rt: HostRuntime) {
+    check(
+        &rt,
+        &[
+            OfPrice(0, false),
+            OfPrice(1, true),
+            OfPrice(99_999_999_999, true),
+            OfPrice(100_000_000_000, false),
+            OfIndex(0, false),
+            OfIndex(1, true),
+            OfIndex(99_999_999, true),
+            OfIndex(100_000_000, false),
+            OfLeverage(9, false),
+            OfLeverage(10, true),
+            OfLeverage(50, true),
+            OfLeverage(51, false),
+        ],
+    );
 }
 
 #[test]
 fn a_mean_is_rounded_half_up(rt: HostRuntime) {
-    for (sum, n, want) in [
-        (990_000, 2, 495_000),
-        (3, 2, 2),
-        (4, 3, 1),
-        (5, 3, 2),
-        (7, 2, 4),
-    ] {
-        assert_eq!(rt; mean(sum, n).units(), want, "of {sum} over {n}");
-    }
-    assert_eq!(rt; mean(99_999_999_999, 1).units(), 99_999_999_999);
+    check(
+        &rt,
+        &[
+            Mean(990_000, 2, 495_000),
+            Mean(3, 2, 2),
+            Mean(4, 3, 1),
+            Mean(5, 3, 2),
+            Mean(7, 2, 4),
+            Mean(99_999_999_999, 1, 99_999_999_999),
+        ],
+    );
 }
 
 #[test]
 fn a_mean_of_a_sum_of_more_than_62_bits_is_rounded_half_up(rt: HostRuntime) {
-    let n = 50_000_000;
-    assert_eq!(rt; mean((1 << 62) - 1, n).units(), 92_233_720_369);
-    assert_eq!(rt; mean(1 << 62, n).units(), 92_233_720_369);
-    assert_eq!(rt;
-        mean(92_233_720_369 * 50_000_000 + 25_000_000, n).units(),
-        92_233_720_370
-    );
-    assert_eq!(rt;
-        mean(92_233_720_369 * 50_000_000 + 24_999_999, n).units(),
-        92_233_720_369
+    check(
+        &rt,
+        &[
+            Mean((1 << 62) - 1, 50_000_000, 92_233_720_369),
+            Mean(1 << 62, 50_000_000, 92_233_720_369),
+            Mean(
+                92_233_720_369 * 50_000_000 + 25_000_000,
+                50_000_000,
+                92_233_720_370,
+            ),
+            Mean(
+                92_233_720_369 * 50_000_000 + 24_999_999,
+                50_000_000,
+                92_233_720_369,
+            ),
+        ],
     );
 }
 
 #[test]
-fn a_reference_price_moves_by_one_per_cent(rt: HostRuntime) -> Result<(), Fail> {
-    let reference = Price::new(500_000)?;
-    for (units, want) in [
-        (505_000, true),
-        (504_999, false),
-        (495_000, true),
-        (495_001, false),
-    ] {
-        assert_eq!(rt;
-            moved_one_percent(Price::new(units)?, reference),
-            want,
-            "to {units}"
-        );
-    }
-    Ok(())
+fn a_reference_price_moves_by_one_per_cent(rt: HostRuntime) {
+    check(
+        &rt,
+        &[
+            Moved(505_000, true),
+            Moved(504_999, false),
+            Moved(495_000, true),
+            Moved(495_001, false),
+        ],
+    );
 }
 
 #[test]
 fn half_a_cent_is_rounded_up(rt: HostRuntime) {
-    for (num, den, want) in [
-        (150, 1, 200),
-        (149, 1, 100),
-        (23_750, 1, 23_800),
-        (299, 2, 100),
-    ] {
-        assert_eq!(rt; round_cent(num, den), want, "of {num} over {den}");
-    }
+    check(
+        &rt,
+        &[
+            RoundCent(150, 1, 200),
+            RoundCent(149, 1, 100),
+            RoundCent(23_750, 1, 23_800),
+            RoundCent(299, 2, 100),
+        ],
+    );
 }
 
 #[test]
-fn an_index_falls_by_the_percentage(rt: HostRuntime) -> Result<(), Fail> {
-    let close = Index::new(500_000)?;
-    for (value, percent, want) in [
-        (465_000, 7, true),
-        (465_001, 7, false),
-        (435_000, 13, true),
-        (400_000, 20, true),
-        (400_001, 20, false),
-    ] {
-        assert_eq!(rt;
-            fell(Index::new(value)?, close, percent),
-            want,
-            "{value} by {percent}"
-        );
-    }
-    Ok(())
+fn an_index_falls_by_the_percentage(rt: HostRuntime) {
+    check(
+        &rt,
+        &[
+            Fell(465_000, 7, true),
+            Fell(465_001, 7, false),
+            Fell(435_000, 13, true),
+            Fell(400_000, 20, true),
+            Fell(400_001, 20, false),
+        ],
+    );
 }

@@ -1,7 +1,10 @@
+use super::bytes::{MOST, UNWRITTEN, changed, is_written};
+use super::table::{Row, check};
+use Body::{Bad, Good, HasLength};
 use price_core::{Cause, Index, Price};
 use session_core::{Level, Moment, Phase};
-use std::test::Fail;
-use wire_out::{BadFrame, Frame, Message, ShortKind, Stamped, get_frame, put_frame};
+use std::process::Abort;
+use wire_out::{Frame, Message, ShortKind, Stamped, get_frame, put_frame};
 
 const HELLO: &[u8] = &[0x81, 0, 0, 0, 0, 0, 0, 0, 0, 0, 0, 0, 0, 0, 0, 0, 0];
 
@@ -59,37 +62,71 @@ const MARKET_RESUME: &[u8] = &[
 /// No count and no price.
 const ZERO: &[u8] = &[0; 8];
 
-fn numbered(moment: Moment, message: Message) -> Frame {
-    Frame::Numbered {
-        number: 1,
-        stamped: Stamped { moment, message },
+/// A body that is read as a frame, and is what is written for it.
+#[derive(Clone, Copy)]
+struct Spells(&'static [u8], Frame);
+
+impl Row for Spells {
+    fn holds(&self) -> bool {
+        let Spells(body, frame) = *self;
+        let mut buffer = [UNWRITTEN; 64];
+        let len = put_frame(&frame, &mut buffer);
+        get_frame(body) == Ok(frame) && is_written(body, len, &buffer)
     }
 }
 
-/// Whether a body is read as that frame, and is what is written for it behind its length, with no other byte changed.
-#[tactic(auto, unfolding(wire_out::specs::Spelling::spelling))]
-fn is_body_of(body: &[u8], frame: Frame) -> bool {
-    let Ok(read) = get_frame(body) else {
-        return false;
-    };
-    let mut buffer = [0xee; 64];
-    let len = put_frame(&read, &mut buffer);
-    let is_put = usize::from(buffer[0]) == body.len() && &buffer[1..len] == body;
-    read == frame && is_put && buffer[len..].iter().all(|byte| *byte == 0xee)
+/// A body of the message number 1, at 10:00:00.
+#[derive(Clone, Copy)]
+struct Says(&'static [u8], Message);
+
+impl Row for Says {
+    fn holds(&self) -> bool {
+        let Says(body, message) = *self;
+        let Ok(moment) = Moment::new(36_000_000_000_000) else {
+            return false;
+        };
+        let frame = Frame::Numbered {
+            number: 1,
+            stamped: Stamped { moment, message },
+        };
+        Spells(body, frame).holds()
+    }
 }
 
-/// What a body of another length is read as, with other bytes at an offset.
-fn changed(body: &[u8], len: usize, at: usize, bytes: &[u8]) -> Result<Frame, BadFrame> {
-    let mut all = [0; 45];
-    for (to, from) in all.iter_mut().zip(body) {
-        *to = *from;
-    }
-    for (i, byte) in bytes.iter().enumerate() {
-        if let Some(to) = all.get_mut(at.wrapping_add(i)) {
-            *to = *byte;
+/// A body, with what is read in it.
+#[derive(Clone, Copy)]
+enum Body {
+    /// With other bytes at an offset it spells no frame.
+    Bad(&'static [u8], usize, &'static [u8]),
+    /// With other bytes at an offset it spells a frame.
+    Good(&'static [u8], usize, &'static [u8]),
+    /// It spells a frame, and with a byte less or more none.
+    HasLength(&'static [u8]),
+}
+
+/// Whether so many bytes of a body that has other bytes at an offset spell a frame.
+fn spells_frame(body: &[u8], len: usize, at: usize, bytes: &[u8]) -> bool {
+    get_frame(&changed(body, at, bytes)[..len.min(MOST)]).is_ok()
+}
+
+impl Row for Body {
+    fn holds(&self) -> bool {
+        match *self {
+            Bad(body, at, bytes) => !spells_frame(body, body.len(), at, bytes),
+            Good(body, at, bytes) => spells_frame(body, body.len(), at, bytes),
+            HasLength(body) => {
+                let len = body.len();
+                spells_frame(body, len, 0, &[])
+                    && !spells_frame(body, len.wrapping_sub(1), 0, &[])
+                    && !spells_frame(body, len.wrapping_add(1), 0, &[])
+            }
         }
     }
-    get_frame(&all[..len.min(45)])
+}
+
+/// A price in ten-thousandths of a dollar.
+fn price<R: Abort>(rt: &R, units: u64) -> Price {
+    Price::new(units).expect(rt, "a price")
 }
 
 #[test]
@@ -98,38 +135,45 @@ fn frames_without_a_number(rt: HostRuntime) {
         inputs: 0,
         messages: 0,
     };
-    assert!(rt; is_body_of(HELLO, hello));
-    assert!(rt; is_body_of(ACK, Frame::Ack { input: 1 }));
     let refused = Frame::Refused {
         frame_number: 1,
         code: 2,
         field: 0,
     };
-    assert!(rt; is_body_of(REFUSED, refused));
+    check(
+        &rt,
+        &[
+            Spells(HELLO, hello),
+            Spells(ACK, Frame::Ack { input: 1 }),
+            Spells(REFUSED, refused),
+        ],
+    );
 }
 
 #[test]
-fn messages_of_the_states_of_a_symbol(rt: HostRuntime) -> Result<(), Fail> {
-    let t = Moment::new(36_000_000_000_000)?;
+fn messages_of_the_states_of_a_symbol(rt: HostRuntime) {
     let symbol = 2;
     let name = *b"ABC\0\0\0\0\0";
     let phase = Phase::Paused;
     let kind = ShortKind::Carried;
     let on = true;
-    assert!(rt; is_body_of(LISTED, numbered(t, Message::Listed { symbol, name })));
-    assert!(rt; is_body_of(PAUSED, numbered(t, Message::State { symbol, phase })));
-    assert!(rt; is_body_of(STRADDLE, numbered(t, Message::Straddle { symbol, on })));
-    assert!(rt; is_body_of(CARRIED, numbered(t, Message::Short { symbol, kind })));
-    Ok(())
+    check(
+        &rt,
+        &[
+            Says(LISTED, Message::Listed { symbol, name }),
+            Says(PAUSED, Message::State { symbol, phase }),
+            Says(STRADDLE, Message::Straddle { symbol, on }),
+            Says(CARRIED, Message::Short { symbol, kind }),
+        ],
+    );
 }
 
 #[test]
-fn messages_of_the_prices_of_a_symbol(rt: HostRuntime) -> Result<(), Fail> {
-    let t = Moment::new(36_000_000_000_000)?;
+fn messages_of_the_prices_of_a_symbol(rt: HostRuntime) {
     let symbol = 2;
-    let price = Price::new(500_000)?;
-    let lower = Price::new(475_000)?;
-    let upper = Price::new(525_000)?;
+    let lower = price(&rt, 475_000);
+    let upper = price(&rt, 525_000);
+    let price = price(&rt, 500_000);
     let band = Message::Band {
         symbol,
         cause: Cause::Moved,
@@ -143,74 +187,79 @@ fn messages_of_the_prices_of_a_symbol(rt: HostRuntime) -> Result<(), Fail> {
         lower,
         upper,
     };
-    assert!(rt; is_body_of(BAND, numbered(t, band)));
-    assert!(rt; is_body_of(COLLAR, numbered(t, collar)));
-    assert!(rt; is_body_of(RELEASE, numbered(t, Message::Release { symbol, price })));
-    Ok(())
+    check(
+        &rt,
+        &[
+            Says(BAND, band),
+            Says(COLLAR, collar),
+            Says(RELEASE, Message::Release { symbol, price }),
+        ],
+    );
 }
 
 #[test]
-fn messages_of_the_market(rt: HostRuntime) -> Result<(), Fail> {
-    let t = Moment::new(36_000_000_000_000)?;
+fn messages_of_the_market(rt: HostRuntime) {
     let level = Level::One;
-    let index = Index::new(465_000)?;
-    assert!(rt; is_body_of(BREAKER, numbered(t, Message::Breaker { level, index })));
-    assert!(rt; is_body_of(MARKET_RESUME, numbered(t, Message::MarketResume)));
-    Ok(())
+    let index = Index::new(465_000).expect(&rt, "an index value");
+    check(
+        &rt,
+        &[
+            Says(BREAKER, Message::Breaker { level, index }),
+            Says(MARKET_RESUME, Message::MarketResume),
+        ],
+    );
 }
 
 #[test]
 fn a_body_has_the_length_of_its_type(rt: HostRuntime) {
-    for body in [
-        HELLO,
-        ACK,
-        REFUSED,
-        LISTED,
-        PAUSED,
-        BAND,
-        STRADDLE,
-        COLLAR,
-        RELEASE,
-        CARRIED,
-        BREAKER,
-        MARKET_RESUME,
-    ] {
-        let len = body.len();
-        assert!(rt; changed(body, len, 0, &[]).is_ok());
-        assert!(rt; changed(body, len.wrapping_sub(1), 0, &[]).is_err());
-        assert!(rt; changed(body, len.wrapping_add(1), 0, &[]).is_err());
-    }
-    assert!(rt; get_frame(&[]).is_err());
+    check(
+        &rt,
+        &[
+            HasLength(HELLO),
+            HasLength(ACK),
+            HasLength(REFUSED),
+            HasLength(LISTED),
+            HasLength(PAUSED),
+            HasLength(BAND),
+            HasLength(STRADDLE),
+            HasLength(COLLAR),
+            HasLength(RELEASE),
+            HasLength(CARRIED),
+            HasLength(BREAKER),
+            HasLength(MARKET_RESUME),
+            Bad(&[], 0, &[]),
+        ],
+    );
 }
 
 #[test]
 fn a_field_outside_its_range_spells_no_frame(rt: HostRuntime) {
-    for (body, at, bytes) in [
-        (ACK, 1, ZERO),
-        (REFUSED, 1, ZERO),
-        (REFUSED, 9, &[0, 0]),
-        (REFUSED, 9, &[10, 0]),
-        (REFUSED, 9, &[2, 1]),
-        (REFUSED, 9, &[3, 0]),
-        (REFUSED, 9, &[3, 8]),
-        (MARKET_RESUME, 1, ZERO),
-        (MARKET_RESUME, 9, &[0, 0, 0x4e, 0x94, 0x91, 0x4f, 0, 0]),
-        (MARKET_RESUME, 0, &[0x10]),
-        (LISTED, 19, &[0]),
-        (PAUSED, 19, &[9]),
-        (BAND, 19, &[0]),
-        (BAND, 19, &[5]),
-        (BAND, 20, ZERO),
-        (STRADDLE, 19, &[2]),
-        (RELEASE, 19, ZERO),
-        (CARRIED, 19, &[0]),
-        (CARRIED, 19, &[3]),
-        (BREAKER, 17, &[0]),
-        (BREAKER, 17, &[4]),
-        (BREAKER, 18, &[0; 4]),
-    ] {
-        let read = changed(body, body.len(), at, bytes);
-        assert!(rt; read == Err(BadFrame), "at {at}");
-    }
-    assert!(rt; changed(REFUSED, 11, 9, &[3, 7]).is_ok());
+    check(
+        &rt,
+        &[
+            Bad(ACK, 1, ZERO),
+            Bad(REFUSED, 1, ZERO),
+            Bad(REFUSED, 9, &[0, 0]),
+            Bad(REFUSED, 9, &[10, 0]),
+            Bad(REFUSED, 9, &[2, 1]),
+            Bad(REFUSED, 9, &[3, 0]),
+            Bad(REFUSED, 9, &[3, 8]),
+            Bad(MARKET_RESUME, 1, ZERO),
+            Bad(MARKET_RESUME, 9, &[0, 0, 0x4e, 0x94, 0x91, 0x4f, 0, 0]),
+            Bad(MARKET_RESUME, 0, &[0x10]),
+            Bad(LISTED, 19, &[0]),
+            Bad(PAUSED, 19, &[9]),
+            Bad(BAND, 19, &[0]),
+            Bad(BAND, 19, &[5]),
+            Bad(BAND, 20, ZERO),
+            Bad(STRADDLE, 19, &[2]),
+            Bad(RELEASE, 19, ZERO),
+            Bad(CARRIED, 19, &[0]),
+            Bad(CARRIED, 19, &[3]),
+            Bad(BREAKER, 17, &[0]),
+            Bad(BREAKER, 17, &[4]),
+            Bad(BREAKER, 18, &[0; 4]),
+            Good(REFUSED, 9, &[3, 7]),
+        ],
+    );
 }

@@ -1,6 +1,9 @@
+use super::bytes::{MOST, UNWRITTEN, changed, is_written};
+use super::table::{Row, check};
+use Case::{Bad, Good, HasLength, IsCut, IsTold, Refused};
 use price_core::Index;
 use session_core::{Close, Date, Day, Moment, Profile};
-use std::test::Fail;
+use std::process::Abort;
 use wire_in::{Cutter, Record, Refusal, decode, encode};
 
 /// The day 2024-06-03 at 04:00:00, with a regular close and an index close of 5000.00.
@@ -50,153 +53,77 @@ const DEAR: &[u8] = &[0, 0, 0, 0x17, 0x48, 0x76, 0xe8, 0];
 
 const HIGH: &[u8] = &[5, 0xf5, 0xe1, 0];
 
-fn day(profile: Profile) -> Result<Record, Fail> {
-    Ok(Record::Day {
-        moment: Moment::new(14_400_000_000_000)?,
+/// The frames of DAY and of INDEX_TICK, and the begin of another.
+const STREAM: [u8; 36] = [
+    19, 1, 0, 0, 0x0d, 0x18, 0xc2, 0xe2, 0x80, 0, 7, 0xe8, 6, 3, 1, 2, 0, 7, 0xa1, 0x20, 13, 6, 0,
+    0, 0x20, 0xbd, 0xe7, 0x36, 0x40, 0, 0, 7, 0x18, 0x69, 9, 0,
+];
+
+/// The bodies of the stream, with what it has of the last.
+const BODIES: &[&[u8]] = &[DAY, INDEX_TICK, &[0]];
+
+fn day<R: Abort>(rt: &R, profile: Profile) -> Record {
+    Record::Day {
+        moment: Moment::new(14_400_000_000_000).expect(rt, "a moment"),
         day: Day {
-            date: Date::of(2024, 6, 3)?,
+            date: Date::of(2024, 6, 3).expect(rt, "a date"),
             close: Close::Regular,
             profile,
         },
-        index_close: Index::new(500_000)?,
-    })
-}
-
-fn index_tick() -> Result<Record, Fail> {
-    Ok(Record::IndexTick {
-        moment: Moment::new(36_000_000_000_000)?,
-        value: Index::new(465_001)?,
-    })
-}
-
-/// The record of a body that has other bytes at an offset.
-fn changed(body: &[u8], at: usize, bytes: &[u8]) -> Result<Record, Refusal> {
-    let mut all = [0; 35];
-    for (to, from) in all.iter_mut().zip(body) {
-        *to = *from;
+        index_close: Index::new(500_000).expect(rt, "an index value"),
     }
-    for (i, byte) in bytes.iter().enumerate() {
-        if let Some(to) = all.get_mut(at.wrapping_add(i)) {
-            *to = *byte;
-        }
-    }
-    decode(&all[..body.len().min(35)])
 }
 
-#[test]
-fn the_frames_of_a_day_and_of_an_index_value(rt: HostRuntime) -> Result<(), Fail> {
-    for (record, body) in [
-        (day(Profile::Since18)?, DAY),
-        (day(Profile::Before18)?, DAY_BEFORE_18),
-        (index_tick()?, INDEX_TICK),
-    ] {
-        assert!(rt; decode(body) == Ok(record));
-        let mut buffer = [0xee; 64];
+fn index_tick<R: Abort>(rt: &R) -> Record {
+    Record::IndexTick {
+        moment: Moment::new(36_000_000_000_000).expect(rt, "a moment"),
+        value: Index::new(465_001).expect(rt, "an index value"),
+    }
+}
+
+/// A body that is read as a record, and is what is written for it.
+#[derive(Clone, Copy)]
+struct Spells(&'static [u8], Record);
+
+impl Row for Spells {
+    fn holds(&self) -> bool {
+        let Spells(body, want) = *self;
+        let Ok(record) = decode(&body[..body.len().min(MOST)]) else {
+            return false;
+        };
+        let mut buffer = [UNWRITTEN; 64];
         let len = encode(&record, &mut buffer);
-        assert_eq!(rt; len, body.len() + 1);
-        assert_eq!(rt; usize::from(buffer[0]), body.len());
-        assert_eq!(rt; &buffer[1..len], body);
-        assert!(rt; buffer[len..].iter().all(|byte| *byte == 0xee));
+        record == want && is_written(body, len, &buffer)
     }
-    Ok(())
 }
 
-#[test]
-fn a_body_has_the_length_of_its_type(rt: HostRuntime) {
-    for (kind, len) in [
-        (1, 19),
-        (2, 27),
-        (3, 29),
-        (4, 15),
-        (5, 35),
-        (6, 13),
-        (7, 9),
-        (8, 12),
-        (9, 20),
-    ] {
-        let mut body = [0; 36];
-        body[0] = kind;
-        for n in [len - 1, len, len + 1] {
-            let refused = decode(&body[..n]) == Err(Refusal::BadLength);
-            assert_eq!(rt; refused, n != len, "{kind} with {n} bytes");
-        }
-    }
-    assert!(rt; decode(&[]) == Err(Refusal::BadLength));
-    assert!(rt; decode(&[0]) == Err(Refusal::UnknownType));
-    assert!(rt; decode(&[10]) == Err(Refusal::UnknownType));
+/// A body or a refusal, with what is wanted of it.
+#[derive(Clone, Copy)]
+enum Case {
+    /// A type has bodies of a length alone.
+    HasLength(u8, usize),
+    Refused(&'static [u8], Refusal),
+    /// A body is read, and with other bytes at an offset it is refused for a field.
+    Bad(&'static [u8], usize, &'static [u8], u8),
+    /// A body is read with other bytes at an offset.
+    Good(&'static [u8], usize, &'static [u8]),
+    /// The stream of two frames and the begin of one, and that of the two alone, are cut into these in pieces of a size.
+    IsCut(usize),
+    /// The code and the field of a refusal.
+    IsTold(Refusal, u8, u8),
 }
 
-#[test]
-fn a_day_is_refused_by_its_first_bad_field(rt: HostRuntime) {
-    for (at, bytes, field) in [
-        (1, LATE, 1),
-        (9, &[7, 0xcf, 0], 2),
-        (9, &[8, 0x34], 2),
-        (11, &[0], 3),
-        (11, &[13], 3),
-        (12, &[0], 4),
-        (11, &[2, 30], 4),
-        (13, &[0], 5),
-        (13, &[3], 5),
-        (14, &[0], 6),
-        (14, &[3], 6),
-        (15, &[0, 0, 0, 0], 7),
-        (15, HIGH, 7),
-    ] {
-        assert!(rt;
-            changed(DAY, at, bytes) == Err(Refusal::BadField(field)),
-            "at {at}"
-        );
-    }
-    assert!(rt; changed(DAY, 11, &[2, 29]).is_ok());
+/// Whether a body of that type and length is refused for its length.
+fn has_bad_length(kind: u8, len: usize) -> bool {
+    let body = changed(&[kind], 0, &[]);
+    decode(&body[..len.min(MOST)]) == Err(Refusal::BadLength)
 }
 
-#[test]
-fn a_listing_is_refused_by_its_first_bad_field(rt: HostRuntime) {
-    for (at, bytes, field) in [
-        (1, LATE, 1),
-        (9, &[0, 0, 0], 2),
-        (10, &[0], 2),
-        (10, &[0x20], 2),
-        (11, &[0x7f], 2),
-        (17, &[0], 3),
-        (17, &[3], 3),
-        (18, &[9], 4),
-        (18, &[51], 4),
-        (19, DEAR, 5),
-    ] {
-        assert!(rt;
-            changed(LISTING, at, bytes) == Err(Refusal::BadField(field)),
-            "at {at}"
-        );
-    }
-    assert!(rt; changed(LISTING, 9, b"ABCDEFGH").is_ok());
-    assert!(rt; changed(LISTING, 19, &[0; 8]).is_ok());
-}
-
-#[test]
-fn other_records_are_refused_by_their_first_bad_field(rt: HostRuntime) {
-    for (body, at, bytes, field) in [
-        (TRADE, 1, LATE, 1),
-        (TRADE, 15, &[0; 8], 4),
-        (TRADE, 15, DEAR, 4),
-        (TRADE, 27, &[4, 0], 6),
-        (QUOTE, 11, DEAR, 3),
-        (QUOTE, 19, DEAR, 4),
-        (INDEX_TICK, 9, &[0; 4], 2),
-        (INDEX_TICK, 9, HIGH, 2),
-        (CLOCK, 1, LATE, 1),
-        (NOTICE, 11, &[0], 3),
-        (NOTICE, 11, &[5], 3),
-        (INDICATION, 11, &[0; 8], 3),
-        (INDICATION, 11, DEAR, 3),
-        (INDICATION, 19, &[3], 4),
-    ] {
-        assert!(rt; changed(body, at, &[]).is_ok());
-        assert!(rt;
-            changed(body, at, bytes) == Err(Refusal::BadField(field)),
-            "at {at}"
-        );
+/// Why a body that has other bytes at an offset is refused.
+fn refusal(body: &[u8], at: usize, bytes: &[u8]) -> Option<Refusal> {
+    match decode(&changed(body, at, bytes)[..body.len().min(MOST)]) {
+        Ok(_) => None,
+        Err(refusal) => Some(refusal),
     }
 }
 
@@ -215,29 +142,142 @@ fn cut(stream: &[u8], size: usize, bodies: &[&[u8]]) -> (usize, bool) {
     (found, cutter.inside())
 }
 
-#[test]
-fn a_stream_has_the_same_bodies_in_any_pieces(rt: HostRuntime) {
-    let mut stream = [0; 36];
-    stream[0] = 19;
-    stream[1..20].copy_from_slice(DAY);
-    stream[20] = 13;
-    stream[21..34].copy_from_slice(INDEX_TICK);
-    stream[34] = 9;
-    let bodies = [DAY, INDEX_TICK, &stream[35..]];
-    for size in [1, 2, 7, 36] {
-        assert_eq!(rt; cut(&stream, size, &bodies), (2, true), "by {size}");
-        assert_eq!(rt; cut(&stream[..34], size, &bodies), (2, false), "by {size}");
+impl Row for Case {
+    fn holds(&self) -> bool {
+        match *self {
+            HasLength(kind, len) => {
+                has_bad_length(kind, len.wrapping_sub(1))
+                    && !has_bad_length(kind, len)
+                    && has_bad_length(kind, len.wrapping_add(1))
+            }
+            Refused(body, want) => refusal(body, 0, &[]) == Some(want),
+            Bad(body, at, bytes, field) => {
+                refusal(body, at, &[]) == None
+                    && refusal(body, at, bytes) == Some(Refusal::BadField(field))
+            }
+            Good(body, at, bytes) => refusal(body, at, bytes) == None,
+            IsCut(size) => {
+                cut(&STREAM, size, BODIES) == (2, true)
+                    && cut(&STREAM[..34], size, BODIES) == (2, false)
+            }
+            IsTold(refusal, code, field) => refusal.code() == code && refusal.field() == field,
+        }
     }
 }
 
 #[test]
+fn the_frames_of_a_day_and_of_an_index_value(rt: HostRuntime) {
+    check(
+        &rt,
+        &[
+            Spells(DAY, day(&rt, Profile::Since18)),
+            Spells(DAY_BEFORE_18, day(&rt, Profile::Before18)),
+            Spells(INDEX_TICK, index_tick(&rt)),
+        ],
+    );
+}
+
+#[test]
+fn a_body_has_the_length_of_its_type(rt: HostRuntime) {
+    check(
+        &rt,
+        &[
+            HasLength(1, 19),
+            HasLength(2, 27),
+            HasLength(3, 29),
+            HasLength(4, 15),
+            HasLength(5, 35),
+            HasLength(6, 13),
+            HasLength(7, 9),
+            HasLength(8, 12),
+            HasLength(9, 20),
+            Refused(&[], Refusal::BadLength),
+            Refused(&[0], Refusal::UnknownType),
+            Refused(&[10], Refusal::UnknownType),
+        ],
+    );
+}
+
+#[test]
+fn a_day_is_refused_by_its_first_bad_field(rt: HostRuntime) {
+    check(
+        &rt,
+        &[
+            Bad(DAY, 1, LATE, 1),
+            Bad(DAY, 9, &[7, 0xcf, 0], 2),
+            Bad(DAY, 9, &[8, 0x34], 2),
+            Bad(DAY, 11, &[0], 3),
+            Bad(DAY, 11, &[13], 3),
+            Bad(DAY, 12, &[0], 4),
+            Bad(DAY, 11, &[2, 30], 4),
+            Bad(DAY, 13, &[0], 5),
+            Bad(DAY, 13, &[3], 5),
+            Bad(DAY, 14, &[0], 6),
+            Bad(DAY, 14, &[3], 6),
+            Bad(DAY, 15, &[0, 0, 0, 0], 7),
+            Bad(DAY, 15, HIGH, 7),
+            Good(DAY, 11, &[2, 29]),
+        ],
+    );
+}
+
+#[test]
+fn a_listing_is_refused_by_its_first_bad_field(rt: HostRuntime) {
+    check(
+        &rt,
+        &[
+            Bad(LISTING, 1, LATE, 1),
+            Bad(LISTING, 9, &[0, 0, 0], 2),
+            Bad(LISTING, 10, &[0], 2),
+            Bad(LISTING, 10, &[0x20], 2),
+            Bad(LISTING, 11, &[0x7f], 2),
+            Bad(LISTING, 17, &[0], 3),
+            Bad(LISTING, 17, &[3], 3),
+            Bad(LISTING, 18, &[9], 4),
+            Bad(LISTING, 18, &[51], 4),
+            Bad(LISTING, 19, DEAR, 5),
+            Good(LISTING, 9, b"ABCDEFGH"),
+            Good(LISTING, 19, &[0; 8]),
+        ],
+    );
+}
+
+#[test]
+fn other_records_are_refused_by_their_first_bad_field(rt: HostRuntime) {
+    check(
+        &rt,
+        &[
+            Bad(TRADE, 1, LATE, 1),
+            Bad(TRADE, 15, &[0; 8], 4),
+            Bad(TRADE, 15, DEAR, 4),
+            Bad(TRADE, 27, &[4, 0], 6),
+            Bad(QUOTE, 11, DEAR, 3),
+            Bad(QUOTE, 19, DEAR, 4),
+            Bad(INDEX_TICK, 9, &[0; 4], 2),
+            Bad(INDEX_TICK, 9, HIGH, 2),
+            Bad(CLOCK, 1, LATE, 1),
+            Bad(NOTICE, 11, &[0], 3),
+            Bad(NOTICE, 11, &[5], 3),
+            Bad(INDICATION, 11, &[0; 8], 3),
+            Bad(INDICATION, 11, DEAR, 3),
+            Bad(INDICATION, 19, &[3], 4),
+        ],
+    );
+}
+
+#[test]
+fn a_stream_has_the_same_bodies_in_any_pieces(rt: HostRuntime) {
+    check(&rt, &[IsCut(1), IsCut(2), IsCut(7), IsCut(36)]);
+}
+
+#[test]
 fn a_refusal_is_told_by_its_code_and_its_field(rt: HostRuntime) {
-    for (refusal, code, field) in [
-        (Refusal::UnknownType, 1, 0),
-        (Refusal::BadField(7), 3, 7),
-        (Refusal::JournalFull, 9, 0),
-    ] {
-        assert_eq!(rt; refusal.code(), code);
-        assert_eq!(rt; refusal.field(), field);
-    }
+    check(
+        &rt,
+        &[
+            IsTold(Refusal::UnknownType, 1, 0),
+            IsTold(Refusal::BadField(7), 3, 7),
+            IsTold(Refusal::JournalFull, 9, 0),
+        ],
+    );
 }

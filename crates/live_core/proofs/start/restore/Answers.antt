@@ -17,4 +17,4 @@ returns-in_err-recover-clause-unread g c =
 pub returns-clause-restored : goal.returns-clause-restored
 returns-clause-restored g c =
     restored c.args.workers c.args.from c.begin.ensures.keeps c.in_ok-recovery.ensures.none c.in_ok-recovery.ensures.recovers c.recover.ensures.keeps c.recover.ensures.moments
-    c.in_ok-recover.ensures.recovers (c.recover.ensures.workers ∙ c.in_ok-recovery.ensures.workers) c.in_ok-recover.ensures.closed c.finish.result c.requires.room.round c.finish.ensures c.in_ok-recover.ensures.reading c.in_ok-recover.ensures.none
+    c.in_ok-recover.ensures.recovers c.in_ok-recover.ensures.alone c.in_ok-recover.ensures.closed c.finish.result c.requires.room.round c.finish.ensures c.in_ok-recover.ensures.reading c.in_ok-recover.ensures.none

@@ -8,7 +8,7 @@ returns-clause-app c =
     let first = c.in_ok-generate.ensures.app ∙ ap₂ with_rule c.command-generate.ensures.app c.seed_option.ensures.rule in
     let second = c.in_ok-generate-2.ensures.app ∙ ap₂ with_rule first c.symbols_option.ensures.rule in
     let third = c.in_ok-generate-3.ensures.app ∙ ap₂ with_rule second c.records_option.ensures.rule in
-    let fourth = c.in_ok-generate-4.ensures.app ∙ ap₂ with_rule third c.workers_option.ensures.rule in
+    let fourth = c.in_ok-generate-4.ensures.app ∙ ap₂ with_rule third c.workers_option-workers.ensures.rule in
     IfOk-weaker c.with_option-5.result _ _ (λ line is. is ∙ ap₂ with_rule fourth c.summary_option.ensures.rule) c.with_option-5.ensures.app
 
 pub returns-clause-local : goal.returns-clause-local

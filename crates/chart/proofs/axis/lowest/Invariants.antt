@@ -1,7 +1,0 @@
-use Rattle.std.proofs.Common.{◌≡◌, None, take, min}
-use Rattle.std.specs.List.{fold}
-use Rattle.chart.specs.Scales.{one_of, least}
-use Rattle.chart.proofs.axis.lowest.Given as goal
-
-abbrev pub invariant-loop-x : goal.invariant-loop-x
-invariant-loop-x l = l.lowest ≡ fold (λ best x. one_of min best (least x.message)) None (take l.x-index l.messages)

@@ -1,0 +1,10 @@
+//! What a command line asks for, done over any host; and how a process ends.
+#![tactic(auto)]
+
+mod process;
+mod program;
+mod told;
+
+pub use process::{perform, start};
+pub use program::run;
+pub use told::{Ending, StatusLine, end, status_line, tell};

@@ -1,0 +1,7 @@
+use Rattle.std.proofs.Common.{List, ℕ, IfSome}
+use Rattle.picture_core.specs.Reads.{HasRead}
+use Rattle.picture_core.proofs.reading.read_messages.Given as goal
+
+-- so many lines of the input were read
+abbrev pub invariant-loop-before : goal.invariant-loop-before
+invariant-loop-before g l = IfSome (g.R.Read.remaining l.initial.reader) (λ (text : List ℕ). HasRead text (g.R.Read.remaining l.reader) l.symbol l.before l.messages.items)

@@ -1,0 +1,60 @@
+-- Where each message of the picture stands.
+use Rattle.std.specs.Prelude.{ℕ, ◌+◌, ◌*◌, ◌≤◌, max, List, [], ◌∷◌, Option, Some, None}
+use Rattle.session_core.specs.declared.state.Phase.{Phase}
+use Rattle.session_core.specs.declared.state.Phase.TheVariants as phases
+use Rattle.wire_out.specs.declared.message.Message.{Message}
+use Rattle.wire_out.specs.declared.message.Message.TheVariants.{State, Band, Straddle, Collar, Release, Short, Breaker}
+use Rattle.wire_out.specs.declared.message.Stamped.{Stamped}
+use Rattle.picture_core.specs.Scales.{x_of, y_of}
+use Rattle.picture_core.specs.Spans.{end_of}
+use Rattle.picture_core.specs.declared.axis.Axis.{Axis}
+use Rattle.picture_core.specs.declared.place.Heights.{Heights}
+use Rattle.picture_core.specs.declared.place.Place.{Place}
+
+-- the x at which a span ends: at the picture's right edge where nothing ends it
+abbrev pub right_of : ℕ → Option ℕ → ℕ
+right_of left None = 6200
+right_of left (Some moment) = max left (x_of moment)
+
+-- the lane below the prices: limit states, straddle states, pauses, halts, market-wide halts, the short sale restriction
+abbrev pub lane_of_phase : Phase → ℕ
+lane_of_phase phases.Paused = 2
+lane_of_phase phases.Closing = 2
+lane_of_phase phases.Halted = 3
+lane_of_phase _ = 0
+
+abbrev pub lane_of : Message → ℕ
+lane_of (State s phase) = lane_of_phase phase
+lane_of (Straddle s on) = 1
+lane_of (Breaker level index) = 4
+lane_of (Short s kind) = 5
+lane_of _ = 0
+
+-- a lane is 70 high, and the next one begins 90 below it
+abbrev pub in_lane : ℕ → Heights
+in_lane lane = record { top = 3060 + 90 * lane; middle = 3060 + 90 * lane; bottom = 3130 + 90 * lane }
+
+-- what has prices stands at their heights, and all else in its lane
+abbrev pub heights_of : Axis → Message → Heights
+heights_of axis (Band s cause reference lower upper) =
+    record { top = y_of axis upper; middle = y_of axis reference; bottom = y_of axis lower }
+heights_of axis (Collar s round lower upper) = record { top = y_of axis upper; middle = y_of axis upper; bottom = y_of axis lower }
+heights_of axis (Release s price) = record { top = y_of axis price; middle = y_of axis price; bottom = y_of axis price }
+heights_of axis message = in_lane (lane_of message)
+
+-- from the moment of a message to that of the first later one that ends what it says
+abbrev pub place_of : Axis → Stamped → List Stamped → Place
+place_of axis x later = record { left = x_of x.moment; right = right_of (x_of x.moment) (end_of x.message later); heights = heights_of axis x.message }
+
+-- the places of messages, each with those behind it as the later ones
+abbrev pub places_of : Axis → List Stamped → List Place
+places_of axis [] = []
+places_of axis (x ∷ later) = place_of axis x later ∷ places_of axis later
+
+-- a place is within the picture
+pub record IsWithin (place : Place) : Type 0 where
+  pub begins : 800 ≤ place.left
+  pub forward : place.left ≤ place.right
+  pub ends : place.right ≤ 6200
+  pub below : 300 ≤ place.heights.top
+  pub above : place.heights.bottom ≤ 3580

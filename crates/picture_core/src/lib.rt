@@ -1,0 +1,20 @@
+//! A picture of one symbol's day, drawn from published lines.
+#![tactic(auto)]
+
+mod axis;
+mod element;
+mod frame;
+mod label;
+mod law;
+mod picture;
+mod place;
+mod reading;
+mod room;
+mod run;
+mod shown;
+mod span;
+mod told;
+mod words;
+
+pub use run::chart;
+pub use told::{Ending, end};

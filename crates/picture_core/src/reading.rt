@@ -1,0 +1,129 @@
+//! Published lines, read into the messages of one symbol.
+
+ghost use Rattle.std.specs.Prelude.{◌≡◌, ◌+◌, ◌<◌, ◌⊎◌, ◌++◌, ◌^◌, ℕ, List, [], Some, Ok, true, false, length, IfOk, IfErr, OnOk, IfSome};
+ghost use Rattle.std.specs.List.{cons_option};
+ghost use Rattle.std.specs.Io.BufRead.{strip_last, take_through, DropsThrough};
+ghost use Rattle.std.specs.Io.KnownBytes.{IsAtEnd};
+ghost use Rattle.host_core.specs.declared.status.Status.TheVariants.{ReadFault, NoMemory, BadText};
+ghost use Rattle.wire_out.specs.declared.message.Frame.{Frame};
+ghost use Rattle.text_core.specs.Lines.{PrintsFrame};
+ghost use Rattle.picture_core.specs.Shown.{brings};
+ghost use Rattle.picture_core.specs.Reads.{HasRead, IsShown, Stops, Hinders};
+
+use crate::shown::brings;
+use host_core::Status;
+use std::alloc::Global;
+use std::io::{self, BufRead, ErrorKind};
+use text_core::read_frame;
+use wire_out::Stamped;
+
+/// The status of a failed read.
+fn status_of(error: io::Error) -> Status
+    ensures { (result ≡ NoMemory) ⊎ (result ≡ ReadFault) }
+{
+    if error.kind() == ErrorKind::OutOfMemory {
+        Status::NoMemory
+    } else {
+        Status::ReadFault
+    }
+}
+
+/// Reads a line with its newline into an empty buffer, and answers whether there was one.
+fn next_line<R: BufRead>(reader: &mut R, line: &mut Vec<u8>) -> Result<bool, Status>
+    ensures given { OnOk result (IfSome (R.remaining reader.old) (λ text. line.new.items ≡ take_through 10 text)) }
+    ensures rest { OnOk result (DropsThrough (R.remaining reader.old) (R.remaining reader.new) 10) }
+    ensures more { result ≡ Ok true → IfSome (R.remaining reader.old) (λ text. 0 < length text) }
+    ensures end { result ≡ Ok false → IfSome (R.remaining reader.old) (λ text. text ≡ []) }
+    ensures fault { IfErr result (λ s. (s ≡ NoMemory) ⊎ (s ≡ ReadFault)) }
+{
+    line.clear();
+    match reader.read_until(b'\n', line) {
+        Ok(count) => Ok(count > 0),
+        Err(error) => Err(status_of(error)),
+    }
+}
+
+/// A line without the newline at its end.
+fn without_newline(line: &[u8]) -> &[u8]
+    ensures { result.now ≡ strip_last 10 line.now }
+{
+    if line.len() > 0 && line[line.len() - 1] == b'\n' {
+        &line[..line.len() - 1]
+    } else {
+        line
+    }
+}
+
+/// Keeps a message, where there is one.
+fn keep(messages: &mut Vec<Stamped>, message: Option<Stamped>) -> Result<(), Status>
+    ensures kept { OnOk result (messages.new.items ≡ messages.old.items ++ cons_option message []) }
+    ensures memory { IfErr result (λ s. s ≡ NoMemory) }
+{
+    let Some(message) = message else {
+        return Ok(());
+    };
+    match messages.extend_from_slice(&[message]) {
+        Ok(()) => Ok(()),
+        Err(_) => Err(Status::NoMemory),
+    }
+}
+
+/// Takes a line with its newline, which is of that number.
+fn take_line(
+    line: &[u8],
+    number: u64,
+    symbol: u16,
+    messages: &mut Vec<Stamped>,
+) -> Result<(), Status>
+    ensures printed { OnOk result ((frame : Frame) × PrintsFrame (strip_last 10 line.now) frame × (messages.new.items ≡ messages.old.items ++ cons_option (brings symbol frame) [])) }
+    ensures stopped { IfErr result (λ s. (s ≡ NoMemory) ⊎ ((s ≡ BadText number) × ((frame : Frame) → PrintsFrame (strip_last 10 line.now) frame → ⊥))) }
+{
+    match read_frame(without_newline(line)) {
+        Ok(frame) => keep(messages, brings(symbol, &frame)),
+        Err(_) => Err(Status::BadText { line: number }),
+    }
+}
+
+/// Reads and takes a line behind so many others, and answers whether there was one.
+fn read_turn<R: BufRead>(
+    reader: &mut R,
+    line: &mut Vec<u8>,
+    before: u64,
+    symbol: u16,
+    messages: &mut Vec<Stamped>,
+) -> Result<bool, Status>
+    requires { before + 1 < 2 ^ 64 }
+    ensures goes { result ≡ Ok true → (text : List ℕ) → HasRead text (R.remaining reader.old) symbol before messages.old.items → HasRead text (R.remaining reader.new) symbol (before + 1) messages.new.items }
+    ensures ended { result ≡ Ok false → (text : List ℕ) → HasRead text (R.remaining reader.old) symbol before messages.old.items → IsShown text symbol messages.new.items }
+    ensures stopped { IfErr result (λ s. (text : List ℕ) → HasRead text (R.remaining reader.old) symbol before messages.old.items → Stops s text) }
+    ensures cause { IfErr result Hinders }
+{
+    if next_line(reader, line)? {
+        take_line(line, before + 1, symbol, messages)?;
+        Ok(true)
+    } else {
+        Ok(false)
+    }
+}
+
+/// Reads all lines, and answers the messages of that symbol and of the market.
+pub fn read_messages<R: BufRead>(
+    alloc: Global,
+    reader: &mut R,
+    symbol: u16,
+) -> Result<Vec<Stamped>, Status>
+    // The lines of the whole input print frames.
+    ensures shown { IfOk result (λ messages. IfSome (R.remaining reader.old) (λ text. IsShown text symbol messages.items)) }
+    // A line that prints none, a failed read or want of memory.
+    ensures stopped { IfErr result (λ s. IfSome (R.remaining reader.old) (Stops s)) }
+    ensures cause { IfErr result Hinders }
+{
+    let mut line = Vec::new(alloc);
+    let mut messages = Vec::new(alloc);
+    for before in 0..u64::MAX {
+        if !read_turn(reader, &mut line, before, symbol, &mut messages)? {
+            return Ok(messages);
+        }
+    }
+    Err(Status::ReadFault)
+}
