@@ -18,7 +18,7 @@ use std::alloc::Global;
 use std::process::Abort;
 use std::test::Fail;
 use std::thread::Threads;
-use test_days::lines::{at, band, clock, collar, indication, release, state};
+use test_days::lines::{Line, at, band, clock, collar, indication, release, state};
 use test_days::{Session, paused_day};
 use yard_core::OpenGate;
 
@@ -73,9 +73,9 @@ const REPLAY: Way = Way {
     ..SERVE
 };
 
-/// A day of ten records and ten messages: ABC is listed, opens, is paused, and opens again by an auction.
-fn reopened_day(alloc: Global) -> Result<Session, Fail> {
-    let lines = paused_day(
+/// ABC is listed, opens, is paused, and opens again by an auction.
+fn reopened_lines(alloc: Global) -> Result<Vec<Line>, Fail> {
+    Ok(paused_day(
         alloc,
         &[
             indication(at(10, 3, 0), 440_000, Unmatched::Nothing),
@@ -86,8 +86,12 @@ fn reopened_day(alloc: Global) -> Result<Session, Fail> {
             state(Phase::Trading),
             band(Cause::First, 440_000, 418_000, 462_000),
         ],
-    )?;
-    Ok(Session::of(alloc, &lines)?)
+    )?)
+}
+
+/// A day of ten records and ten messages, of these lines.
+fn reopened_day(alloc: Global) -> Result<Session, Fail> {
+    Ok(Session::of(alloc, &reopened_lines(alloc)?)?)
 }
 
 /// An empty journal that takes so many records.

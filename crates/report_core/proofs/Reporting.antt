@@ -132,6 +132,7 @@ module _ (status : Status) (old new : Outside) (sent_now : (image bytes : List �
     no_header = u.no_header;
     unsent = u.unsent;
     damaged = λ offset is. (at (Damaged offset) is).1;
+    undamaged = λ capacity held h offset is. lawful_undamaged ((at (Damaged offset) is).1 h.disk h.known).2 h.holds h.lawful;
     damage_is_told = λ capacity offset before disk known damage has. tells disk known damage has status u.hinders;
     damage_is_unsent = λ offset disk is known.
         let damage = (at (Damaged offset) is).1 disk known in
@@ -189,6 +190,7 @@ module _ (status : Status) (old new : Outside) (sent_now : (image bytes : List �
           let held = gathered.sound disk known in absurd (headed disk known held.2 missing);
       unsent = λ is. absurd (told_at NoJournal is);
       damaged = λ offset is. absurd (told_at (Damaged offset) is);
+      undamaged = λ capacity held h offset is. absurd (told_at (Damaged offset) is);
       damage_is_told = λ capacity offset before disk known damage has. absurd (undamaged disk known damage);
       damage_is_unsent = λ offset disk is known. absurd (told_at (Damaged offset) is);
       damage_starved = λ capacity offset before disk known damage short. absurd (undamaged disk known damage);

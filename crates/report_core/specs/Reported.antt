@@ -1,5 +1,5 @@
 -- What a journal holds, told in five lines, and what the command that tells it did, whatever its answer.
-use Rattle.std.specs.Prelude.{◌≡◌, ℕ, List, [], ◌∷◌, ◌++◌, length, Option, Some, None, codes, decimal}
+use Rattle.std.specs.Prelude.{◌≡◌, ◌≢◌, ℕ, List, [], ◌∷◌, ◌++◌, length, Option, Some, None, codes, decimal}
 use Rattle.std.specs.Io.KnownBytes.{append_known}
 use Rattle.host_core.specs.declared.status.Status.{Status}
 use Rattle.host_core.specs.declared.status.Status.TheVariants.{Done, SendFault, DiskFault, Damaged, NoJournal, NoMemory}
@@ -65,8 +65,10 @@ pub record Reported (status : Status) (old new : Outside) : Type 0 where
   pub no_journal : status ≡ NoJournal → (disk : List ℕ) → old.disk ≡ Some disk → HasNoHeader disk
   pub no_header : (disk : List ℕ) → old.disk ≡ Some disk → HasNoHeader disk → TellsNoJournal status
   pub unsent : status ≡ NoJournal → new.sent ≡ old.sent
-  -- damage is told at the gate of the first batch that has no form or holds a record that may not follow, and nothing is sent
+  -- damage is told at the gate of the first batch that has no form or holds a record that may not follow, never of a lawful
+  -- list, and nothing is sent
   pub damaged : (at : ℕ) → status ≡ Damaged at → (disk : List ℕ) → old.disk ≡ Some disk → (capacity : ℕ) × (before : List Record) × IsDamagedAt capacity at before disk
+  pub undamaged : (capacity : ℕ) (held : List Record) → IsHeld capacity held old → (at : ℕ) → status ≢ Damaged at
   pub damage_is_told : (capacity at : ℕ) (before : List Record) (disk : List ℕ) → old.disk ≡ Some disk → IsDamagedAt capacity at before disk → ¬ HasNoHeader disk → TellsDamage at status
   pub damage_is_unsent : (at : ℕ) (disk : List ℕ) → status ≡ Damaged at → old.disk ≡ Some disk → new.sent ≡ old.sent
   pub damage_starved : (capacity at : ℕ) (before : List Record) (disk : List ℕ) → old.disk ≡ Some disk → IsDamagedAt capacity at before disk → status ≡ NoMemory → new.sent ≡ old.sent

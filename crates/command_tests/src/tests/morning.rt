@@ -31,7 +31,7 @@ fn put_stock(lines: &mut Vec<Line>, symbol: u16, t: Moment) -> Result<(), Fail> 
 
 /// What comes in each second from 09:30:01 on: a clock, one stock after the other, a limit state and a breaker.
 fn put_seconds(lines: &mut Vec<Line>) -> Result<(), Fail> {
-    for second in 1..=900u64 {
+    for second in 1..=9_000u64 {
         let t = after_open(second)?;
         lines.extend_from_slice(&[clock(t)])?;
         if second <= u64::from(STOCKS) {
@@ -46,8 +46,8 @@ fn put_seconds(lines: &mut Vec<Line>) -> Result<(), Fail> {
     Ok(())
 }
 
-/// 500 listings and opening trades, a quote and a trade in each, a clock each second for 15 minutes, with a limit state and
-/// a breaker. What they give isn't told.
+/// 500 listings and opening trades, a quote and a trade in each, a clock each second from 09:30:00 to 12:00:00, with a limit
+/// state and a breaker. What they give isn't told.
 fn morning(alloc: Global) -> Result<Vec<Line>, Fail> {
     let (early, open) = (at(4, 0, 0), at(9, 30, 0));
     let mut lines = Vec::new(alloc);
@@ -88,7 +88,7 @@ fn without_acks(alloc: Global, sent: &[u8]) -> Result<Vec<u8>, Fail> {
 }
 
 /// What the words make a program send for an input over a disk.
-fn sent_by<Rt: Abort + AllocGlobal + Threads + Sync>(
+pub fn sent_by<Rt: Abort + AllocGlobal + Threads + Sync>(
     rt: &Rt,
     words: &[&str],
     disk: &[u8],
@@ -110,8 +110,8 @@ fn a_morning_of_500_stocks_is_served_as_it_is_replayed(rt: HostRuntime) -> Resul
     let is_same = without_acks(rt.alloc(), &served)? == replayed;
     // A greeting, and an Ack of ten bytes for each record.
     let is_acknowledged = served.len() == replayed.len() + 18 + 10 * lines.len();
-    // Each stock is listed, opens with bands, and is stopped, one is paused, and one breaker is declared.
-    let messages = 500 * (28 + 21 + 45 + 21) + 21 + 21 + 38 + 23;
+    // Each stock is listed, opens with bands, is stopped and goes on, one is paused, and one breaker is declared and ends.
+    let messages = 500 * (28 + 21 + 45 + 21 + 21) + 21 + 21 + 38 + 23 + 18;
     assert!(rt; is_same && is_acknowledged && replayed.len() == messages);
     for (words, disk, sent) in [
         (["replay", "--workers", "2"], b"".as_slice(), &replayed),

@@ -1,12 +1,16 @@
 // A session is stopped at each of its calls, also where writes of an earlier one are pending.
 use super::sent::{Sent, behind, messages, told};
-use super::{SERVE, Trouble, Way, fresh, held_by, host_of, ran, reopened_day, run};
+use super::{
+    SERVE, Trouble, Way, expect, fresh, held_by, host_of, ran, reopened_day, reopened_lines, run,
+};
 use host_core::Status;
 use memory_host::{Call, MemoryHost, Pick};
+use std::alloc::Global;
 use std::process::Abort;
 use std::test::Fail;
 use std::thread::Threads;
 use test_days::Session;
+use test_days::lines::{at, clock};
 
 /// What a stop may leave of each piece that was written and not yet synced.
 const PICKS: [Pick; 3] = [Pick::Old, Pick::New, Pick::Bytes(0x55)];
@@ -203,5 +207,48 @@ fn a_stop_with_writes_pending_loses_no_acknowledged_record(rt: HostRuntime) -> R
             failed_syncs(&rt, &day, &empty, way, 6, Some(stop))?;
         }
     }
+    Ok(())
+}
+
+/// A day of 64 records: the reopened day, and clocks behind it.
+fn day_of_64(alloc: Global) -> Result<Session, Fail> {
+    let mut lines = reopened_lines(alloc)?;
+    for second in 0..54u8 {
+        lines.extend_from_slice(&[clock(at(10, 11, second))])?;
+    }
+    Ok(Session::of(alloc, &lines)?)
+}
+
+/// Serves the day up to a stop, which leaves all of its records or none. Answers whether the session was stopped.
+fn leaves_all_or_none<Rt: Abort + AllocGlobal + Threads + Sync>(
+    rt: &Rt,
+    day: &Session,
+    empty: &[u8],
+    nth: u64,
+) -> Result<bool, Fail> {
+    let way = Way {
+        trouble: Trouble::Stops(nth),
+        ..SERVE
+    };
+    let mut host = host_of(rt.alloc(), way, &day.input, empty)?;
+    let status = run(rt, way, &mut host);
+    for pick in PICKS {
+        let held = held_by(rt, host.crash(pick, b"")?.disk())?;
+        assert!(rt; held == 0 || held == 64, "{held} after {nth}");
+    }
+    Ok(status != Status::Done)
+}
+
+#[test]
+fn a_stop_leaves_all_of_a_batch_of_64_records_or_none(rt: HostRuntime) -> Result<(), Fail> {
+    let day = day_of_64(rt.alloc())?;
+    let empty = fresh(rt.alloc(), 100)?;
+    expect(&rt, SERVE, &day.input, &empty, Status::Done, &day.served)?;
+    let mut calls = 0u64;
+    for nth in 1..100u64 {
+        calls = calls.saturating_add(u64::from(leaves_all_or_none(&rt, &day, &empty, nth)?));
+        stopped_at(&rt, &day, &empty, SERVE, nth)?;
+    }
+    assert!(rt; calls > 8 && calls < 99);
     Ok(())
 }
