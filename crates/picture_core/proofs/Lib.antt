@@ -1,3 +1,5 @@
 pub mod Apart
 pub mod Lines
 pub mod Order
+pub mod Ticks
+pub mod Sending

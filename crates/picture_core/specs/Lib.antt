@@ -5,6 +5,10 @@ pub mod Spans
 pub mod Scales
 pub mod Places
 pub mod Rooms
+pub mod Labels
+pub mod Elements
+pub mod Frames
+pub mod Pictures
 pub mod Words
 pub mod Runs
 pub mod Told

@@ -51,10 +51,16 @@ abbrev pub places_of : Axis → List Stamped → List Place
 places_of axis [] = []
 places_of axis (x ∷ later) = place_of axis x later ∷ places_of axis later
 
+-- heights are within the picture
+pub record AreWithin (heights : Heights) : Type 0 where
+  pub below : 300 ≤ heights.top
+  pub top : heights.top ≤ 3580
+  pub middle : heights.middle ≤ 3580
+  pub bottom : heights.bottom ≤ 3580
+
 -- a place is within the picture
 pub record IsWithin (place : Place) : Type 0 where
   pub begins : 800 ≤ place.left
   pub forward : place.left ≤ place.right
   pub ends : place.right ≤ 6200
-  pub below : 300 ≤ place.heights.top
-  pub above : place.heights.bottom ≤ 3580
+  pub within : AreWithin place.heights

@@ -1,7 +1,19 @@
 -- The rooms of labels: none is drawn over another.
-use Rattle.std.specs.Prelude.{◌≡◌, ⊤, Bool, true, not, ◌&&◌, nat_lt, if◌then◌else◌, List, [], ◌∷◌, ◌++◌}
+use Rattle.std.specs.Prelude.{◌≡◌, ⊤, ℕ, ◌+◌, ◌-◌, ◌*◌, Bool, true, not, ◌&&◌, nat_lt, if◌then◌else◌, List, [], ◌∷◌, ◌++◌, length}
 use Rattle.std.specs.List.{list_all}
 use Rattle.picture_core.specs.declared.room.Room.{Room}
+
+-- words from an x on, or up to it where they end there, over a line at y: a character is taken to be 30 wide
+abbrev pub left_of_words : ℕ → Bool → List ℕ → ℕ
+left_of_words x ends_there words = if ends_there then x - 30 * length words else x
+
+abbrev pub room_of_words : ℕ → ℕ → Bool → List ℕ → Room
+room_of_words x y ends_there words = record {
+  left = left_of_words x ends_there words;
+  right = left_of_words x ends_there words + 30 * length words;
+  top = y - 44;
+  bottom = y + 12;
+}
 
 -- two rooms have a point in common
 abbrev pub meets : Room → Room → Bool

@@ -20,3 +20,8 @@ with_newline (Some line) = line ++ (10 ∷ [])
 -- all that is told of a status
 abbrev pub told_of : Status → List ℕ
 told_of status = with_newline (line_of status)
+
+-- what is written where help is asked for: how the program is called
+unfoldable pub help_text : List ℕ
+help_text =
+    codes "chart <symbol>: draws the day of the symbol of that id, 0 to 65535, as an SVG, from the lines of published frames on standard input\n"

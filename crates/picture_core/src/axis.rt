@@ -28,12 +28,12 @@ pub fn x_of(moment: Moment) -> u64
 
 /// The y of a price.
 #[tactic(auto, unfolding(crate::specs::Scales::y_of))]
-pub fn y_of(axis: &Axis, price: u64) -> u64
+pub fn y_of(axis: &Axis, price: u128) -> u64
     requires { IsAxis axis.now }
     ensures exact { result ≡ y_of axis.now price }
     ensures frame { (300 ≤ result) × (result ≤ 2900) }
 {
-    let above = u128::from(price).min(axis.high).saturating_sub(axis.low);
+    let above = price.min(axis.high).saturating_sub(axis.low);
     2900 - (above * 2600 / (axis.high - axis.low)) as u64
 }
 

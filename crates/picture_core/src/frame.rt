@@ -1,7 +1,11 @@
 //! The frame of the picture: its axes, its lanes and its legend.
 
-ghost use Rattle.std.specs.Prelude.{◌≡◌, ◌+◌, ◌*◌, ◌<◌, ◌≤◌, IfSome};
+ghost use Rattle.std.specs.Prelude.{◌≡◌, ◌*◌, ◌<◌, ◌≤◌, ◌++◌, IfSome, IfOk, OnOk};
+ghost use Rattle.std.specs.List.{find};
+ghost use Rattle.std.specs.String.{string_bytes};
 ghost use Rattle.picture_core.specs.Scales.{x_of, IsAxis};
+ghost use Rattle.picture_core.specs.Frames.{half_hour, half_hour_text, time_tick, time_ticks, steps, reaches, step_of, price_tick, tick_within, ticks_by, price_ticks};
+ghost use Rattle.picture_core.specs.Pictures.{style, hatchings, names};
 
 use crate::axis::{Axis, y_of};
 use crate::label::dollars;
@@ -20,86 +24,188 @@ pub const HATCHINGS: &str =
 pub const NAMES: &str =
     "<rect class=\"frame\" x=\"800\" y=\"300\" width=\"5400\" height=\"2600\"/><g class=\"left\"><text x=\"770\" y=\"250\">dollars</text><text x=\"770\" y=\"3114\">Limit state</text><text x=\"770\" y=\"3204\">Straddle state</text><text x=\"770\" y=\"3294\">Trading pause</text><text x=\"770\" y=\"3384\">Regulatory halt</text><text x=\"770\" y=\"3474\">Market-wide halt</text><text x=\"770\" y=\"3564\">Short sale restriction</text></g>\n<g><path class=\"band\" d=\"M800 3740H1000\"/><text x=\"1030\" y=\"3758\">price bands</text><path class=\"reference\" d=\"M1550 3740H1750\"/><text x=\"1780\" y=\"3758\">reference price</text><path class=\"collar\" d=\"M2400 3740H2600\"/><text x=\"2630\" y=\"3758\">auction collars of round r0, r1, ..</text><circle class=\"release\" cx=\"3760\" cy=\"3740\" r=\"28\"/><circle cx=\"3760\" cy=\"3740\" r=\"8\"/><text x=\"3820\" y=\"3758\">reopening price</text><text x=\"4400\" y=\"3758\">hatched behind the prices: no trading</text></g>\n";
 
+/// How things are drawn.
+#[tactic(auto, unfolding(crate::specs::Pictures::style))]
+pub fn style() -> &'static str
+    ensures { result.now ≡ style }
+{
+    STYLE
+}
+
+#[tactic(auto, unfolding(crate::specs::Pictures::hatchings))]
+pub fn hatchings() -> &'static str
+    ensures { result.now ≡ hatchings }
+{
+    HATCHINGS
+}
+
+#[tactic(auto, unfolding(crate::specs::Pictures::names))]
+pub fn names() -> &'static str
+    ensures { result.now ≡ names }
+{
+    NAMES
+}
+
 /// The x of a half hour, counted from 09:00.
 #[tactic(auto, unfolding(crate::specs::Scales::x_of))]
 fn x_of_half_hour(count: u64) -> u64
     requires { count ≤ 15 }
-    ensures { result ≡ x_of (32400000000000 + 1800000000000 * count) }
+    ensures { result ≡ x_of (half_hour count) }
 {
     800 + 360 * count
 }
 
-/// A tick of the time axis.
-fn time_tick(alloc: Global, count: u64) -> Result<String, NoMemory>
+/// The hour and the minute of a half hour.
+#[tactic(auto, unfolding(crate::specs::Frames::half_hour_text))]
+fn half_hour_text(alloc: Global, count: u64) -> Result<String, NoMemory>
     requires { count ≤ 15 }
+    ensures { IfOk result (λ text. string_bytes text ≡ half_hour_text count) }
 {
-    let x = x_of_half_hour(count);
     let hour = 9 + count / 2;
     let minute = count % 2 * 30;
+    Ok(format!(in alloc; "{hour:02}:{minute:02}")?)
+}
+
+/// A tick of the time axis.
+#[tactic(auto, unfolding(crate::specs::Frames::time_tick))]
+fn time_tick(alloc: Global, count: u64) -> Result<String, NoMemory>
+    requires { count ≤ 15 }
+    ensures { IfOk result (λ text. string_bytes text ≡ time_tick count) }
+{
+    let x = x_of_half_hour(count);
+    let words = half_hour_text(alloc, count)?;
     Ok(format!(in alloc;
-        "<path class=\"grid\" d=\"M{x} 300V2920\"/><text class=\"time\" x=\"{x}\" y=\"2985\">{hour:02}:{minute:02}</text>\n"
+        "<path class=\"grid\" d=\"M{x} 300V2920\"/><text class=\"time\" x=\"{x}\" y=\"2985\">{words}</text>\n"
     )?)
 }
 
 /// Writes the ticks of all half hours.
-pub fn put_times(alloc: Global, text: &mut String) -> Result<(), NoMemory> {
+pub fn put_times(alloc: Global, text: &mut String) -> Result<(), NoMemory>
+    ensures { OnOk result (string_bytes text.new ≡ string_bytes text.old ++ time_ticks) }
+{
     for count in 0..16 {
         text.push_str(time_tick(alloc, count)?.as_str())?;
     }
     Ok(())
 }
 
-/// A distance of at most eight ticks over a range of prices, of 1, 2 or 5 times a power of ten; none where all are too short.
-fn step_of_power(power: u64, range: u128) -> Option<u64>
-    requires { 0 < power }
-    ensures { IfSome result (λ step. 0 < step) }
+/// Distances of ticks: 1, 2 and 5 times the powers of ten.
+const STEPS: [u64; 36] = [
+    1,
+    2,
+    5,
+    10,
+    20,
+    50,
+    100,
+    200,
+    500,
+    1_000,
+    2_000,
+    5_000,
+    10_000,
+    20_000,
+    50_000,
+    100_000,
+    200_000,
+    500_000,
+    1_000_000,
+    2_000_000,
+    5_000_000,
+    10_000_000,
+    20_000_000,
+    50_000_000,
+    100_000_000,
+    200_000_000,
+    500_000_000,
+    1_000_000_000,
+    2_000_000_000,
+    5_000_000_000,
+    10_000_000_000,
+    20_000_000_000,
+    50_000_000_000,
+    100_000_000_000,
+    200_000_000_000,
+    500_000_000_000,
+];
+
+#[tactic(auto, unfolding(crate::specs::Frames::steps))]
+fn steps() -> &'static [u64]
+    ensures { result.now ≡ steps }
 {
-    for factor in [1, 2, 5] {
-        let step = power.saturating_mul(factor);
-        if range <= 8 * u128::from(step) {
-            return Some(step.max(1));
-        }
-    }
-    None
+    &STEPS
 }
 
-/// The distance of the ticks over a range of prices, in ten-thousandths of a dollar.
-fn step_of(range: u128) -> u64
-    ensures { 0 < result }
+/// The first of these distances of which eight reach over a range of prices.
+fn first_of(steps: &[u64], range: u128) -> Option<u64>
+    ensures exact { result ≡ find (reaches range) steps.now }
+    ensures reaches { IfSome result (λ step. range ≤ 8 * step) }
 {
-    let mut power: u64 = 1;
-    for _turn in 0..20 {
-        if let Some(step) = step_of_power(power, range) {
-            return step;
-        }
-        power = power.saturating_mul(10);
+    steps
+        .iter()
+        .copied()
+        .find(|step| range <= 8 * u128::from(*step))
+}
+
+/// The first distance of which eight reach over a range of prices, in ten-thousandths of a dollar.
+#[tactic(auto, unfolding(crate::specs::Frames::step_of))]
+fn step_of(range: u128) -> u64
+    requires { 0 < range }
+    ensures exact { result ≡ step_of range }
+    ensures some { 0 < result }
+{
+    match first_of(steps(), range) {
+        Some(step) => step,
+        None => 1_000_000_000_000,
     }
-    power
 }
 
 /// A tick of the price axis.
-fn price_tick(alloc: Global, axis: &Axis, units: u64) -> Result<String, NoMemory>
+#[tactic(auto, unfolding(crate::specs::Frames::price_tick))]
+fn price_tick(alloc: Global, axis: &Axis, price: u128) -> Result<String, NoMemory>
     requires { IsAxis axis.now }
+    ensures { IfOk result (λ text. string_bytes text ≡ price_tick axis.now price) }
 {
-    let y = y_of(axis, units);
+    let y = y_of(axis, price);
     let beside = y + 18;
-    let dollars = dollars(alloc, units)?;
+    let dollars = dollars(alloc, price)?;
     Ok(format!(in alloc;
         "<path class=\"grid\" d=\"M780 {y}H6200\"/><text class=\"left\" x=\"770\" y=\"{beside}\">{dollars}</text>\n"
     )?)
 }
 
-/// Writes the ticks of round prices within the axis.
-pub fn put_prices(alloc: Global, text: &mut String, axis: &Axis) -> Result<(), NoMemory>
+/// Writes the tick of a price, where it is within the axis.
+#[tactic(auto, unfolding(crate::specs::Frames::tick_within))]
+fn put_price(alloc: Global, text: &mut String, axis: &Axis, price: u128) -> Result<(), NoMemory>
     requires { IsAxis axis.now }
+    ensures { OnOk result (string_bytes text.new ≡ string_bytes text.old ++ tick_within axis.now price) }
 {
-    let step = step_of(axis.high - axis.low);
-    let below = (axis.low / u128::from(step)).min(1_000_000_000_000) as u64;
-    for count in 1..10u64 {
-        let units = below.saturating_add(count).saturating_mul(step);
-        if u128::from(units) < axis.high {
-            text.push_str(price_tick(alloc, axis, units)?.as_str())?;
-        }
+    if price < axis.high {
+        text.push_str(price_tick(alloc, axis, price)?.as_str())?;
     }
     Ok(())
+}
+
+/// Writes the ticks of the multiples of a distance.
+fn put_multiples(alloc: Global, text: &mut String, axis: &Axis, step: u64) -> Result<(), NoMemory>
+    requires axis { IsAxis axis.now }
+    requires some { 0 < step }
+    ensures { OnOk result (string_bytes text.new ≡ string_bytes text.old ++ ticks_by axis.now step) }
+{
+    let step = u128::from(step);
+    let above = axis.low / step + 1;
+    for count in 0..9u64 {
+        put_price(alloc, text, axis, (above + u128::from(count)) * step)?;
+    }
+    Ok(())
+}
+
+/// Writes the ticks of round prices within the axis.
+#[tactic(auto, unfolding(crate::specs::Frames::price_ticks))]
+pub fn put_prices(alloc: Global, text: &mut String, axis: &Axis) -> Result<(), NoMemory>
+    requires { IsAxis axis.now }
+    ensures { OnOk result (string_bytes text.new ≡ string_bytes text.old ++ price_ticks axis.now) }
+{
+    let step = step_of(axis.high - axis.low);
+    put_multiples(alloc, text, axis, step)
 }

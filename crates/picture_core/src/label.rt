@@ -1,12 +1,20 @@
 //! The words that stand in the picture.
 
+ghost use Rattle.std.specs.Prelude.{◌≡◌, ◌++◌, IfOk, OnOk};
+ghost use Rattle.std.specs.List.{flat_map};
+ghost use Rattle.std.specs.String.{string_bytes};
+ghost use Rattle.picture_core.specs.Labels.{dollars_text, time_text, character_text, name_text};
+
 use price_core::{NoMemory, Price};
 use session_core::Moment;
 use std::alloc::Global;
 use wire_out::{Message, Stamped};
 
 /// A price in dollars and cents, with four digits where it is no whole number of cents.
-pub fn dollars(alloc: Global, units: u64) -> Result<String, NoMemory> {
+#[tactic(auto, unfolding(crate::specs::Labels::dollars_text))]
+pub fn dollars(alloc: Global, units: u128) -> Result<String, NoMemory>
+    ensures { IfOk result (λ text. string_bytes text ≡ dollars_text units) }
+{
     let whole = units / 10_000;
     let rest = units % 10_000;
     if rest % 100 == 0 {
@@ -18,12 +26,17 @@ pub fn dollars(alloc: Global, units: u64) -> Result<String, NoMemory> {
 }
 
 /// The price of a message's label.
-pub fn price(alloc: Global, price: Price) -> Result<String, NoMemory> {
-    dollars(alloc, price.units())
+pub fn price(alloc: Global, price: Price) -> Result<String, NoMemory>
+    ensures { IfOk result (λ text. string_bytes text ≡ dollars_text price) }
+{
+    dollars(alloc, u128::from(price.units()))
 }
 
 /// A moment in hours, minutes and seconds.
-pub fn time(alloc: Global, moment: Moment) -> Result<String, NoMemory> {
+#[tactic(auto, unfolding(crate::specs::Labels::time_text))]
+pub fn time(alloc: Global, moment: Moment) -> Result<String, NoMemory>
+    ensures { IfOk result (λ text. string_bytes text ≡ time_text moment) }
+{
     let seconds = moment.nanos() / 1_000_000_000;
     let hour = seconds / 3600;
     let minute = seconds / 60 % 60;
@@ -32,7 +45,9 @@ pub fn time(alloc: Global, moment: Moment) -> Result<String, NoMemory> {
 }
 
 /// A character of a name, as an entity where it means something else in a picture's text.
-fn put_character(text: &mut String, byte: u8) -> Result<(), NoMemory> {
+fn put_character(text: &mut String, byte: u8) -> Result<(), NoMemory>
+    ensures { OnOk result (string_bytes text.new ≡ string_bytes text.old ++ character_text byte) }
+{
     match byte {
         b'&' | b'<' | b'>' | b'"' | b'\'' => Ok(write!(text, "&#{byte};")?),
         0 => Ok(()),
@@ -40,7 +55,9 @@ fn put_character(text: &mut String, byte: u8) -> Result<(), NoMemory> {
     }
 }
 
-fn put_name(text: &mut String, name: &[u8; 8]) -> Result<(), NoMemory> {
+fn put_name(text: &mut String, name: &[u8; 8]) -> Result<(), NoMemory>
+    ensures { OnOk result (string_bytes text.new ≡ string_bytes text.old ++ flat_map character_text name.now) }
+{
     for byte in name {
         put_character(text, *byte)?;
     }
@@ -48,7 +65,10 @@ fn put_name(text: &mut String, name: &[u8; 8]) -> Result<(), NoMemory> {
 }
 
 /// The name of the symbol, where a listing tells it; else no text.
-pub fn name(alloc: Global, messages: &[Stamped]) -> Result<String, NoMemory> {
+#[tactic(auto, unfolding(crate::specs::Labels::name_text))]
+pub fn name(alloc: Global, messages: &[Stamped]) -> Result<String, NoMemory>
+    ensures { IfOk result (λ text. string_bytes text ≡ name_text messages.now) }
+{
     let mut text = String::new(alloc);
     for x in messages {
         if let Message::Listed { name, .. } = x.message {

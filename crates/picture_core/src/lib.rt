@@ -11,6 +11,7 @@ mod place;
 mod reading;
 mod room;
 mod run;
+mod send;
 mod shown;
 mod span;
 mod told;

@@ -1,14 +1,18 @@
 //! The picture of one symbol's day.
 
-ghost use Rattle.std.specs.Prelude.{◌≡◌};
+ghost use Rattle.std.specs.Prelude.{◌≡◌, ◌++◌, IfOk, OnOk};
+ghost use Rattle.std.specs.String.{string_bytes};
 ghost use Rattle.picture_core.specs.Scales.{IsAxis};
 ghost use Rattle.picture_core.specs.Shown.{is_market, is_silent};
+ghost use Rattle.picture_core.specs.Places.{place_of};
+ghost use Rattle.picture_core.specs.Elements.{element_text, rooms_after};
+ghost use Rattle.picture_core.specs.Pictures.{title, head, elements_over, messages_text, silence, picture_of};
 
 use crate::axis::{Axis, axis_of};
 use crate::element::element;
-use crate::frame::{HATCHINGS, NAMES, STYLE, put_prices, put_times};
+use crate::frame::{hatchings, names, put_prices, put_times, style};
 use crate::label::name;
-use crate::place::{Place, places_of};
+use crate::place::place_of;
 use crate::room::Rooms;
 use price_core::NoMemory;
 use std::alloc::Global;
@@ -29,74 +33,103 @@ fn is_silent(messages: &[Stamped]) -> bool
 }
 
 /// The words over the picture.
-fn title(alloc: Global, symbol: u16, messages: &[Stamped]) -> Result<String, NoMemory> {
+#[tactic(auto, unfolding(crate::specs::Pictures::title))]
+fn title(alloc: Global, symbol: u16, messages: &[Stamped]) -> Result<String, NoMemory>
+    ensures { IfOk result (λ text. string_bytes text ≡ title symbol messages.now) }
+{
     let name = name(alloc, messages)?;
     Ok(format!(in alloc;
         "<text class=\"title\" x=\"800\" y=\"150\">Symbol {symbol} {name}</text><text x=\"800\" y=\"230\">price bands, pauses, halts and restrictions of the day, Eastern time</text>\n"
     )?)
 }
 
-/// The words of a picture of a symbol of which nothing is said.
-fn put_silence(alloc: Global, text: &mut String, symbol: u16) -> Result<(), NoMemory> {
-    let words = format!(in alloc;
-        "<text class=\"nothing\" x=\"3500\" y=\"1600\">Nothing is said of symbol {symbol}</text>\n"
-    )?;
-    Ok(text.push_str(words.as_str())?)
-}
-
-fn put_elements(
-    alloc: Global,
-    text: &mut String,
-    messages: &[Stamped],
-    places: &[Place],
-) -> Result<(), NoMemory> {
-    let mut rooms = Rooms::new(alloc);
-    for (x, place) in messages.iter().zip(places) {
-        text.push_str(element(alloc, &mut rooms, x, place)?.as_str())?;
-    }
-    Ok(())
-}
-
 /// Begins a picture with its style, its frame and its title.
-fn head(alloc: Global, symbol: u16, messages: &[Stamped]) -> Result<String, NoMemory> {
+#[tactic(auto, unfolding(crate::specs::Pictures::head))]
+fn head(alloc: Global, symbol: u16, messages: &[Stamped]) -> Result<String, NoMemory>
+    ensures { IfOk result (λ text. string_bytes text ≡ head symbol messages.now) }
+{
     let title = title(alloc, symbol, messages)?;
+    let (style, hatchings, names) = (style(), hatchings(), names());
     Ok(format!(in alloc;
-        "<svg xmlns=\"http://www.w3.org/2000/svg\" width=\"1280\" height=\"770\" viewBox=\"0 0 6400 3850\">\n{STYLE}{HATCHINGS}<rect class=\"page\" width=\"6400\" height=\"3850\"/>\n{title}{NAMES}"
+        "<svg xmlns=\"http://www.w3.org/2000/svg\" width=\"1280\" height=\"770\" viewBox=\"0 0 6400 3850\">\n{style}{hatchings}<rect class=\"page\" width=\"6400\" height=\"3850\"/>\n{title}{names}"
     )?)
 }
 
+/// Draws a message at its place, with those behind it as the later ones.
+fn put_element(
+    alloc: Global,
+    text: &mut String,
+    rooms: &mut Rooms,
+    axis: &Axis,
+    x: &Stamped,
+    later: &[Stamped],
+) -> Result<(), NoMemory>
+    requires { IsAxis axis.now }
+    ensures text { OnOk result (string_bytes text.new ≡ string_bytes text.old ++ element_text rooms.old x.now (place_of axis.now x.now later.now)) }
+    ensures taken { OnOk result (rooms.new ≡ rooms_after rooms.old x.now (place_of axis.now x.now later.now)) }
+{
+    let place = place_of(axis, x, later);
+    let element = element(alloc, rooms, x, &place)?;
+    text.push_str(element.as_str())?;
+    Ok(())
+}
+
 /// Draws the messages over an axis of prices.
-fn put_priced(
+#[tactic(auto, unfolding(crate::specs::Pictures::elements_over))]
+fn put_elements(
     alloc: Global,
     text: &mut String,
     axis: &Axis,
     messages: &[Stamped],
 ) -> Result<(), NoMemory>
     requires { IsAxis axis.now }
+    ensures { OnOk result (string_bytes text.new ≡ string_bytes text.old ++ elements_over axis.now messages.now) }
 {
-    let places = places_of(alloc, axis, messages)?;
-    put_elements(alloc, text, messages, &places)
+    let mut rooms = Rooms::new(alloc);
+    for at in 0..messages.len() {
+        let (x, later) = (&messages[at], &messages[at + 1..]);
+        put_element(alloc, text, &mut rooms, axis, x, later)?;
+    }
+    Ok(())
 }
 
 /// Draws the messages, over the axis of their prices where they have any.
-fn put_messages(alloc: Global, text: &mut String, messages: &[Stamped]) -> Result<(), NoMemory> {
+#[tactic(auto, unfolding(crate::specs::Pictures::messages_text))]
+fn put_messages(alloc: Global, text: &mut String, messages: &[Stamped]) -> Result<(), NoMemory>
+    ensures { OnOk result (string_bytes text.new ≡ string_bytes text.old ++ messages_text messages.now) }
+{
     match axis_of(messages) {
         Some(axis) => {
             put_prices(alloc, text, &axis)?;
-            put_priced(alloc, text, &axis, messages)
+            put_elements(alloc, text, &axis, messages)
         }
-        None => put_priced(alloc, text, &Axis { low: 0, high: 1 }, messages),
+        None => put_elements(alloc, text, &Axis { low: 0, high: 1 }, messages),
     }
 }
 
+/// The words of a picture of a symbol of which nothing is said.
+#[tactic(auto, unfolding(crate::specs::Pictures::silence))]
+fn silence(alloc: Global, symbol: u16, messages: &[Stamped]) -> Result<String, NoMemory>
+    ensures { IfOk result (λ text. string_bytes text ≡ silence symbol messages.now) }
+{
+    if !is_silent(messages) {
+        return Ok(String::new(alloc));
+    }
+    Ok(format!(in alloc;
+        "<text class=\"nothing\" x=\"3500\" y=\"1600\">Nothing is said of symbol {symbol}</text>\n"
+    )?)
+}
+
 /// The picture of a symbol's day as an SVG, of its messages and those of the market.
-pub fn picture(alloc: Global, symbol: u16, messages: &[Stamped]) -> Result<String, NoMemory> {
+#[tactic(auto, unfolding(crate::specs::Pictures::picture_of))]
+pub fn picture(alloc: Global, symbol: u16, messages: &[Stamped]) -> Result<String, NoMemory>
+    ensures { IfOk result (λ text. string_bytes text ≡ picture_of symbol messages.now) }
+{
     let mut text = head(alloc, symbol, messages)?;
     put_times(alloc, &mut text)?;
     put_messages(alloc, &mut text, messages)?;
-    if is_silent(messages) {
-        put_silence(alloc, &mut text, symbol)?;
-    }
+    let silence = silence(alloc, symbol, messages)?;
+    text.push_str(silence.as_str())?;
     text.push_str("</svg>\n")?;
     Ok(text)
 }

@@ -1,15 +1,13 @@
 //! Where each message of the picture stands.
 
-ghost use Rattle.std.specs.Prelude.{◌≡◌, ◌≤◌, ◌∷◌, [], ◌++◌, ℕ, List, map, IfOk, OnOk};
-ghost use Rattle.std.specs.List.{All};
+ghost use Rattle.std.specs.Prelude.{◌≡◌, ◌≤◌};
 ghost use Rattle.picture_core.specs.Scales.{IsAxis, y_of};
-ghost use Rattle.picture_core.specs.Places.{right_of, lane_of_phase, lane_of, in_lane, heights_of, place_of, places_of, IsWithin};
+ghost use Rattle.picture_core.specs.Places.{right_of, lane_of_phase, lane_of, in_lane, heights_of, place_of, AreWithin, IsWithin};
 
 use crate::axis::{Axis, x_of, y_of};
 use crate::span::end_of;
-use price_core::{NoMemory, Price};
+use price_core::Price;
 use session_core::{Moment, Phase};
-use std::alloc::Global;
 use wire_out::{Message, Stamped};
 
 /// The heights of the lines that a message draws: y grows downwards.
@@ -69,7 +67,7 @@ fn lane_of(message: Message) -> u64
 fn in_lane(lane: u64) -> Heights
     requires { lane ≤ 5 }
     ensures exact { result ≡ in_lane lane }
-    ensures within { (300 ≤ result.top) × (result.bottom ≤ 3580) }
+    ensures within { AreWithin result }
 {
     let top = 3060 + 90 * lane;
     Heights {
@@ -84,19 +82,19 @@ fn between(axis: &Axis, upper: Price, middle: Price, lower: Price) -> Heights
     ensures top { result.top ≡ y_of axis.now upper }
     ensures middle { result.middle ≡ y_of axis.now middle }
     ensures bottom { result.bottom ≡ y_of axis.now lower }
-    ensures within { (300 ≤ result.top) × (result.bottom ≤ 3580) }
+    ensures within { AreWithin result }
 {
     Heights {
-        top: y_of(axis, upper.units()),
-        middle: y_of(axis, middle.units()),
-        bottom: y_of(axis, lower.units()),
+        top: y_of(axis, u128::from(upper.units())),
+        middle: y_of(axis, u128::from(middle.units())),
+        bottom: y_of(axis, u128::from(lower.units())),
     }
 }
 
 fn heights_of(axis: &Axis, message: Message) -> Heights
     requires { IsAxis axis.now }
     ensures exact { result ≡ heights_of axis.now message }
-    ensures within { (300 ≤ result.top) × (result.bottom ≤ 3580) }
+    ensures within { AreWithin result }
 {
     match message {
         Message::Band {
@@ -112,7 +110,7 @@ fn heights_of(axis: &Axis, message: Message) -> Heights
 }
 
 /// Where a message stands, with those behind it as the later ones.
-fn place_of(axis: &Axis, x: &Stamped, later: &[Stamped]) -> Place
+pub fn place_of(axis: &Axis, x: &Stamped, later: &[Stamped]) -> Place
     requires { IsAxis axis.now }
     ensures exact { result ≡ place_of axis.now x.now later.now }
     ensures within { IsWithin result }
@@ -123,16 +121,4 @@ fn place_of(axis: &Axis, x: &Stamped, later: &[Stamped]) -> Place
         right: right_of(left, end_of(x.message, later)),
         heights: heights_of(axis, x.message),
     }
-}
-
-/// The places of messages, in their order.
-pub fn places_of(alloc: Global, axis: &Axis, messages: &[Stamped]) -> Result<Vec<Place>, NoMemory>
-    requires { IsAxis axis.now }
-    ensures { IfOk result (λ places. places.items ≡ places_of axis.now messages.now) }
-{
-    let mut places = Vec::new(alloc);
-    for at in 0..messages.len() {
-        places.push(place_of(axis, &messages[at], &messages[at + 1..]))?;
-    }
-    Ok(places)
 }

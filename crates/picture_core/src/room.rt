@@ -1,28 +1,32 @@
 //! The rooms of labels: none is drawn over another.
 
 ghost use Rattle.std.specs.Prelude.{◌≡◌, ◌∷◌, ◌++◌, [], if◌then◌else◌, IfOk, OnOk, OnErr, length, true};
-ghost use Rattle.picture_core.specs.Rooms.{meets, is_free, with_room};
+ghost use Rattle.picture_core.specs.Rooms.{room_of_words, meets, is_free, with_room};
 
 use price_core::NoMemory;
 use std::alloc::Global;
 use std::marker::Model;
 
 /// How wide a character is taken to be.
-const CHARACTER: u64 = 30;
+const CHARACTER: u128 = 30;
 
 /// A stretch of the picture, without its right and its lower edge: y grows downwards.
 #[derive(Clone, Copy, PartialEq, Eq)]
 pub struct Room {
-    pub left: u64,
-    pub right: u64,
-    pub top: u64,
-    pub bottom: u64,
+    pub left: u128,
+    pub right: u128,
+    pub top: u128,
+    pub bottom: u128,
 }
 
 impl Room {
     /// The room of words that begin at a point, or end there.
-    pub fn of_words(x: u64, y: u64, ends_there: bool, words: &str) -> Room {
-        let width = (words.len() as u64).saturating_mul(CHARACTER);
+    pub fn of_words(x: u64, y: u64, ends_there: bool, words: &str) -> Room
+        ensures { result ≡ room_of_words x y ends_there words.now }
+    {
+        let x = u128::from(x);
+        let y = u128::from(y);
+        let width = words.len() as u128 * CHARACTER;
         let left = if ends_there {
             x.saturating_sub(width)
         } else {
@@ -30,9 +34,9 @@ impl Room {
         };
         Room {
             left,
-            right: left.saturating_add(width),
+            right: left + width,
             top: y.saturating_sub(44),
-            bottom: y.saturating_add(12),
+            bottom: y + 12,
         }
     }
 

@@ -1,41 +1,40 @@
 //! The top call: what the words ask for, done over a reader and a writer.
 
-ghost use Rattle.std.specs.Prelude.{◌≡◌, ◌⊎◌, List, Option, IfOk, IfErr, IfSome, map};
-ghost use Rattle.std.specs.Io.KnownBytes.{Appends};
-ghost use Rattle.host_core.specs.declared.status.Status.TheVariants.{Done, SendFault};
+ghost use Rattle.std.specs.Prelude.{◌≡◌, List, Option, IfOk, IfErr, IfSome, map};
+ghost use Rattle.std.specs.String.{string_bytes};
 ghost use Rattle.wire_out.specs.declared.message.Stamped.{Stamped};
 ghost use Rattle.picture_core.specs.declared.words.Command.{Command};
 ghost use Rattle.picture_core.specs.Words.{Asks};
 ghost use Rattle.picture_core.specs.Reads.{IsShown, Stops, Hinders};
+ghost use Rattle.picture_core.specs.Pictures.{picture_of};
+ghost use Rattle.picture_core.specs.Told.{help_text};
 ghost use Rattle.picture_core.specs.Runs.{Drawn, Ran};
 
 use crate::picture::picture;
 use crate::reading::read_messages;
+use crate::send::send;
 use crate::words::{Command, command_of};
 use host_core::Status;
 use std::alloc::Global;
 use std::io::{BufRead, Write};
 
-/// How the program is called.
+/// What is written where help is asked for.
 const HELP: &str =
     "chart <symbol>: draws the day of the symbol of that id, 0 to 65535, as an SVG, from the lines of published frames on standard input\n";
 
-/// Writes all of a text.
-fn send<W: Write>(writer: &mut W, text: &str) -> Status
-    ensures sent { result ≡ Done → Appends (W.contents writer.old) (W.contents writer.new) text.now }
-    ensures fault { (result ≡ Done) ⊎ (result ≡ SendFault) }
+/// How the program is called.
+#[tactic(auto, unfolding(crate::specs::Told::help_text))]
+fn help() -> &'static str
+    ensures { result.now ≡ help_text }
 {
-    if writer.write_all(text.as_bytes()).is_err() || writer.flush().is_err() {
-        return Status::SendFault;
-    }
-    Status::Done
+    HELP
 }
 
 /// The picture of the input's messages of that symbol, once it is read whole.
 fn drawn<R: BufRead>(alloc: Global, symbol: u16, reader: &mut R) -> Result<String, Status>
     ensures stopped { IfErr result (λ s. IfSome (R.remaining reader.old) (Stops s)) }
     ensures cause { IfErr result Hinders }
-    ensures read { IfOk result (λ _. IfSome (R.remaining reader.old) (λ text. (messages : List Stamped) × IsShown text symbol messages)) }
+    ensures exact { IfOk result (λ picture. IfSome (R.remaining reader.old) (λ text. (messages : List Stamped) × IsShown text symbol messages × (string_bytes picture ≡ picture_of symbol messages))) }
 {
     let messages = read_messages(alloc, reader, symbol)?;
     match picture(alloc, symbol, &messages) {
@@ -63,7 +62,7 @@ pub fn chart<R: BufRead, W: Write>(
     ensures { (command : Option Command) × Asks (map (λ w. w.now) args.now) command × Ran command (R.remaining reader.old) result (W.contents writer.old) (W.contents writer.new) }
 {
     match command_of(args) {
-        Some(Command::Help) => send(writer, HELP),
+        Some(Command::Help) => send(writer, help()),
         Some(Command::Draw { symbol }) => draw(alloc, symbol, reader, writer),
         None => Status::Usage,
     }

@@ -1,0 +1,62 @@
+-- The text of a picture, part by part.
+use Rattle.std.specs.Prelude.{ℕ, if◌then◌else◌, List, [], ◌∷◌, codes, decimal, Option, Some, None}
+use Rattle.wire_out.specs.declared.message.Stamped.{Stamped}
+use Rattle.picture_core.specs.Shown.{is_silent}
+use Rattle.picture_core.specs.Scales.{lowest, highest, axis_of}
+use Rattle.picture_core.specs.Places.{places_of}
+use Rattle.picture_core.specs.Labels.{◌⊕◌, name_text}
+use Rattle.picture_core.specs.Elements.{element_text, rooms_after}
+use Rattle.picture_core.specs.Frames.{time_ticks, price_ticks}
+use Rattle.picture_core.specs.declared.axis.Axis.{Axis}
+use Rattle.picture_core.specs.declared.place.Place.{Place}
+use Rattle.picture_core.specs.declared.room.Room.{Room}
+use Rattle.picture_core.specs.declared.frame.TheConstants.{STYLE, HATCHINGS, NAMES}
+
+-- the texts that no message changes stand in the code: how things are drawn, the hatchings, and the frame with its names
+unfoldable pub style : List ℕ
+style = STYLE.now
+
+unfoldable pub hatchings : List ℕ
+hatchings = HATCHINGS.now
+
+unfoldable pub names : List ℕ
+names = NAMES.now
+
+-- the words over the picture
+unfoldable pub title : ℕ → List Stamped → List ℕ
+title symbol messages =
+    codes "<text class=\"title\" x=\"800\" y=\"150\">Symbol " ⊕ decimal symbol ⊕ codes " " ⊕ name_text messages
+    ⊕ codes "</text><text x=\"800\" y=\"230\">price bands, pauses, halts and restrictions of the day, Eastern time</text>\n"
+
+unfoldable pub head : ℕ → List Stamped → List ℕ
+head symbol messages =
+    codes "<svg xmlns=\"http://www.w3.org/2000/svg\" width=\"1280\" height=\"770\" viewBox=\"0 0 6400 3850\">\n" ⊕ style ⊕ hatchings
+    ⊕ codes "<rect class=\"page\" width=\"6400\" height=\"3850\"/>\n" ⊕ title symbol messages ⊕ names
+
+-- messages at their places, each with the labels for which those before it leave room
+abbrev pub elements : List Room → List Stamped → List Place → List ℕ
+elements rooms (x ∷ messages) (place ∷ places) = element_text rooms x place ⊕ elements (rooms_after rooms x place) messages places
+elements rooms _ _ = []
+
+unfoldable pub elements_over : Axis → List Stamped → List ℕ
+elements_over axis messages = elements [] messages (places_of axis messages)
+
+-- messages over the axis of their prices, with its ticks; where they have none, over an axis without ticks
+abbrev pub over_axis : Option Axis → List Stamped → List ℕ
+over_axis (Some axis) messages = price_ticks axis ⊕ elements_over axis messages
+over_axis None messages = elements_over (record { low = 0; high = 1 }) messages
+
+unfoldable pub messages_text : List Stamped → List ℕ
+messages_text messages = over_axis (axis_of (lowest messages) (highest messages)) messages
+
+-- the words of a picture of a symbol of which nothing is said
+unfoldable pub silence : ℕ → List Stamped → List ℕ
+silence symbol messages =
+    if is_silent messages
+    then codes "<text class=\"nothing\" x=\"3500\" y=\"1600\">Nothing is said of symbol " ⊕ decimal symbol ⊕ codes "</text>\n"
+    else []
+
+-- the picture of a symbol's day: of its messages and those of the market
+unfoldable pub picture_of : ℕ → List Stamped → List ℕ
+picture_of symbol messages =
+    head symbol messages ⊕ time_ticks ⊕ messages_text messages ⊕ silence symbol messages ⊕ codes "</svg>\n"
