@@ -1,5 +1,5 @@
 -- What an answer comes from.
-use Rattle.std.proofs.Common.{◌≡◌, ◌∙◌, sym, ap, inl, inr, true, Option, []}
+use Rattle.std.proofs.Common.{◌≡◌, ◌≢◌, ◌∙◌, sym, ap, inl, inr, true, Option, None, []}
 use Rattle.std.specs.Prelude.{Result, Ok, Err}
 use Rattle.clap.specs.Words.{Kinds, HasKind, kind_of}
 use Rattle.clap.specs.declared.error.Error.{Error}
@@ -20,11 +20,11 @@ told kinds command e (Ok (asked.Command c)) has tells = absurd tells
 told kinds command e (Ok (asked.Text text)) (inl out) tells = absurd (no_text (kind_of e) tells out)
 told kinds command e (Ok (asked.Text text)) (inr among) tells = (kind_of e, among, tells)
 told kinds command e (Err Usage) (inl out) tells = absurd (tells.1 out)
-told kinds command e (Err Usage) (inr among) tells = inl (kind_of e, among, tells.0)
+told kinds command e (Err Usage) (inr among) tells = (kind_of e, among, tells.0)
 told kinds command e (Err NoMemory) has tells = tt
 
-pub given : (kinds : Kinds) (command : Option Command) (answer : Result Asked WordsError) → kinds ≡ [] → Gives command answer → Allows kinds command answer
-given kinds command (Ok (asked.Command c)) none gives = (none, gives)
-given kinds command (Ok (asked.Text text)) none gives = absurd gives
-given kinds command (Err Usage) none gives = inr (none, gives)
-given kinds command (Err NoMemory) none gives = absurd gives
+pub given : (kinds : Kinds) (command : Option Command) (answer : Result Asked WordsError) → kinds ≡ [] → (kinds ≡ [] → command ≢ None) → Gives command answer → Allows kinds command answer
+given kinds command (Ok (asked.Command c)) none named gives = (none, gives)
+given kinds command (Ok (asked.Text text)) none named gives = absurd gives
+given kinds command (Err Usage) none named gives = absurd (named none gives)
+given kinds command (Err NoMemory) none named gives = absurd gives

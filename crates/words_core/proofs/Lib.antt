@@ -1,3 +1,9 @@
 pub mod Numbers
 pub mod Asking
 pub mod Reading
+pub mod Passing
+pub mod Walking
+pub mod Filling
+pub mod Leaves
+pub mod Naming
+pub mod Named

@@ -1,5 +1,5 @@
 -- What words ask for: a plain line for its command, and other words for what `clap` makes of the command line.
-use Rattle.std.specs.Prelude.{◌≡◌, ◌≢◌, ◌⊎◌, ℕ, Bool, true, false, List, [], Option, Some, None, Result, Ok, Err, codes, option_map, option_and_then}
+use Rattle.std.specs.Prelude.{◌≡◌, ◌≢◌, ℕ, Bool, true, false, List, [], Option, Some, None, Result, Ok, Err, codes, option_map, option_and_then}
 use Rattle.std.specs.Str.{bytes_eq}
 use Rattle.clap.specs.Words.{Kinds, IsAmong, Row, Text, fault_of, first_of, subcommand_of}
 use Rattle.clap.specs.declared.error.kind.ErrorKind.{ErrorKind}
@@ -74,7 +74,7 @@ SomeKind asks kinds = (kind : ErrorKind) × IsAmong kind kinds × (asks_for_text
 abbrev pub Allows : Kinds → Option Command → Result Asked WordsError → Type 0
 Allows kinds command (Ok (asked.Command c)) = (kinds ≡ []) × (command ≡ Some c)
 Allows kinds command (Ok (asked.Text text)) = SomeKind true kinds
-Allows kinds command (Err Usage) = SomeKind false kinds ⊎ ((kinds ≡ []) × (command ≡ None))
+Allows kinds command (Err Usage) = SomeKind false kinds
 Allows kinds command (Err NoMemory) = Unit {0}
 
 -- what a kind of error comes to
@@ -91,9 +91,14 @@ Gives command (Ok (asked.Text text)) = ⊥
 Gives command (Err Usage) = command ≡ None
 Gives command (Err NoMemory) = ⊥
 
+-- words in which `clap` finds no fault name a command
+abbrev pub NamesACommand : CommandLine → List Text → Type 0
+NamesACommand line words = fault_of (app_of_line line) words ≡ [] → command_found (subcommand_of (app_of_line line) words) ≢ None
+
 -- words that are no plain line are answered as the command line says
 pub record Reads (words : List Text) (answer : Result Asked WordsError) : Type 0 where
   pub line : CommandLine
+  pub named : NamesACommand line words
   pub allowed : Allows (fault_of (app_of_line line) words) (command_found (subcommand_of (app_of_line line) words)) answer
 
 -- the numbers of a command that is asked for are in their ranges

@@ -1,6 +1,6 @@
 //! What the words of a process ask for.
 
-ghost use Rattle.std.specs.Prelude.{◌≡◌, None, Some, Ok, IfOk, map};
+ghost use Rattle.std.specs.Prelude.{◌≡◌, None, Some, Ok, IfOk, [], ◌∷◌, codes, map};
 ghost use Rattle.clap.specs.Words.{fault_of, kind_of, subcommand_of, subcommand_rows_of};
 ghost use Rattle.words_core.specs.declared.command.Command.{Command};
 ghost use Rattle.words_core.specs.Plain.{command_of};
@@ -70,6 +70,7 @@ fn read_line<'a>(
     kinds: &'a [&'a str],
     words: &'a [&'a str],
 ) -> Result<Asked, WordsError>
+    requires kinds { map (λ w. w.now) kinds.now ≡ codes "records" ∷ codes "published" ∷ [] }
     ensures allowed { Allows (fault_of (halts_line kinds.entry) (map (λ w. w.now) words.entry.now)) (command_found (subcommand_of (halts_line kinds.entry) (map (λ w. w.now) words.entry.now))) result }
     ensures range { IfOk result IsAskedInRange }
 {
@@ -86,7 +87,8 @@ fn read_line<'a>(
 pub fn parse(alloc: Global, words: &[&str]) -> Result<Asked, WordsError>
     // A plain line asks for exactly its command, and takes no memory.
     ensures plain { (command : Command) → command_of (map (λ w. w.now) words.now) ≡ Some command → result ≡ Ok (Asked.Command command) }
-    // Other words are answered as the command line says.
+    // Other words are answered as the command line says: words in which `clap` finds no fault name a command, and `Usage` comes
+    // only where it finds one that asks for no text.
     ensures others { command_of (map (λ w. w.now) words.now) ≡ None → Reads (map (λ w. w.now) words.now) result }
     ensures range { IfOk result IsAskedInRange }
 {

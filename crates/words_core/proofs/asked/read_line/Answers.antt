@@ -5,6 +5,7 @@ use Rattle.clap.proofs.OnLiterals.{clap_on_literals}
 use Rattle.words_core.specs.Line.{halts_line}
 use Rattle.words_core.specs.Asked.{Gives, command_found}
 use Rattle.words_core.proofs.Asking.{told, given}
+use Rattle.words_core.proofs.Named.{names_a_command}
 use Rattle.words_core.proofs.asked.read_line.Goals as goal
 
 is_free : (kinds : Bor (List (Bor Text))) → is_simple_and_free (halts_line kinds) ≡ true
@@ -22,6 +23,7 @@ returns-in-Ok-try_get_matches_from-clause-allowed c =
     let none = c.in-Ok-try_get_matches_from.ensures.kinds (ap is_simple_and_free line ∙ is_free c.args.kinds) in
     let found = (c.in-Ok-try_get_matches_from.ensures.matches (ap is_simple line ∙ is_plain c.args.kinds)).1 in
     given _ _ c.command_asked.result (sym (ap (λ a. fault_of a words) line) ∙ none)
+    (names_a_command (record { kinds = c.args.kinds; words = c.requires.kinds }) words)
     (subst (λ s. Gives (command_found s) c.command_asked.result) (found ∙ ap (λ a. subcommand_of a words) line) c.command_asked.ensures.asked)
 
 pub returns-in-Err-clause-allowed : goal.returns-in-Err-clause-allowed
