@@ -1,7 +1,7 @@
 //! A picture of one symbol's day, drawn from published lines.
 #![tactic(auto)]
 
-use host_core::Status;
+use host_core::{Status, Stream};
 use picture_core::{chart, end};
 use std::env::{self, Env};
 use std::io::{self, BufReader};
@@ -26,5 +26,5 @@ fn main(rt: HostRuntime) -> ExitCode {
     // Words that can't be read ask for nothing that is understood.
     let status = chart_here(&rt).unwrap_or(Status::Usage);
     let stderr = rt.stderr();
-    end(&mut io::writer(&stderr), status).code
+    end(&mut Stream::new(io::writer(&stderr)), status).code
 }

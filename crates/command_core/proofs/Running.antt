@@ -10,7 +10,7 @@ use Rattle.words_core.specs.declared.asked.WordsError.{WordsError}
 use Rattle.words_core.specs.declared.asked.WordsError.TheVariants as errors
 use Rattle.words_core.specs.declared.command.Command.{Command}
 use Rattle.words_core.specs.declared.command.Command.TheVariants.{Format, Serve, Replay, Status, Print, Pack, Generate}
-use Rattle.command_core.specs.Runs.{Ran, Did, Obeyed, Answered}
+use Rattle.command_core.specs.Runs.{Ran, Did, Obeyed}
 
 -- a command never answers Usage
 pub understood : (unbegun : Type 0) (command : Command) (status : status.Status) (old new : Outside) → Ran unbegun command status old new → status ≢ statuses.Usage
@@ -29,12 +29,3 @@ untouched unbegun (Ok (asked.Command command)) status old new did is = absurd (u
 untouched unbegun (Ok (asked.Text text)) status old new did is = absurd (grind (arith, did.kind, is))
 untouched unbegun (Err errors.Usage) status old new did is = did.1
 untouched unbegun (Err errors.NoMemory) status old new did is = did.1
-
--- what the status tells of the answer
-pub answered : (unbegun : Type 0) (words : List (List ℕ)) (status : status.Status) (old new : Outside) → Obeyed unbegun words status old new → Answered words status
-answered unbegun words status old new obeyed = record {
-  answer = obeyed.answer;
-  reads = obeyed.reads;
-  refused = λ is. (subst (λ (answer : Result Asked WordsError). Did unbegun answer status old new) is obeyed.did).0;
-  starved = λ is. (subst (λ (answer : Result Asked WordsError). Did unbegun answer status old new) is obeyed.did).0;
-}

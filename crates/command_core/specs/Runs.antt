@@ -32,8 +32,8 @@ Ran unbegun (Format limit) status old new = Formatted limit status old new
 Ran unbegun (Serve from workers batch bytes) status old new = Served unbegun workers from bytes status old new
 Ran unbegun (Replay workers bytes) status old new = Replayed unbegun workers bytes status old new
 Ran unbegun Status status old new = Reported status old new
-Ran unbegun (Print kind) status old new = Printed kind status old new
-Ran unbegun (Pack kind) status old new = Packed kind status old new
+Ran unbegun (Print kind) status old new = Printed unbegun kind status old new
+Ran unbegun (Pack kind) status old new = Packed unbegun kind status old new
 Ran unbegun (Generate seed symbols records workers summary) status old new = Generates (record { seed = seed; symbols = symbols; records = records }) summary status old new
 
 -- a text was sent, or the first of its bytes, and nothing else was done
@@ -56,10 +56,3 @@ pub record Obeyed (unbegun : Type 0) (words : List (List ℕ)) (status : status.
   pub answer : Result Asked WordsError
   pub reads : Reads words answer
   pub did : Did unbegun answer status old new
-
--- words that are no plain line were answered as the command line says, and the status tells where they were refused
-pub record Answered (words : List (List ℕ)) (status : status.Status) : Type 0 where
-  pub answer : Result Asked WordsError
-  pub reads : Reads words answer
-  pub refused : answer ≡ Err errors.Usage → status ≡ statuses.Usage
-  pub starved : answer ≡ Err errors.NoMemory → status ≡ statuses.NoMemory

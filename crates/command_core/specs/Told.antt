@@ -1,12 +1,8 @@
 -- What is told on standard error of how a run ended.
-use Rattle.std.specs.Prelude.{ℕ, List, [], ◌∷◌, ◌++◌, Option, Some, None, codes, decimal}
+use Rattle.std.specs.Prelude.{ℕ, List, Option, Some, None, codes}
+use Rattle.host_core.specs.Streams.{with_number, with_newline}
 use Rattle.host_core.specs.declared.status.Status.{Status}
 use Rattle.host_core.specs.declared.status.Status.TheVariants.{Done, Usage, Truncated, ReadFault, SendFault, DiskFault, SessionFull, Damaged, NoJournal, NoMemory, BadText}
-
--- the words before a number, the number where there is one, and the words behind it
-abbrev pub with_number : List ℕ → Option ℕ → List ℕ → List ℕ
-with_number before None after = before ++ after
-with_number before (Some number) after = before ++ (decimal number ++ after)
 
 -- one line for each end but the good one, without its newline
 abbrev pub line_of : Status → Option (List ℕ)
@@ -21,11 +17,6 @@ line_of (Damaged at) = Some (with_number (codes "halts: the journal is damaged a
 line_of NoJournal = Some (codes "halts: there is no journal")
 line_of NoMemory = Some (codes "halts: out of memory")
 line_of (BadText line) = Some (with_number (codes "halts: line ") (Some line) (codes " is not understood"))
-
--- a line with its newline; nothing where there is none
-abbrev pub with_newline : Option (List ℕ) → List ℕ
-with_newline None = []
-with_newline (Some line) = line ++ (10 ∷ [])
 
 -- all that is told of a status
 abbrev pub told_of : Status → List ℕ

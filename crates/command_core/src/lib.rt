@@ -5,6 +5,6 @@ mod process;
 mod program;
 mod told;
 
-pub use process::{perform, start};
+pub use process::{host_of, perform};
 pub use program::run;
-pub use told::{Ending, StatusLine, end, status_line, tell};
+pub use told::{Ending, end, status_line, tell};

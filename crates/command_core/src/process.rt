@@ -1,18 +1,17 @@
-//! The words of a process, done over a host of its streams and the journal's file.
+//! The words of a process, and the host of its streams and the journal's file.
 
-ghost use Rattle.std.specs.Prelude.{◌≡◌, ◌≢◌, [], None, Some, if◌then◌else◌, map, get_or, codes, drop};
+ghost use Rattle.std.specs.Prelude.{◌≡◌, ◌≢◌, [], false, None, Some, if◌then◌else◌, map, get_or, codes, drop};
 ghost use Rattle.host_core.specs.Outside.{Continues};
+ghost use Rattle.host_core.specs.Counts.{no_faults};
+ghost use Rattle.host_core.specs.Real.{reader_of, writer_of, disk_of, faults_of, files_of, path_of, opened_of, has_lost};
 ghost use Rattle.words_core.specs.declared.command.Command.{Command};
 ghost use Rattle.words_core.specs.Plain.{command_of};
-ghost use Rattle.command_core.specs.Runs.{Ran, Obeyed, Answered};
+ghost use Rattle.command_core.specs.Runs.{Ran, Obeyed};
 ghost use Rattle.command_core.specs.Words.{asks_for_text, command_words};
 
 use crate::program::run;
-use host_core::{Held, Host, JournalFile, RealHost, Status};
+use host_core::{Host, JournalFile, Opens, RealHost, Sink, Source, Status};
 use std::alloc::Global;
-use std::io::{Read, Write};
-use std::os::unix::fs::FileExt;
-use std::rt::Files;
 use std::thread::Threads;
 use yard_core::Gate;
 
@@ -61,6 +60,25 @@ fn words_behind<'a, 'b>(args: &'a [&'b str]) -> &'a [&'b str]
     }
 }
 
+/// The host of a process: its streams, and the file of the journal that its words name. Nothing of them is used yet.
+pub fn host_of<'a, R: Source + Drop, W: Sink + Drop, O: Opens + Drop>(
+    args: &[&'a str],
+    input: R,
+    output: W,
+    files: O,
+) -> RealHost<R, W, JournalFile<'a, O>>
+    ensures reader { reader_of result ≡ input }
+    ensures writer { writer_of result ≡ output }
+    ensures files { files_of (disk_of result) ≡ files }
+    ensures path { path_of (disk_of result) ≡ get_or (map (λ w. w.now) args.now) 1 (codes "-") }
+    ensures unopened { opened_of (disk_of result) ≡ None }
+    ensures kept { has_lost (disk_of result) ≡ false }
+    ensures faults { faults_of result ≡ no_faults }
+{
+    let journal = JournalFile::new(files, journal_path(args));
+    RealHost::new(input, output, journal)
+}
+
 /// Does what the words of a process say over a host of the journal that they name, and answers how it ended.
 pub fn perform<Rt: Threads + Sync, H: Host, G: Gate>(
     rt: &Rt,
@@ -81,23 +99,4 @@ pub fn perform<Rt: Threads + Sync, H: Host, G: Gate>(
     ensures continues { Continues (H.outside host.old) (H.outside host.new) }
 {
     run(rt, alloc, words_behind(args), host, gate)
-}
-
-/// Does what the words of a process say, over a reader, a writer and the file of the journal that they name.
-pub fn start<Rt: Files + Threads + Sync, R: Read + Drop, W: Write + Drop, G: Gate>(
-    rt: &Rt,
-    alloc: Global,
-    args: &[&str],
-    input: R,
-    output: W,
-    gate: &G,
-) -> Status
-where
-    Rt::File: FileExt + Held,
-    ensures understood { (command : Command) → command_of (command_words (map (λ w. w.now) args.now)) ≡ Some command → result ≢ Status.Usage }
-    ensures others { command_of (command_words (map (λ w. w.now) args.now)) ≡ None → Answered (command_words (map (λ w. w.now) args.now)) result }
-{
-    let journal = JournalFile::new(rt, journal_path(args));
-    let mut host = RealHost::new(input, output, journal);
-    perform(rt, alloc, args, &mut host, gate)
 }

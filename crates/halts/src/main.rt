@@ -1,8 +1,8 @@
 //! Trading halts of US equities over a live input and a journal.
 #![tactic(auto)]
 
-use command_core::{end, start};
-use host_core::{Held, Status};
+use command_core::{end, host_of, perform};
+use host_core::{Held, Status, Stream, SystemFiles};
 use std::env::{self, Env};
 use std::io;
 use std::os::unix::fs::FileExt;
@@ -12,7 +12,7 @@ use std::thread::Threads;
 use yard_core::OpenGate;
 
 /// Does what the words of this process say, over the standard streams.
-fn start_here<Rt: Env + Input + Print + Files + AllocGlobal + Threads + Sync>(
+fn perform_here<Rt: Env + Input + Print + Files + AllocGlobal + Threads + Sync>(
     rt: &Rt,
 ) -> io::Result<Status>
 where
@@ -27,17 +27,18 @@ where
     for word in &words {
         args.push(word.as_str())?;
     }
-    let (input, output) = (rt.reader(), io::writer(rt));
-    Ok(start(rt, alloc, &args, input, output, &OpenGate))
+    let (input, output) = (Stream::new(rt.reader()), Stream::new(io::writer(rt)));
+    let mut host = host_of(&args, input, output, SystemFiles::new(rt));
+    Ok(perform(rt, alloc, &args, &mut host, &OpenGate))
 }
 
 fn main(rt: HostRuntime) -> ExitCode {
-    let status = match start_here(&rt) {
+    let status = match perform_here(&rt) {
         Ok(status) => status,
         Err(error) if error.kind() == io::ErrorKind::OutOfMemory => Status::NoMemory,
         // Words that can't be read ask for nothing that is understood.
         Err(_) => Status::Usage,
     };
     let stderr = rt.stderr();
-    end(&mut io::writer(&stderr), status).code
+    end(&mut Stream::new(io::writer(&stderr)), status).code
 }

@@ -3,6 +3,8 @@ pub mod Frames
 pub mod HostCalls
 pub mod Faults
 pub mod Counts
+pub mod Files
+pub mod Streams
 pub mod Opaque
 pub mod Real
 pub mod Statuses

@@ -1,12 +1,12 @@
 // The file of a journal.
-ghost use Rattle.std.specs.Prelude.{◌≡◌, ◌<◌, ◌≤◌, ◌^◌, ℕ, List, Option, None, Some, length, take, drop, IfOk, OnOk, OnErr};
+ghost use Rattle.std.specs.Prelude.{◌≡◌, ◌||◌, ◌<◌, ◌≤◌, ◌^◌, ℕ, Bool, true, false, List, Option, None, Some, length, take, drop, IsTrue, IfOk, OnOk, OnErr};
 ghost use Rattle.host_core.specs.Outside.{written};
+ghost use Rattle.host_core.specs.Files.{IsTorn};
+ghost use Rattle.host_core.specs.Real.{path_of, files_of, opened_of, has_lost, file_state, all_held};
 
-use std::fs::{File, OpenFile, OpenOptions};
-use std::io::{self, Seek, SeekFrom};
-use std::os::fd::{AsRawFd, RawFd};
-use std::os::unix::fs::FileExt;
-use std::rt::Files;
+use crate::raw::{Opens, RawFile};
+use crate::whole::{measure, read_whole, sync_whole, write_whole};
+use std::io;
 
 /// The disk of a host over the streams: bytes that stay when the program ends.
 pub trait Disk {
@@ -16,129 +16,164 @@ pub trait Disk {
     /// What a read gave at the last sync that answered Ok, where that is known.
     ghost synced: { Self → Option (List ℕ) } = { λ _. None };
 
+    /// A sync failed: what was written before may be lost, so no later sync answers Ok.
+    ghost poisoned: { Self → Bool };
+
+    /// Whatever of it is open is held, so that nobody else who holds files reads or writes it.
+    ghost held: { Self → Bool };
+
     /// The length in bytes. A length of 2^63 or more is an error.
     fn len(&mut self) -> io::Result<u64>
         ensures bound { IfOk result (λ n. n < 2 ^ 63) }
         ensures len { IfOk result (λ n. (content : List ℕ) → bytes self.old ≡ Some content → n ≡ length content) }
         ensures same { bytes self.new ≡ bytes self.old }
-        ensures same_synced { synced self.new ≡ synced self.old };
+        ensures same_synced { synced self.new ≡ synced self.old }
+        ensures same_poisoned { poisoned self.new ≡ poisoned self.old }
+        ensures held { IsTrue (held self.old) → IsTrue (held self.new) };
 
     /// Reads the bytes from an offset on. It is an error where there are fewer.
     fn read(&mut self, at: u64, into: &mut [u8]) -> io::Result<()>
         ensures given { OnOk result ((content : List ℕ) → bytes self.old ≡ Some content → into.new ≡ take (length into.old) (drop at content)) }
         ensures same { bytes self.new ≡ bytes self.old }
-        ensures same_synced { synced self.new ≡ synced self.old };
+        ensures same_synced { synced self.new ≡ synced self.old }
+        ensures same_poisoned { poisoned self.new ≡ poisoned self.old }
+        ensures held { IsTrue (held self.old) → IsTrue (held self.new) };
 
-    /// Writes a piece from an offset on.
+    /// Writes a piece from an offset on. Where it fails, any bytes may stand in the range of the piece, and nothing else is changed.
     fn write(&mut self, at: u64, piece: &[u8]) -> io::Result<()>
         ensures written { OnOk result ((content : List ℕ) → bytes self.old ≡ Some content → at ≤ length content
             → bytes self.new ≡ Some (written at piece.now content)) }
-        ensures same_synced { synced self.new ≡ synced self.old };
+        ensures torn { OnErr result ((content : List ℕ) → bytes self.old ≡ Some content → at ≤ length content
+            → IsTorn at (length piece.now) content (bytes self.new)) }
+        ensures same_synced { synced self.new ≡ synced self.old }
+        ensures same_poisoned { poisoned self.new ≡ poisoned self.old }
+        ensures held { IsTrue (held self.old) → IsTrue (held self.new) };
 
-    /// Puts on the disk what was written.
+    /// Puts on the disk what was written. Once it has failed it fails.
     fn sync(&mut self) -> io::Result<()>
         ensures same { bytes self.new ≡ bytes self.old }
         ensures synced { OnOk result (synced self.new ≡ bytes self.old) }
-        ensures unsynced { OnErr result (synced self.new ≡ synced self.old) };
-}
-
-/// A file that whoever opened it can hold for itself.
-pub trait Held {
-    /// Holds the file until it is closed. It is an error where someone else holds it, and where it stands in the place of a
-    /// standard stream.
-    fn hold(&self) -> io::Result<()>;
-}
-
-// The descriptors below this one are those of the standard streams. A file gets one of them where a stream was closed before
-// it was opened: then what is meant for the stream would go to the file.
-const STREAMS: RawFd = 3;
-
-impl Held for File {
-    ghost use Rattle.std.specs.Prelude.{pos, ◌≤ℤ◌, OnOk};
-    ghost use Rattle.std.specs.Fd.{file_raw_fd};
-
-    fn hold(&self) -> io::Result<()>
-        ensures apart { OnOk result (pos 3 ≤ℤ file_raw_fd self.now) }
-    {
-        if self.as_raw_fd() < STREAMS {
-            return Err(io::ErrorKind::InvalidInput.into());
-        }
-        Ok(self.try_lock()?)
-    }
+        ensures unsynced { OnErr result (synced self.new ≡ synced self.old) }
+        ensures sound { OnOk result (poisoned self.old ≡ false) }
+        ensures still_sound { OnOk result (poisoned self.new ≡ false) }
+        ensures poisoned { OnErr result (poisoned self.new ≡ true) }
+        ensures held { IsTrue (held self.old) → IsTrue (held self.new) };
 }
 
 /// A file that is opened for reading and writing at its first use, and made empty where there is none. It is held from then
 /// on, so that no other program reads or writes the same journal.
 #[derive(Drop)]
-pub struct JournalFile<'a, F: Files> {
-    files: &'a F,
+pub struct JournalFile<'a, O: Opens> {
+    files: O,
     path: &'a str,
-    opened: Option<F::File>,
+    opened: Option<O::File>,
+    // A sync failed.
+    has_lost: bool,
 }
 
-impl<'a, F: Files> JournalFile<'a, F>
-where
-    F::File: Held,
-{
+impl<'a, O: Opens> JournalFile<'a, O> {
     /// The file of a path. The path `-` names none: then every use fails.
-    pub fn new(files: &'a F, path: &'a str) -> Self {
+    pub fn new(files: O, path: &'a str) -> Self
+        ensures files { files_of result ≡ files }
+        ensures path { path_of result ≡ path.now }
+        ensures unopened { opened_of result ≡ None }
+        ensures kept { has_lost result ≡ false }
+    {
         JournalFile {
             files,
             path,
             opened: None,
+            has_lost: false,
         }
     }
 
-    // Opens the file where that wasn't done yet.
-    fn file(&mut self) -> io::Result<&mut F::File> {
+    // Opens and holds the file where that wasn't done yet.
+    fn open(&mut self) -> io::Result<()>
+        ensures bytes { (file_state O.standing O.File.state self.new).bytes ≡ (file_state O.standing O.File.state self.old).bytes }
+        ensures synced { (file_state O.standing O.File.state self.new).synced ≡ (file_state O.standing O.File.state self.old).synced }
+        ensures failed { (file_state O.standing O.File.state self.new).has_failed ≡ (file_state O.standing O.File.state self.old).has_failed }
+        ensures lost { has_lost self.new ≡ has_lost self.old }
+        ensures held { IsTrue (all_held O.File.state self.old) → IsTrue (all_held O.File.state self.new) }
+    {
         if self.opened.is_none() {
-            self.opened = Some(open(self.files, self.path)?);
+            self.opened = Some(open_held(&self.files, self.path)?);
         }
+        Ok(())
+    }
+
+    // Puts on the disk what was written, unless a sync failed before.
+    fn sync_once(&mut self) -> io::Result<()>
+        ensures bytes { (file_state O.standing O.File.state self.new).bytes ≡ (file_state O.standing O.File.state self.old).bytes }
+        ensures synced { OnOk result ((file_state O.standing O.File.state self.new).synced ≡ (file_state O.standing O.File.state self.old).bytes) }
+        ensures unsynced { OnErr result ((file_state O.standing O.File.state self.new).synced ≡ (file_state O.standing O.File.state self.old).synced) }
+        ensures sound { OnOk result ((file_state O.standing O.File.state self.old).has_failed ≡ false) }
+        ensures still_sound { OnOk result ((file_state O.standing O.File.state self.new).has_failed ≡ false) }
+        ensures lost { has_lost self.new ≡ has_lost self.old }
+        ensures kept { OnOk result (has_lost self.old ≡ false) }
+        ensures held { IsTrue (all_held O.File.state self.old) → IsTrue (all_held O.File.state self.new) }
+    {
+        if self.has_lost {
+            return Err(io::ErrorKind::Other.into());
+        }
+        self.open()?;
         match &mut self.opened {
-            Some(file) => Ok(file),
+            Some(file) => sync_whole(file),
             None => Err(io::ErrorKind::NotFound.into()),
         }
     }
 }
 
-impl<'a, F: Files> Disk for JournalFile<'a, F>
-where
-    F::File: FileExt + Held,
-{
+impl<'a, O: Opens> Disk for JournalFile<'a, O> {
+    ghost bytes = { λ f. (file_state O.standing O.File.state f).bytes };
+
+    ghost synced = { λ f. (file_state O.standing O.File.state f).synced };
+
+    ghost poisoned = { λ f. has_lost f || (file_state O.standing O.File.state f).has_failed };
+
+    ghost held = { λ f. all_held O.File.state f };
+
     fn len(&mut self) -> io::Result<u64> {
-        let len = self.file()?.seek(SeekFrom::End(0))?;
-        if len >= 1 << 63 {
-            return Err(io::ErrorKind::InvalidData.into());
+        self.open()?;
+        match &mut self.opened {
+            Some(file) => measure(file),
+            None => Err(io::ErrorKind::NotFound.into()),
         }
-        Ok(len)
     }
 
     fn read(&mut self, at: u64, into: &mut [u8]) -> io::Result<()> {
-        self.file()?.read_exact_at(into, at)
+        self.open()?;
+        match &mut self.opened {
+            Some(file) => read_whole(file, at, into),
+            None => Err(io::ErrorKind::NotFound.into()),
+        }
     }
 
     fn write(&mut self, at: u64, piece: &[u8]) -> io::Result<()> {
-        self.file()?.write_all_at(piece, at)
+        self.open()?;
+        match &mut self.opened {
+            Some(file) => write_whole(file, at, piece),
+            None => Err(io::ErrorKind::NotFound.into()),
+        }
     }
 
     fn sync(&mut self) -> io::Result<()> {
-        self.file()?.sync_data()
+        let synced = self.sync_once();
+        self.has_lost |= synced.is_err();
+        synced
     }
 }
 
 // Opens a file, or makes it, and holds it.
-fn open<F: Files>(files: &F, path: &str) -> io::Result<F::File>
-where
-    F::File: Held,
+fn open_held<O: Opens>(files: &O, path: &str) -> io::Result<O::File>
+    ensures bytes { IfOk result (λ file. (O.File.state file).bytes ≡ (O.standing files.now path.now).bytes) }
+    ensures synced { IfOk result (λ file. (O.File.state file).synced ≡ (O.standing files.now path.now).synced) }
+    ensures failed { IfOk result (λ file. (O.File.state file).has_failed ≡ (O.standing files.now path.now).has_failed) }
+    ensures held { IfOk result (λ file. IsTrue (O.File.state file).is_held) }
 {
     if path == "-" {
         return Err(io::ErrorKind::NotFound.into());
     }
-    let file = OpenOptions::new()
-        .read(true)
-        .write(true)
-        .create(true)
-        .open(files, path)?;
+    let mut file = files.open(path)?;
     file.hold()?;
     Ok(file)
 }

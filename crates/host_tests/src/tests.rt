@@ -1,5 +1,6 @@
 mod disks;
 mod host;
 mod journal;
+mod lost;
 mod memory;
 mod short;

@@ -11,7 +11,7 @@ use Rattle.journal_core.specs.Layout.{IsBatch, LeadsTo, HoldsTo, Holds, frames_o
 use Rattle.journal_core.specs.Extended.{IsGrown, opened_batches}
 use Rattle.journal_core.specs.Journal.{JournalState, Represents, IsOfDisk, IsAtRest, IsSettledAt, Adds, Appends, Grown}
 use Rattle.journal_core.proofs.Images.{closed, torn_behind, written_behind, torn_gate, written_gate, grown, either_to}
-use Rattle.journal_core.proofs.Torns.{torn_same, torn_within, torn_twice}
+use Rattle.host_core.proofs.Torns.{torn_none, torn_within, torn_twice}
 
 -- a batch as it is written is one batch and the closed gate behind it
 pub stored_is : (batch : List Record) → stored_batch batch ≡ opened_batches (batch ∷ []) ++ 0 ∷ []
@@ -19,7 +19,7 @@ stored_is batch = sym (ap (λ (l : List ℕ). l ++ 0 ∷ []) (append-nil (1 ∷ 
 
 -- no batch was written yet
 pub grown_none : {capacity gate : ℕ} {records : List Record} {image : List ℕ} → HoldsTo capacity gate records image → IsGrown capacity gate records [] image image
-grown_none {gate = gate} {image = image} holds = record { next = gate; holds = holds; behind = omega arith; valid = All-nil IsBatch; torn = torn_same gate (gate - gate + 1) image }
+grown_none {gate = gate} {image = image} holds = record { next = gate; holds = holds; behind = omega arith; valid = All-nil IsBatch; torn = torn_none gate (gate - gate + 1) image }
 
 -- what an append writes behind a gate
 abbrev pub body : List Record → List ℕ

@@ -16,7 +16,7 @@ use Rattle.journal_core.proofs.Images.{room, from_gate}
 use Rattle.journal_core.proofs.OneList.{alone}
 use Rattle.journal_core.proofs.Offsets.{appended_holds}
 use Rattle.journal_core.specs.Extended.{opened_batches, IsExtended, Extends, IsGrown}
-use Rattle.journal_core.proofs.Torns.{torn_within, torn_twice}
+use Rattle.host_core.proofs.Torns.{torn_whole, torn_within, torn_twice}
 use Rattle.journal_core.proofs.Appended.{stored_is}
 
 -- a closed gate over a closed gate
@@ -129,20 +129,6 @@ pub only_disk : {T : Type 0} (result : Result T AppendError) (error : AppendErro
 only_disk result DiskFault is capacity limits room = is
 only_disk result (Full limit) is capacity limits room = absurd (room (is ∙ ap (λ (l : ℕ). Err (Full l)) (limits limit is)))
 
--- what is written stands at its offset
-written_torn : (at : ℕ) (piece disk : List ℕ) → at ≤ length disk → Torn at (length piece) disk (written at piece disk)
-written_torn at piece disk within =
-    let prefix = take at disk in
-    let n = at + length piece in
-    let len : length (prefix ++ piece) ≡ n = omega (arith, length-append prefix piece, length-take-le at disk within) in
-    record {
-      rest = piece ++ drop n disk;
-      before = append_assoc prefix piece (drop n disk);
-      more = [];
-      after = drop_at (prefix ++ piece) (drop n disk) n len ∙ sym (append-nil (drop n disk));
-      no_shorter = omega (arith, length-append (prefix ++ piece) (drop n disk), len, length-drop n disk);
-    }
-
 -- and batches that follow a batch grow the file from before it
 pub grown_behind : {capacity gate : ℕ} {records : List Record} {pending : List (List Record)} {disk image : List ℕ} (batch : List Record) → gate ≤ length disk
     → IsGrown capacity (gate + (length (frames_of batch) + 5)) records pending (written gate (stored_batch batch) disk) image → IsGrown capacity gate records pending disk image
@@ -157,6 +143,6 @@ grown_behind {gate = gate} {pending = pending} {disk = disk} batch within g =
       behind = omega (arith, g.behind);
       valid = g.valid;
       torn = torn_twice gate n
-          (torn_within gate n gate (length (stored_batch batch)) (omega arith) (omega (arith, g.behind, len, length-append (opened_batches pending) (0 ∷ []))) (written_torn gate (stored_batch batch) disk within))
+          (torn_within gate n gate (length (stored_batch batch)) (omega arith) (omega (arith, g.behind, len, length-append (opened_batches pending) (0 ∷ []))) (torn_whole gate (stored_batch batch) disk))
           (torn_within gate n after (g.next - after + size) (omega arith) (omega (arith, g.behind)) g.torn);
     }

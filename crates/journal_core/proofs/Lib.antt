@@ -1,7 +1,6 @@
 mod FrameLemmas
 pub mod Images
 pub mod OneList
-pub mod Torns
 pub mod Offsets
 pub mod Places
 pub mod Appended

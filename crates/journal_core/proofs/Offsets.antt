@@ -10,7 +10,7 @@ use Rattle.journal_core.specs.Layout.{IsBatch, HoldsTo, content, frames_of, stor
 use Rattle.journal_core.specs.Journal.{JournalState, IsOfDisk, HasBytes}
 use Rattle.journal_core.specs.Scan.{ScanState, IsScanOf}
 use Rattle.journal_core.proofs.Images.{room}
-use Rattle.journal_core.proofs.Torns.{torn_same, torn_within, torn_twice}
+use Rattle.host_core.proofs.Torns.{written_reaches, torn_none, torn_within, torn_twice}
 use Rattle.journal_core.proofs.Appended.{with_it}
 
 -- a scan of a disk knows its length
@@ -35,11 +35,6 @@ written_both gate piece disk within =
     ∙ append_assoc (take gate disk) (1 ∷ []) (drop (gate + 1) (written (gate + 1) piece disk))
     ∙ ap (λ (l : List ℕ). take gate disk ++ 1 ∷ l) (behind ∙ ap (λ (i : ℕ). piece ++ drop i disk) offset)
     ∙ sym (append_assoc (take gate disk) (1 ∷ piece) (drop (gate + length (1 ∷ piece)) disk))
-
--- what is written within a disk, or at its end, stands there
-pub written_reaches : (at : ℕ) (piece disk : List ℕ) → at ≤ length disk → at + length piece ≤ length (written at piece disk)
-written_reaches at piece disk within =
-    omega (arith, length-append (take at disk ++ piece) (drop (at + length piece) disk), length-append (take at disk) piece, length-take-le at disk within)
 
 module _ (old mid : Option (List ℕ)) (gate : ℕ) (batch : List Record) (has : HasBytes (gate + 1) old) (first : mid ≡ option_map (written (gate + 1) (content batch ++ 0 ∷ [])) old) where
   -- between the two writes the gate stands in the disk
@@ -95,4 +90,4 @@ second_within gate batch run same image bytes step =
     }
 
 pub none_within : (old : Outside) (at n : ℕ) (image bytes : List ℕ) → Stays old image bytes → Changes (Torn at n) old image bytes
-none_within old at n image bytes stays = record { before = image; was = stays.was; changed = torn_same at n image; sent = stays.sent }
+none_within old at n image bytes stays = record { before = image; was = stays.was; changed = torn_none at n image; sent = stays.sent }

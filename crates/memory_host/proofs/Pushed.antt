@@ -77,27 +77,3 @@ module _ (input sent disk start : List ℕ) (effects : List Effect) (asks : List
     no_more = λ k image bytes le left. no_more (λ image. image ≡ start) start [] effects effect k image bytes le left;
     during = λ image bytes stop. during image bytes stop.moment stop.left (cases_lt (moment_of effects) stop.moment) stop.after;
   })
-
--- behind the piece stands what stood there
-behind : (at : ℕ) (piece disk : List ℕ) → (length disk < at) ⊎ (at ≤ length disk) → drop (at + length piece) (written at piece disk) ≡ drop (at + length piece) disk
-behind at piece disk (inl past) =
-    drop_all (at + length piece) (written at piece disk) (omega (arith, length-append (take at disk ++ piece) (drop (at + length piece) disk), length-append (take at disk) piece, length-drop (at + length piece) disk, length-take at disk))
-    ∙ sym (drop_all (at + length piece) disk (omega arith))
-behind at piece disk (inr inside) =
-    drop_at (take at disk ++ piece) (drop (at + length piece) disk) (at + length piece) (omega (arith, length-take-le at disk inside, length-append (take at disk) piece))
-
--- a whole write is one of those that a stop may leave
-pub torn_whole : (at : ℕ) (piece disk : List ℕ) → Torn at (length piece) disk (written at piece disk)
-torn_whole at piece disk =
-    let rest = drop (at + length piece) disk in
-    record {
-      rest = piece ++ rest;
-      before = append_assoc (take at disk) piece rest;
-      more = [];
-      after = behind at piece disk (cases_lt (length disk) at) ∙ sym (append-nil rest);
-      no_shorter = omega (arith, length-append (take at disk ++ piece) rest, length-append (take at disk) piece, length-drop (at + length piece) disk, length-take at disk);
-    }
-
--- and so is what was there
-pub torn_none : (at n : ℕ) (disk : List ℕ) → Torn at n disk disk
-torn_none at n disk = record { rest = drop at disk; before = sym (take-append-drop at disk); more = []; after = sym (append-nil (drop (at + n) disk)); no_shorter = omega arith }

@@ -8,7 +8,8 @@ use Rattle.memory_host.specs.declared.effect.Effect.TheVariants.{Wrote, Tore, Sy
 use Rattle.host_core.specs.Outside.{Outside, Ask, Agrees, MayLeave, Elapses, Stays, Changes, Sends, IsSettled, written, Torn, Grows}
 use Rattle.memory_host.specs.Effects.{Tears, disk_after, disk_of, sent_of, may_of, may_after, read_of, now_leaves, leaves_now, moment_of, Leaves, remembered, remembered_sent, some_same}
 use Rattle.host_core.proofs.Moments.{nothing, widened}
-use Rattle.memory_host.proofs.Pushed.{pushed, torn_whole, torn_none}
+use Rattle.memory_host.proofs.Pushed.{pushed}
+use Rattle.host_core.proofs.Torns.{torn_whole, torn_none}
 
 agrees : (x bytes : List ℕ) → bytes ≡ x → Agrees (Some x) bytes
 agrees x bytes is content same = is ∙ some_same x content same

@@ -8,7 +8,8 @@ use Rattle.memory_host.specs.declared.effect.Pick.{Pick}
 use Rattle.memory_host.specs.declared.effect.Pick.TheVariants.{Old, New, Bytes}
 use Rattle.host_core.specs.Outside.{written, Torn}
 use Rattle.memory_host.specs.Effects.{disk_after, may_after, disk_of, may_of, filled, image_after, image_of}
-use Rattle.memory_host.proofs.Pushed.{disk_of-push, torn_whole, torn_none}
+use Rattle.memory_host.proofs.Pushed.{disk_of-push}
+use Rattle.host_core.proofs.Torns.{torn_whole, torn_none}
 
 -- the picked bytes in the range of a piece
 torn_filled : (pick : Pick) (at : ℕ) (piece image : List ℕ) → Torn at (length piece) image (filled pick at piece image)

@@ -1,5 +1,6 @@
 -- What is told on standard error of how a run ended.
-use Rattle.std.specs.Prelude.{ℕ, List, [], ◌∷◌, ◌++◌, Option, Some, None, codes, decimal}
+use Rattle.std.specs.Prelude.{ℕ, List, Option, Some, None, codes}
+use Rattle.host_core.specs.Streams.{with_number, with_newline}
 use Rattle.host_core.specs.declared.status.Status.{Status}
 use Rattle.host_core.specs.declared.status.Status.TheVariants.{Usage, ReadFault, SendFault, NoMemory, BadText}
 
@@ -9,13 +10,8 @@ line_of Usage = Some (codes "chart: usage: chart <symbol>")
 line_of ReadFault = Some (codes "chart: the input could not be read")
 line_of SendFault = Some (codes "chart: the output could not be written")
 line_of NoMemory = Some (codes "chart: out of memory")
-line_of (BadText line) = Some (codes "chart: line " ++ (decimal line ++ codes " is not understood"))
+line_of (BadText line) = Some (with_number (codes "chart: line ") (Some line) (codes " is not understood"))
 line_of _ = None
-
--- a line with its newline; nothing where there is none
-abbrev pub with_newline : Option (List ℕ) → List ℕ
-with_newline None = []
-with_newline (Some line) = line ++ (10 ∷ [])
 
 -- all that is told of a status
 abbrev pub told_of : Status → List ℕ

@@ -1,13 +1,15 @@
 //! What is told on standard error of how a run ended.
 
-ghost use Rattle.std.specs.Prelude.{◌≡◌, ◌∷◌, ◌++◌, [], None, OnOk, decimal};
+ghost use Rattle.std.specs.Prelude.{◌≡◌, None, option_map, OnOk, OnErr};
 ghost use Rattle.std.specs.Io.KnownBytes.{Appends};
 ghost use Rattle.std.specs.Process.{exit_status};
+ghost use Rattle.host_core.specs.Outside.{raised};
 ghost use Rattle.host_core.specs.Statuses.{code_of};
+ghost use Rattle.host_core.specs.Streams.{AppendsPart, words_of};
 ghost use Rattle.picture_core.specs.Told.{line_of, told_of};
 
-use host_core::Status;
-use std::io::{self, Write};
+use host_core::{Sink, Status, StatusLine, tell_line};
+use std::io;
 use std::process::ExitCode;
 
 /// How a process ends.
@@ -19,41 +21,34 @@ pub struct Ending {
     pub told: io::Result<()>,
 }
 
-/// Writes a line with a number between its words, and a newline.
-fn write_numbered<W: Write>(
-    writer: &mut W,
-    before: &str,
-    number: u64,
-    after: &str,
-) -> io::Result<()>
-    ensures { OnOk result (Appends (W.contents writer.old) (W.contents writer.new) ((before.now ++ (decimal number ++ after.now)) ++ (10 ∷ []))) }
-{
-    writeln!(writer, "{before}{number}{after}")
-}
-
-/// Tells a writer of a run that didn't go well.
-fn tell<W: Write>(writer: &mut W, status: Status) -> io::Result<()>
-    ensures told { OnOk result (Appends (W.contents writer.old) (W.contents writer.new) (told_of status)) }
-    ensures untouched { line_of status ≡ None → writer.new ≡ writer.old }
+/// The line that tells of a run that didn't go well.
+fn status_line(status: Status) -> Option<StatusLine>
+    ensures { option_map words_of result ≡ line_of status }
 {
     match status {
-        Status::Usage => writeln!(writer, "chart: usage: chart <symbol>"),
-        Status::ReadFault => writeln!(writer, "chart: the input could not be read"),
-        Status::SendFault => writeln!(writer, "chart: the output could not be written"),
-        Status::NoMemory => writeln!(writer, "chart: out of memory"),
-        Status::BadText { line } => {
-            write_numbered(writer, "chart: line ", line, " is not understood")
-        }
-        _ => Ok(()),
+        Status::Usage => Some(StatusLine::plain("chart: usage: chart <symbol>")),
+        Status::ReadFault => Some(StatusLine::plain("chart: the input could not be read")),
+        Status::SendFault => Some(StatusLine::plain("chart: the output could not be written")),
+        Status::NoMemory => Some(StatusLine::plain("chart: out of memory")),
+        Status::BadText { line } => Some(StatusLine {
+            before: "chart: line ",
+            number: Some(line),
+            after: " is not understood",
+        }),
+        _ => None,
     }
 }
 
-/// Tells a writer how a run ended, and answers how the process ends: by the code of the status, whatever became of the line.
-pub fn end<W: Write>(writer: &mut W, status: Status) -> Ending
+/// Tells a sink how a run ended, and answers how the process ends: by the code of the status, whatever became of the line.
+pub fn end<W: Sink>(sink: &mut W, status: Status) -> Ending
     ensures code { exit_status result.code ≡ code_of status }
-    ensures told { OnOk result.told (Appends (W.contents writer.old) (W.contents writer.new) (told_of status)) }
+    ensures told { OnOk result.told (Appends (W.contents sink.old) (W.contents sink.new) (told_of status)) }
+    ensures partly { OnErr result.told (AppendsPart (W.contents sink.old) (W.contents sink.new) (told_of status)) }
+    ensures failed { OnErr result.told (W.failures sink.new ≡ raised (W.failures sink.old)) }
+    ensures fine { OnOk result.told (W.failures sink.new ≡ W.failures sink.old) }
+    ensures untouched { line_of status ≡ None → sink.new ≡ sink.old }
 {
-    let told = tell(writer, status);
+    let told = tell_line(sink, status_line(status));
     Ending {
         code: ExitCode::from(status.code()),
         told,

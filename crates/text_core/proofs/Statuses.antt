@@ -33,6 +33,11 @@ at_a_read task (Ok s) end is = absurd (subst IsEnd is end.0)
 at_a_read task (Err fault.Read) end is = refl
 at_a_read task (Err f) end is = absurd cc
 
+at_a_want : (task : Task) (result : Result Status Fault) → IfOk result (λ s. IsEnd s × IsAnswer task s) → answer_of result ≡ NoMemory → result ≡ Err fault.Memory
+at_a_want task (Ok s) end is = absurd (subst IsEnd is end.0)
+at_a_want task (Err fault.Memory) end is = refl
+at_a_want task (Err f) end is = absurd cc
+
 answers : (task : Task) (result : Result Status Fault) → IfOk result (λ s. IsEnd s × IsAnswer task s) → result ≢ Err fault.Disk → IsAnswer task (answer_of result)
 answers task (Ok s) end unkept = end.1
 answers task (Err fault.Read) end unkept = tt
@@ -63,13 +68,13 @@ completes task (Err fault.Send) old new end unkept causes memory no_reads no_sen
 completes task (Err fault.Disk) old new end unkept causes memory no_reads no_sends = absurd (unkept refl)
 completes task (Err fault.Memory) old new end unkept causes memory no_reads no_sends = absurd (memory refl)
 
-module _ (task : Task) (kind : Kind) (most : ℕ) (old new : Outside) (result : Result Status Fault)
+module _ (unbegun : Type 0) (task : Task) (kind : Kind) (most : ℕ) (old new : Outside) (result : Result Status Fault)
     (moments : (input : List ℕ) → old.input ≡ Some input → Elapses old new (SendsPrefix old.sent (text_of task kind (units_within task most input)) old))
     (prompt : (input : List ℕ) → old.input ≡ Some input → Prompt (text_for task kind) old.sent input old.asks new.asks)
     (bytes : ReadsAtMost most old.input new.input) (keeps : OnlyExchanges old new)
     (sent_now : (image bytes : List ℕ) → new.leaves new.moment image bytes → Agrees new.sent bytes)
     (stops_now : (sent : List ℕ) → new.sent ≡ Some sent → (image : List ℕ) × MayLeave new image)
-    (end : IfOk result (λ s. IsEnd s × IsAnswer task s)) (unkept : result ≢ Err fault.Disk) (causes : Causes result old new) where
+    (end : IfOk result (λ s. IsEnd s × IsAnswer task s)) (unkept : result ≢ Err fault.Disk) (unstarved : result ≡ Err fault.Memory → unbegun) (causes : Causes result old new) where
   -- a run that returned is one that was stopped at its end
   sent_part : (input : List ℕ) → old.input ≡ Some input → SentPrefix old.sent new.sent (text_of task kind (units_within task most input))
   sent_part input is = prefix_sent old old.sent new.sent (text_of task kind (units_within task most input)) keeps.continues.sent (λ sent known.
@@ -80,7 +85,7 @@ module _ (task : Task) (kind : Kind) (most : ℕ) (old new : Outside) (result : 
 
   pub translated : ((input : List ℕ) → old.input ≡ Some input → IfOk result (λ status. (status ≡ end_of task kind most input) × (new.sent ≡ append_known old.sent (text_of task kind (units_within task most input)))))
       → ((input : List ℕ) → old.input ≡ Some input → result ≡ Err fault.Read → (count : ℕ) × (count < most) × Answered task kind old.sent input count new)
-      → Translated task kind most (answer_of result) old new
+      → Translated unbegun task kind most (answer_of result) old new
   translated exact unread = record {
     moments = moments;
     exact = λ input is. at_an_end result _ (exact input is);
@@ -92,6 +97,7 @@ module _ (task : Task) (kind : Kind) (most : ℕ) (old new : Outside) (result : 
     read_cause = reads_told task result old new end causes;
     send_cause = sends_told task result old new end causes;
     memory = memory_told task result old new end causes;
+    starved = λ is. unstarved (at_a_want task result end is);
     disk = keeps.disk;
     disk_faults = keeps.disk_faults;
     kind = answers task result end unkept;
@@ -99,13 +105,13 @@ module _ (task : Task) (kind : Kind) (most : ℕ) (old new : Outside) (result : 
   }
 
 -- where no room was taken, the host was not called
-pub nothing_translated : (task : Task) (kind : Kind) (most : ℕ) (now : Outside)
+pub nothing_translated : (unbegun : Type 0) (task : Task) (kind : Kind) (most : ℕ) (now : Outside) → unbegun
     → ((image bytes : List ℕ) → now.leaves now.moment image bytes → Agrees now.sent bytes)
     → ((sent : List ℕ) → now.sent ≡ Some sent → (image : List ℕ) × MayLeave now image)
-    → Translated task kind most NoMemory now now
-nothing_translated task kind most now sent_now stops_now =
-    translated task kind most now now (Err fault.Memory)
+    → Translated unbegun task kind most NoMemory now now
+nothing_translated unbegun task kind most now no_call sent_now stops_now =
+    translated unbegun task kind most now now (Err fault.Memory)
     (λ input is. widened (nothing now sent_now) _ (sends_none _ _))
     (λ input is. no_ask (text_for task kind) now.sent input refl)
-    (takes_none most _ _ refl) (exchanges_none now) sent_now stops_now tt (λ is. absurd cc) (no_fault now)
+    (takes_none most _ _ refl) (exchanges_none now) sent_now stops_now tt (λ is. absurd cc) (λ is. no_call) (no_fault now)
     (λ input is. tt) (λ input is failed. absurd cc)

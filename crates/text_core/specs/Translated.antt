@@ -41,8 +41,8 @@ IsAnswer task NoMemory = Unit {0}
 IsAnswer task (BadText line) = Unit {0}
 IsAnswer _ _ = ⊥
 
--- the input was translated, up to so many bytes, and the disk was not touched
-pub record Translated (task : Task) (values : Kind) (most : ℕ) (status : Status) (old new : Outside) : Type 0 where
+-- the input was translated, up to so many bytes, and the disk was not touched; what says that no call of the host was made is given
+pub record Translated (unbegun : Type 0) (task : Task) (values : Kind) (most : ℕ) (status : Status) (old new : Outside) : Type 0 where
   -- whenever it is stopped, a prefix of what is expected was sent, and the disk has an image from before
   pub moments : (input : List ℕ) → old.input ≡ Some input → Elapses old new (SendsPrefix old.sent (text_of task values (units_within task most input)) old)
   -- at an end all was sent, and the status is the one that the input gives
@@ -62,15 +62,17 @@ pub record Translated (task : Task) (values : Kind) (most : ℕ) (status : Statu
   pub read_cause : status ≡ ReadFault → Rose old.read_faults new.read_faults
   pub send_cause : status ≡ SendFault → Rose old.send_faults new.send_faults
   pub memory : status ≡ NoMemory → NoFault old new
+  -- memory is short only before the first call of the host
+  pub starved : status ≡ NoMemory → unbegun
   pub disk : new.disk ≡ old.disk
   pub disk_faults : new.disk_faults ≡ old.disk_faults
   pub kind : IsAnswer task status
   pub continues : Continues old new
 
 -- frames were printed as lines
-abbrev pub Printed : Kind → Status → Outside → Outside → Type 0
-Printed kind status old new = Translated Print kind bytes_max status old new
+abbrev pub Printed : Type 0 → Kind → Status → Outside → Outside → Type 0
+Printed unbegun kind status old new = Translated unbegun Print kind bytes_max status old new
 
 -- lines were packed as frames
-abbrev pub Packed : Kind → Status → Outside → Outside → Type 0
-Packed kind status old new = Translated Pack kind bytes_max status old new
+abbrev pub Packed : Type 0 → Kind → Status → Outside → Outside → Type 0
+Packed unbegun kind status old new = Translated unbegun Pack kind bytes_max status old new

@@ -111,6 +111,7 @@ fn translate_input<H: Host>(
     ensures keeps { OnlyExchanges (H.outside host.old) (H.outside host.new) }
     ensures causes { Causes result (H.outside host.old) (H.outside host.new) }
     ensures unkept { result ≢ Err Fault.Disk }
+    ensures unstarved { result ≢ Err Fault.Memory }
 {
     let mut read = 0;
     let mut open = true;
@@ -148,7 +149,7 @@ fn take_room(alloc: Global) -> Result<Room, NoMemory>
 
 /// Translates the input, up to its end, to so many bytes, or to its first bad unit.
 fn translate<H: Host>(alloc: Global, host: &mut H, task: Task, kind: Kind) -> Status
-    ensures translated { Translated task kind bytes_max result (H.outside host.old) (H.outside host.new) }
+    ensures translated { Translated (host.new ≡ host.old) task kind bytes_max result (H.outside host.old) (H.outside host.new) }
 {
     let Ok(mut room) = take_room(alloc) else {
         return Status::NoMemory;
@@ -167,7 +168,7 @@ fn translate<H: Host>(alloc: Global, host: &mut H, task: Task, kind: Kind) -> St
 /// input or to 1,099,511,627,776 bytes. It answers `BadText` with the number of the first frame whose body spells no
 /// value, and `Truncated` where the input ends inside a frame. The disk is not touched.
 pub fn print_stream<H: Host>(alloc: Global, host: &mut H, kind: Kind) -> Status
-    ensures printed { Printed kind result (H.outside host.old) (H.outside host.new) }
+    ensures printed { Printed (host.new ≡ host.old) kind result (H.outside host.old) (H.outside host.new) }
 {
     translate(alloc, host, Task::Print, kind)
 }
@@ -176,7 +177,7 @@ pub fn print_stream<H: Host>(alloc: Global, host: &mut H, kind: Kind) -> Status
 /// without its newline. It answers `BadText` with the number of the first line that prints no value. The disk is not
 /// touched.
 pub fn pack_stream<H: Host>(alloc: Global, host: &mut H, kind: Kind) -> Status
-    ensures packed { Packed kind result (H.outside host.old) (H.outside host.new) }
+    ensures packed { Packed (host.new ≡ host.old) kind result (H.outside host.old) (H.outside host.new) }
 {
     translate(alloc, host, Task::Pack, kind)
 }

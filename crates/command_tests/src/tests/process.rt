@@ -1,7 +1,7 @@
 // The program started over readers, writers and a real file.
 use super::fall;
-use command_core::start;
-use host_core::{Held, Status};
+use command_core::{host_of, perform};
+use host_core::{Held, Status, Stream, SystemFiles};
 use std::alloc::Global;
 use std::io::{self, Read, Write};
 use std::os::unix::fs::FileExt;
@@ -38,6 +38,21 @@ impl Write for Closed {
     }
 }
 
+/// Does what words say over streams and a real file.
+fn start<Rt: AllocGlobal + Files + Threads + Sync, R: Read + Drop, W: Write + Drop>(
+    rt: &Rt,
+    args: &[&str],
+    input: R,
+    output: W,
+) -> Status
+where
+    Rt::File: FileExt + Held,
+{
+    let (input, output) = (Stream::new(input), Stream::new(output));
+    let mut host = host_of(args, input, output, SystemFiles::new(rt));
+    perform(rt, rt.alloc(), args, &mut host, &OpenGate)
+}
+
 /// Starts the program over an input, compares how it ends, and answers what it sent.
 fn sends<Rt: Abort + AllocGlobal + Files + Threads + Sync>(
     rt: &Rt,
@@ -49,7 +64,7 @@ where
     Rt::File: FileExt + Held,
 {
     let mut sent = Vec::new(rt.alloc());
-    let status = start(rt, rt.alloc(), args, input, &mut sent, &OpenGate);
+    let status = start(rt, args, input, &mut sent);
     assert!(rt; status == want, "of {args:?}");
     Ok(sent)
 }
@@ -125,8 +140,8 @@ fn each_end_has_its_status(rt: HostRuntime) -> Result<(), Fail> {
         sends(&rt, args, input, want)?;
     }
     let replay = ["halts", "-", "replay"];
-    let unread = start(&rt, rt.alloc(), &replay, Unreadable, io::sink(), &OpenGate);
-    let unsent = start(&rt, rt.alloc(), &serve, io::empty(), Closed, &OpenGate);
+    let unread = start(&rt, &replay, Unreadable, io::sink());
+    let unsent = start(&rt, &serve, io::empty(), Closed);
     assert!(rt; [unread, unsent] == [Status::ReadFault, Status::SendFault]);
     Ok(())
 }

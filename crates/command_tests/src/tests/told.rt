@@ -1,6 +1,6 @@
 // What is told of each end.
 use command_core::{end, tell};
-use host_core::Status;
+use host_core::{Status, Stream};
 use std::test::Fail;
 
 /// What is told of some ends.
@@ -26,7 +26,7 @@ const LINES: &[(Status, &str)] = &[
 fn a_status_is_told_in_one_line_and_done_by_none(rt: HostRuntime) -> Result<(), Fail> {
     for (status, want) in LINES {
         let mut told = Vec::new(rt.alloc());
-        tell(&mut told, *status)?;
+        tell(&mut Stream::new(&mut told), *status)?;
         assert!(rt; told.as_slice() == want.as_bytes(), "of {status:?}");
     }
     Ok(())
@@ -35,7 +35,7 @@ fn a_status_is_told_in_one_line_and_done_by_none(rt: HostRuntime) -> Result<(), 
 #[test]
 fn an_end_tells_its_line(rt: HostRuntime) -> Result<(), Fail> {
     let mut told = Vec::new(rt.alloc());
-    end(&mut told, Status::NoJournal).told?;
+    end(&mut Stream::new(&mut told), Status::NoJournal).told?;
     assert!(rt; told.as_slice() == b"halts: there is no journal\n".as_slice());
     Ok(())
 }

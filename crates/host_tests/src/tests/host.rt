@@ -1,5 +1,5 @@
 use super::disks::{Step, play, refuse};
-use host_core::{Failed, Host, JournalFile, RealHost, Status, send_all};
+use host_core::{Failed, Host, JournalFile, RealHost, Status, Stream, SystemFiles, send_all};
 use std::fs;
 use std::io::{self, Read, Write};
 use std::test::Fail;
@@ -67,9 +67,9 @@ impl Write for TwoBytes {
 fn a_real_host_reads_and_sends_until_one_fails(rt: HostRuntime) {
     let mut sink = TwoBytes { taken: 0 };
     let mut host = RealHost::new(
-        OneByte { given: false },
-        &mut sink,
-        JournalFile::new(&rt, "-"),
+        Stream::new(OneByte { given: false }),
+        Stream::new(&mut sink),
+        JournalFile::new(SystemFiles::new(&rt), "-"),
     );
     let mut into = [0; 4];
     let reads = [host.read_input(&mut into), host.read_input(&mut into)];
@@ -86,7 +86,7 @@ fn a_real_host_reads_and_sends_until_one_fails(rt: HostRuntime) {
 fn a_file_keeps_each_byte_where_it_was_written(rt: HostRuntime) -> Result<(), Fail> {
     // A file of an earlier run may stand there.
     let _ = fs::remove_file(&rt, "pages.bin");
-    let mut file = JournalFile::new(&rt, "pages.bin");
+    let mut file = JournalFile::new(SystemFiles::new(&rt), "pages.bin");
     play(
         &rt,
         &mut file,
@@ -105,7 +105,7 @@ fn a_file_keeps_each_byte_where_it_was_written(rt: HostRuntime) -> Result<(), Fa
     drop(file);
     play(
         &rt,
-        &mut JournalFile::new(&rt, "pages.bin"),
+        &mut JournalFile::new(SystemFiles::new(&rt), "pages.bin"),
         &[
             Step::Len(10_000),
             Step::IsPage(4_090, 4_102),
@@ -117,9 +117,9 @@ fn a_file_keeps_each_byte_where_it_was_written(rt: HostRuntime) -> Result<(), Fa
 
 #[test]
 fn a_file_that_is_in_use_is_held(rt: HostRuntime) -> Result<(), Fail> {
-    let mut first = JournalFile::new(&rt, "held.bin");
+    let mut first = JournalFile::new(SystemFiles::new(&rt), "held.bin");
     play(&rt, &mut first, &[Step::Write(0, b"one")])?;
-    let mut second = JournalFile::new(&rt, "held.bin");
+    let mut second = JournalFile::new(SystemFiles::new(&rt), "held.bin");
     refuse(
         &rt,
         &mut second,
@@ -137,12 +137,12 @@ fn a_file_that_is_in_use_is_held(rt: HostRuntime) -> Result<(), Fail> {
 
 #[test]
 fn a_file_stays_open_from_its_first_use_on(rt: HostRuntime) -> Result<(), Fail> {
-    let mut file = JournalFile::new(&rt, "open.bin");
+    let mut file = JournalFile::new(SystemFiles::new(&rt), "open.bin");
     play(&rt, &mut file, &[Step::Write(0, b"before")])?;
     fs::rename(&rt, "open.bin", "renamed.bin")?;
     let more = [Step::Write(6, b" and after"), Step::Sync, Step::Len(16)];
     play(&rt, &mut file, &more)?;
     drop(file);
-    let mut renamed = JournalFile::new(&rt, "renamed.bin");
+    let mut renamed = JournalFile::new(SystemFiles::new(&rt), "renamed.bin");
     play(&rt, &mut renamed, &[Step::Read(0, b"before and after")])
 }

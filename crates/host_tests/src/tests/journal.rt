@@ -3,7 +3,7 @@ ghost use Rattle.memory_host.specs.Memory.{known};
 ghost use Rattle.journal_core.specs.Journal.{HasBytes};
 ghost use Rattle.journal_core.specs.Layout.{IsLimit};
 
-use host_core::{Held, Host, JournalFile, RealHost};
+use host_core::{Held, Host, JournalFile, RealHost, Stream, SystemFiles};
 use journal_core::{AppendError, Batch, FormatError, Journal, Scan, ScanError, format};
 use memory_host::{MemoryHost, Pick};
 use price_core::{Index, Price};
@@ -224,11 +224,15 @@ fn a_long_journal_is_read_in_large_pieces(rt: HostRuntime) -> Result<(), Fail> {
 fn over<'a, F: Files>(
     files: &'a F,
     path: &'a str,
-) -> RealHost<io::Empty, io::Sink, JournalFile<'a, F>>
+) -> RealHost<Stream<io::Empty>, Stream<io::Sink>, JournalFile<'a, SystemFiles<'a, F>>>
 where
     F::File: FileExt + Held,
 {
-    RealHost::new(io::empty(), io::sink(), JournalFile::new(files, path))
+    RealHost::new(
+        Stream::new(io::empty()),
+        Stream::new(io::sink()),
+        JournalFile::new(SystemFiles::new(files), path),
+    )
 }
 
 /// Makes a journal that takes 3 records, and appends a day.

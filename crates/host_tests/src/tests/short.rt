@@ -1,7 +1,7 @@
 use super::disks::Step::{Len, Read, Sync, Write};
 use super::disks::{play, refuse};
 use crate::ShortFiles;
-use host_core::JournalFile;
+use host_core::{JournalFile, SystemFiles};
 use std::fs;
 use std::test::Fail;
 
@@ -10,7 +10,7 @@ fn short_writes_and_reads_lose_nothing(rt: HostRuntime) -> Result<(), Fail> {
     // A file of an earlier run may stand there.
     let _ = fs::remove_file(&rt, "short.bin");
     let files = ShortFiles::new(&rt);
-    let mut file = JournalFile::new(&files, "short.bin");
+    let mut file = JournalFile::new(SystemFiles::new(&files), "short.bin");
     play(
         &rt,
         &mut file,

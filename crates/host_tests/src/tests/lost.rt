@@ -1,0 +1,77 @@
+// A file whose syncs fail.
+use super::disks::Step::{Len, Sync};
+use super::disks::{play, refuse};
+use host_core::{Failed, Host, JournalFile, Opens, RawFile, RealHost, Stream};
+use std::io;
+use std::test::Fail;
+
+/// A file whose first sync fails, and each later one is done, as some systems do that have dropped what was written before.
+#[derive(Drop)]
+struct LostFile {
+    has_failed: bool,
+}
+
+impl RawFile for LostFile {
+    ghost use Rattle.host_core.specs.Files.{untold};
+
+    ghost state = { λ f. untold f.has_failed };
+
+    fn length(&mut self) -> io::Result<u64> {
+        Ok(0)
+    }
+
+    fn read_at(&mut self, at: u64, into: &mut [u8]) -> io::Result<usize> {
+        let _ = (at, into);
+        Ok(0)
+    }
+
+    fn write_at(&mut self, at: u64, piece: &[u8]) -> io::Result<usize> {
+        let _ = at;
+        Ok(piece.len())
+    }
+
+    fn sync_data(&mut self) -> io::Result<()> {
+        if self.has_failed {
+            return Ok(());
+        }
+        self.has_failed = true;
+        Err(io::ErrorKind::Other.into())
+    }
+
+    fn has_failed(&self) -> bool {
+        self.has_failed
+    }
+
+    fn hold(&mut self) -> io::Result<()> {
+        Ok(())
+    }
+}
+
+/// What opens such files.
+#[derive(Drop)]
+struct LostFiles;
+
+impl Opens for LostFiles {
+    ghost use Rattle.host_core.specs.Files.{untold};
+
+    type File = LostFile;
+
+    ghost standing = { λ _ _. untold false };
+
+    fn open(&self, path: &str) -> io::Result<LostFile> {
+        let _ = path;
+        Ok(LostFile { has_failed: false })
+    }
+}
+
+#[test]
+fn a_sync_that_failed_is_not_passed_over(rt: HostRuntime) -> Result<(), Fail> {
+    let mut file = JournalFile::new(LostFiles, "lost.bin");
+    play(&rt, &mut file, &[Len(0)])?;
+    refuse(&rt, &mut file, &[Sync, Sync]);
+    let (input, output) = (Stream::new(io::empty()), Stream::new(io::sink()));
+    let mut host = RealHost::new(input, output, JournalFile::new(LostFiles, "lost.bin"));
+    let syncs = [host.disk_sync(), host.disk_sync()];
+    assert!(rt; syncs == [Err(Failed), Err(Failed)]);
+    Ok(())
+}
