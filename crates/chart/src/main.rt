@@ -18,8 +18,9 @@ fn chart_here<Rt: Env + Input + Print + AllocGlobal>(rt: &Rt) -> io::Result<Stat
     for word in &words {
         args.push(word.as_str())?;
     }
-    let mut reader = BufReader::new(alloc, rt.reader())?;
-    Ok(chart(alloc, &args, &mut reader, &mut io::writer(rt)))
+    let mut reader = Stream::new(BufReader::new(alloc, rt.reader())?);
+    let mut sink = Stream::new(io::writer(rt));
+    Ok(chart(alloc, &args, &mut reader, &mut sink))
 }
 
 fn main(rt: HostRuntime) -> ExitCode {

@@ -1,3 +1,5 @@
+//! Tests of generated days and of their summaries.
+
 mod generated;
 mod rehearsed;
 

@@ -1,3 +1,5 @@
+//! That a call of a host failed.
+
 use thiserror::Error;
 
 /// A call failed, and the count of its kind of faults rose.

@@ -24,4 +24,4 @@ pub use raw::{Held, Opens, RawFile, SystemFile, SystemFiles};
 pub use real::RealHost;
 pub use send::send_all;
 pub use status::Status;
-pub use stream::{Sink, Source, Stream, write_all};
+pub use stream::{LineSource, Sink, Source, Stream, write_all};

@@ -1,12 +1,13 @@
 //! The two ends of a process that are streams.
 
-ghost use Rattle.std.specs.Prelude.{◌≡◌, ◌<◌, ◌≤◌, ℕ, List, Option, None, length, IfOk, OnOk, OnErr};
-ghost use Rattle.std.specs.Io.KnownBytes.{ReadConsumes, WriteAppends, Appends};
+ghost use Rattle.std.specs.Prelude.{◌≡◌, ◌<◌, ◌≤◌, ◌+◌, ◌++◌, ℕ, List, Option, length, vec_len, IfOk, OnOk, OnErr, IfSome};
+ghost use Rattle.std.specs.Io.BufRead.{take_through, DropsThrough};
+ghost use Rattle.std.specs.Io.KnownBytes.{ReadConsumes, WriteAppends, Appends, IsAtEnd};
 ghost use Rattle.host_core.specs.Outside.{raised};
 ghost use Rattle.host_core.specs.Streams.{stream_of, failures_of, AppendsPart};
 
 use crate::counts::raise;
-use std::io::{self, Read, Write};
+use std::io::{self, BufRead, Read, Write};
 
 /// What gives the bytes of an input.
 pub trait Source {
@@ -20,6 +21,25 @@ pub trait Source {
     fn read(&mut self, into: &mut [u8]) -> io::Result<usize>
         ensures bound { IfOk result (λ n. n ≤ length into.new) }
         ensures bytes { ReadConsumes (remaining self.old) (remaining self.new) result into.new }
+        ensures failed { OnErr result (failures self.new ≡ raised (failures self.old)) }
+        ensures fine { OnOk result (failures self.new ≡ failures self.old) };
+}
+
+/// What gives an input line by line.
+pub trait LineSource {
+    /// The bytes that it will give from here on, where they are known.
+    ghost remaining: { Self → Option (List ℕ) };
+
+    /// How many errors it told, up to the greatest number of 64 bits.
+    ghost failures: { Self → ℕ };
+
+    /// Appends the next line with its newline to a buffer, and answers how many bytes it has: none at the end of the input. Want of
+    /// memory is an error of its own kind.
+    fn read_line(&mut self, line: &mut Vec<u8>) -> io::Result<usize>
+        ensures given { OnOk result (IfSome (remaining self.old) (λ text. line.new.items ≡ line.old.items ++ take_through 10 text)) }
+        ensures rest { OnOk result (DropsThrough (remaining self.old) (remaining self.new) 10) }
+        ensures count { IfOk result (λ n. vec_len line.new ≡ vec_len line.old + n) }
+        ensures end { IfOk result (λ n. n ≡ 0 → IsAtEnd (remaining self.old)) }
         ensures failed { OnErr result (failures self.new ≡ raised (failures self.old)) }
         ensures fine { OnOk result (failures self.new ≡ failures self.old) };
 }
@@ -93,6 +113,16 @@ impl<R: Read> Source for Stream<R> {
 
     fn read(&mut self, into: &mut [u8]) -> io::Result<usize> {
         counted(&mut self.failures, self.stream.read(into))
+    }
+}
+
+impl<R: BufRead> LineSource for Stream<R> {
+    ghost remaining = { λ s. R.remaining (stream_of s) };
+
+    ghost failures = { λ s. failures_of s };
+
+    fn read_line(&mut self, line: &mut Vec<u8>) -> io::Result<usize> {
+        counted(&mut self.failures, self.stream.read_until(b'\n', line))
     }
 }
 

@@ -1,3 +1,5 @@
+//! Files whose reads and writes move a few bytes at a time.
+
 use host_core::Held;
 use std::alloc::Allocator;
 use std::fs::{Metadata, OpenFile, OpenOptions};

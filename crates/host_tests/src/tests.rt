@@ -1,3 +1,5 @@
+//! Tests over real files and over memory.
+
 mod disks;
 mod host;
 mod journal;

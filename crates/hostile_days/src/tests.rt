@@ -1,3 +1,5 @@
+//! Tests of sessions that are stopped, that fail, and that are handed bytes that say nothing.
+
 mod damage;
 mod drawn;
 mod failing;

@@ -1,3 +1,5 @@
+//! Why a journal is not made, read or written.
+
 ghost use Rattle.std.specs.Prelude.{◌≡◌};
 ghost use Rattle.host_core.specs.declared.fault.Fault.TheVariants as faults;
 ghost use Rattle.journal_core.specs.Formatted.{scan_status};

@@ -1,3 +1,5 @@
+//! A journal that may be written.
+
 ghost use Rattle.std.specs.Prelude.{◌≡◌, ◌≤◌, ◌<◌, ◌+◌, ◌*◌, ◌∷◌, ◌++◌, [], ◌^◌, ◌↔◌, ◌≢◌, ◌⊎◌, ℕ, true, List, All, length, Some, option_map, IsTrue, IfOk, OnOk, OnErr, IfErr};
 ghost use Rattle.host_core.specs.Outside.{Outside, MayLeave, Rose, Elapses, Changes, Torn, IsSettled, written};
 ghost use Rattle.host_core.specs.Frames.{OnlyWrites};

@@ -1,3 +1,5 @@
+//! A journal that is read, batch by batch.
+
 ghost use Rattle.std.specs.Prelude.{◌≡◌, ◌≢◌, ◌⊎◌, ◌≤◌, ◌<◌, ◌+◌, ◌-◌, ◌∷◌, ◌++◌, [], ◌^◌, ◌↔◌, ℕ, true, false, List, length, take, drop, Some, Ok, Err, IsTrue, IsSome, IfSome, IfOk, OnOk, OnErr, MatchOption};
 ghost use Rattle.std.specs.Int.{w64};
 ghost use Rattle.host_core.specs.Outside.{Outside, Rose, IsSettled};

@@ -2,4 +2,3 @@ pub mod Apart
 pub mod Lines
 pub mod Order
 pub mod Ticks
-pub mod Sending

@@ -1,19 +1,20 @@
 //! Published lines, read into the messages of one symbol.
 
-ghost use Rattle.std.specs.Prelude.{◌≡◌, ◌+◌, ◌<◌, ◌⊎◌, ◌++◌, ◌^◌, ℕ, List, [], Some, Ok, true, false, length, IfOk, IfErr, OnOk, IfSome};
+ghost use Rattle.std.specs.Prelude.{◌≡◌, ◌+◌, ◌<◌, ◌⊎◌, ◌++◌, ◌^◌, ℕ, List, [], Some, Ok, true, false, length, IfOk, IfErr, OnOk, OnErr, IfSome};
 ghost use Rattle.std.specs.List.{cons_option};
 ghost use Rattle.std.specs.Io.BufRead.{strip_last, take_through, DropsThrough};
 ghost use Rattle.std.specs.Io.KnownBytes.{IsAtEnd};
 ghost use Rattle.host_core.specs.declared.status.Status.TheVariants.{ReadFault, NoMemory, BadText};
+ghost use Rattle.host_core.specs.Outside.{raised};
 ghost use Rattle.wire_out.specs.declared.message.Frame.{Frame};
 ghost use Rattle.text_core.specs.Lines.{PrintsFrame};
 ghost use Rattle.picture_core.specs.Shown.{brings};
 ghost use Rattle.picture_core.specs.Reads.{HasRead, IsShown, Stops, Hinders};
 
 use crate::shown::brings;
-use host_core::Status;
+use host_core::{LineSource, Status};
 use std::alloc::Global;
-use std::io::{self, BufRead, ErrorKind};
+use std::io::{self, ErrorKind};
 use text_core::read_frame;
 use wire_out::Stamped;
 
@@ -29,15 +30,17 @@ fn status_of(error: io::Error) -> Status
 }
 
 /// Reads a line with its newline into an empty buffer, and answers whether there was one.
-fn next_line<R: BufRead>(reader: &mut R, line: &mut Vec<u8>) -> Result<bool, Status>
+fn next_line<R: LineSource>(reader: &mut R, line: &mut Vec<u8>) -> Result<bool, Status>
     ensures given { OnOk result (IfSome (R.remaining reader.old) (λ text. line.new.items ≡ take_through 10 text)) }
     ensures rest { OnOk result (DropsThrough (R.remaining reader.old) (R.remaining reader.new) 10) }
     ensures more { result ≡ Ok true → IfSome (R.remaining reader.old) (λ text. 0 < length text) }
     ensures end { result ≡ Ok false → IfSome (R.remaining reader.old) (λ text. text ≡ []) }
     ensures fault { IfErr result (λ s. (s ≡ NoMemory) ⊎ (s ≡ ReadFault)) }
+    ensures failed { OnErr result (R.failures reader.new ≡ raised (R.failures reader.old)) }
+    ensures fine { OnOk result (R.failures reader.new ≡ R.failures reader.old) }
 {
     line.clear();
-    match reader.read_until(b'\n', line) {
+    match reader.read_line(line) {
         Ok(count) => Ok(count > 0),
         Err(error) => Err(status_of(error)),
     }
@@ -85,7 +88,7 @@ fn take_line(
 }
 
 /// Reads and takes a line behind so many others, and answers whether there was one.
-fn read_turn<R: BufRead>(
+fn read_turn<R: LineSource>(
     reader: &mut R,
     line: &mut Vec<u8>,
     before: u64,
@@ -97,6 +100,8 @@ fn read_turn<R: BufRead>(
     ensures ended { result ≡ Ok false → (text : List ℕ) → HasRead text (R.remaining reader.old) symbol before messages.old.items → IsShown text symbol messages.new.items }
     ensures stopped { IfErr result (λ s. (text : List ℕ) → HasRead text (R.remaining reader.old) symbol before messages.old.items → Stops s text) }
     ensures cause { IfErr result Hinders }
+    ensures failed { IfErr result (λ s. s ≡ ReadFault → R.failures reader.new ≡ raised (R.failures reader.old)) }
+    ensures fine { OnOk result (R.failures reader.new ≡ R.failures reader.old) }
 {
     if next_line(reader, line)? {
         take_line(line, before + 1, symbol, messages)?;
@@ -107,7 +112,7 @@ fn read_turn<R: BufRead>(
 }
 
 /// Reads all lines, and answers the messages of that symbol and of the market.
-pub fn read_messages<R: BufRead>(
+pub fn read_messages<R: LineSource>(
     alloc: Global,
     reader: &mut R,
     symbol: u16,
@@ -117,6 +122,9 @@ pub fn read_messages<R: BufRead>(
     // A line that prints none, a failed read or want of memory.
     ensures stopped { IfErr result (λ s. IfSome (R.remaining reader.old) (Stops s)) }
     ensures cause { IfErr result Hinders }
+    // A failed read is one that the reader told.
+    ensures failed { IfErr result (λ s. s ≡ ReadFault → R.failures reader.new ≡ raised (R.failures reader.old)) }
+    ensures fine { OnOk result (R.failures reader.new ≡ R.failures reader.old) }
 {
     let mut line = Vec::new(alloc);
     let mut messages = Vec::new(alloc);
@@ -125,5 +133,6 @@ pub fn read_messages<R: BufRead>(
             return Ok(messages);
         }
     }
-    Err(Status::ReadFault)
+    // So many lines have no room.
+    Err(Status::NoMemory)
 }

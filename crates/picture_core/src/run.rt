@@ -1,4 +1,4 @@
-//! The top call: what the words ask for, done over a reader and a writer.
+//! The top call: what the words ask for, done over a reader and a sink.
 
 ghost use Rattle.std.specs.Prelude.{◌≡◌, List, Option, IfOk, IfErr, IfSome, map};
 ghost use Rattle.std.specs.String.{string_bytes};
@@ -8,15 +8,16 @@ ghost use Rattle.picture_core.specs.Words.{Asks};
 ghost use Rattle.picture_core.specs.Reads.{IsShown, Stops, Hinders};
 ghost use Rattle.picture_core.specs.Pictures.{picture_of};
 ghost use Rattle.picture_core.specs.Told.{help_text};
-ghost use Rattle.picture_core.specs.Runs.{Drawn, Ran};
+ghost use Rattle.picture_core.specs.Runs.{Drawn, Ran, streams};
+ghost use Rattle.host_core.specs.declared.status.Status.TheVariants.{ReadFault};
+ghost use Rattle.host_core.specs.Outside.{raised};
 
 use crate::picture::picture;
 use crate::reading::read_messages;
 use crate::send::send;
 use crate::words::{Command, command_of};
-use host_core::Status;
+use host_core::{LineSource, Sink, Status};
 use std::alloc::Global;
-use std::io::{BufRead, Write};
 
 /// What is written where help is asked for.
 const HELP: &str =
@@ -31,10 +32,12 @@ fn help() -> &'static str
 }
 
 /// The picture of the input's messages of that symbol, once it is read whole.
-fn drawn<R: BufRead>(alloc: Global, symbol: u16, reader: &mut R) -> Result<String, Status>
+fn drawn<R: LineSource>(alloc: Global, symbol: u16, reader: &mut R) -> Result<String, Status>
     ensures stopped { IfErr result (λ s. IfSome (R.remaining reader.old) (Stops s)) }
     ensures cause { IfErr result Hinders }
     ensures exact { IfOk result (λ picture. IfSome (R.remaining reader.old) (λ text. (messages : List Stamped) × IsShown text symbol messages × (string_bytes picture ≡ picture_of symbol messages))) }
+    ensures failed { IfErr result (λ s. s ≡ ReadFault → R.failures reader.new ≡ raised (R.failures reader.old)) }
+    ensures fine { OnOk result (R.failures reader.new ≡ R.failures reader.old) }
 {
     let messages = read_messages(alloc, reader, symbol)?;
     match picture(alloc, symbol, &messages) {
@@ -43,27 +46,31 @@ fn drawn<R: BufRead>(alloc: Global, symbol: u16, reader: &mut R) -> Result<Strin
     }
 }
 
-fn draw<R: BufRead, W: Write>(alloc: Global, symbol: u16, reader: &mut R, writer: &mut W) -> Status
-    ensures { Drawn symbol (R.remaining reader.old) result (W.contents writer.old) (W.contents writer.new) }
+fn draw<R: LineSource, W: Sink>(alloc: Global, symbol: u16, reader: &mut R, sink: &mut W) -> Status
+    ensures { Drawn symbol result
+        (streams (R.remaining reader.old) (W.contents sink.old) (R.failures reader.old) (W.failures sink.old))
+        (streams (R.remaining reader.new) (W.contents sink.new) (R.failures reader.new) (W.failures sink.new)) }
 {
     match drawn(alloc, symbol, reader) {
-        Ok(text) => send(writer, text.as_str()),
+        Ok(text) => send(sink, text.as_str()),
         Err(status) => status,
     }
 }
 
 /// Does what the words of a process ask for, and answers how it ended.
-pub fn chart<R: BufRead, W: Write>(
+pub fn chart<R: LineSource, W: Sink>(
     alloc: Global,
     args: &[&str],
     reader: &mut R,
-    writer: &mut W,
+    sink: &mut W,
 ) -> Status
-    ensures { (command : Option Command) × Asks (map (λ w. w.now) args.now) command × Ran command (R.remaining reader.old) result (W.contents writer.old) (W.contents writer.new) }
+    ensures { (command : Option Command) × Asks (map (λ w. w.now) args.now) command × Ran command result
+        (streams (R.remaining reader.old) (W.contents sink.old) (R.failures reader.old) (W.failures sink.old))
+        (streams (R.remaining reader.new) (W.contents sink.new) (R.failures reader.new) (W.failures sink.new)) }
 {
     match command_of(args) {
-        Some(Command::Help) => send(writer, help()),
-        Some(Command::Draw { symbol }) => draw(alloc, symbol, reader, writer),
+        Some(Command::Help) => send(sink, help()),
+        Some(Command::Draw { symbol }) => draw(alloc, symbol, reader, sink),
         None => Status::Usage,
     }
 }

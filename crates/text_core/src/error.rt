@@ -1,3 +1,5 @@
+//! Why a text names no value.
+
 use thiserror::Error;
 
 /// A line prints no value.

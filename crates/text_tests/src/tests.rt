@@ -1,3 +1,5 @@
+//! Tests of lines: what each record and each message prints, and what a line reads as.
+
 mod bad_frames;
 mod pictures;
 mod streams;

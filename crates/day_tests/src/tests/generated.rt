@@ -1,3 +1,5 @@
+//! Days that are generated, and their first records.
+
 ghost use Rattle.gen_core.specs.Generated.{IsPlan};
 ghost use Rattle.wire_in.specs.Spelling.{InRange};
 

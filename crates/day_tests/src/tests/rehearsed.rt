@@ -1,3 +1,5 @@
+//! Summaries of generated days.
+
 use super::{CLOCKS, USUAL};
 use host_core::Status;
 use memory_host::{Call, MemoryHost};

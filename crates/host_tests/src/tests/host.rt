@@ -1,3 +1,5 @@
+//! The real host, over streams and a file.
+
 use super::disks::{Step, play, refuse};
 use host_core::{Failed, Host, JournalFile, RealHost, Status, Stream, SystemFiles, send_all};
 use std::fs;

@@ -1,3 +1,5 @@
+//! The journal, over memory and over real files.
+
 ghost use Rattle.std.specs.Prelude.{◌<◌, ◌≤◌, ◌+◌, IfOk, IsTrue, length};
 ghost use Rattle.memory_host.specs.Memory.{known};
 ghost use Rattle.journal_core.specs.Journal.{HasBytes};

@@ -1,3 +1,5 @@
+//! The host in memory: its pieces, its faults, and what a stop leaves.
+
 use Step::{
     Calls, DiskLen, DiskRead, DiskSync, DiskWrite, HasDisk, HasSent, ReadInput, Send, SendAll,
     Starved,

@@ -1,3 +1,5 @@
+//! The journal's file over files that move a few bytes at a time.
+
 use super::disks::Step::{Len, Read, Sync, Write};
 use super::disks::{play, refuse};
 use crate::ShortFiles;

@@ -1,6 +1,6 @@
 // The program over lines in memory.
 use Sign::{Begins, Ends, Has, Lacks, Nothing};
-use host_core::Status;
+use host_core::{Status, Stream};
 use picture_core::chart;
 use std::alloc::Global;
 use std::process::Abort;
@@ -29,9 +29,9 @@ fn shows(text: &str, sign: Sign) -> bool {
 
 /// How the program ends for these words and lines, and what it writes.
 fn ended(alloc: Global, words: &[&str], lines: &str) -> Result<(Status, String), Fail> {
-    let mut reader = lines.as_bytes();
+    let mut reader = Stream::new(lines.as_bytes());
     let mut written = Vec::new(alloc);
-    let end = chart(alloc, words, &mut reader, &mut written);
+    let end = chart(alloc, words, &mut reader, &mut Stream::new(&mut written));
     Ok((end, String::from_utf8(written)?))
 }
 

@@ -1,3 +1,5 @@
+//! Tests of the words of a command line.
+
 use Taken::{As, Refused, Told};
 use std::alloc::Global;
 use std::process::Abort;

@@ -1,7 +1,9 @@
-use Rattle.std.proofs.Common.{List, ℕ, IfSome}
+use Rattle.std.proofs.Common.{◌≡◌, List, ℕ, IfSome}
 use Rattle.picture_core.specs.Reads.{HasRead}
 use Rattle.picture_core.proofs.reading.read_messages.Given as goal
 
--- so many lines of the input were read
+-- so many lines of the input were read, and no read failed
 abbrev pub invariant-loop-before : goal.invariant-loop-before
-invariant-loop-before g l = IfSome (g.R.Read.remaining l.initial.reader) (λ (text : List ℕ). HasRead text (g.R.Read.remaining l.reader) l.symbol l.before l.messages.items)
+invariant-loop-before g l =
+    (IfSome (g.R.LineSource.remaining l.initial.reader) (λ (text : List ℕ). HasRead text (g.R.LineSource.remaining l.reader) l.symbol l.before l.messages.items))
+    × (g.R.LineSource.failures l.reader ≡ g.R.LineSource.failures l.initial.reader)
