@@ -1,6 +1,6 @@
 //! A text that is sent whole, however the writer takes it.
 
-ghost use Rattle.std.specs.Prelude.{◌≡◌, ◌+◌, ◌≤◌, [], Option, List, ℕ, length, take, drop, true, false, IfSome, IfNone};
+ghost use Rattle.std.specs.Prelude.{◌≡◌, ◌≤◌, [], length, take, true, IfSome, IfNone};
 ghost use Rattle.std.specs.Io.KnownBytes.{Appends};
 ghost use Rattle.picture_core.specs.Runs.{AppendsPart, IsSent};
 
