@@ -24,6 +24,7 @@ pub record Label : Type 0 where
   pub words : List ℕ
   pub end : List ℕ
 
+-- a label by its parts
 abbrev pub label : Style → ℕ → ℕ → List ℕ → List ℕ → Label
 label style x y words end = record { style = style; x = x; y = y; words = words; end = end }
 
@@ -39,26 +40,30 @@ abbrev pub ends_there : Style → Bool
 ends_there PlateBefore = true
 ends_there _ = false
 
+-- the room of a label
 abbrev pub room_of : Label → Room
 room_of l = room_of_words l.x l.y (ends_there l.style) l.words
 
+-- a label as text
 unfoldable pub label_text : Label → List ℕ
 label_text l =
     codes "<text" ⊕ class_of l.style ⊕ codes " x=\"" ⊕ decimal l.x ⊕ codes "\" y=\"" ⊕ decimal l.y ⊕ codes "\">" ⊕ l.words
     ⊕ codes "</text>" ⊕ l.end
 
--- a label is drawn where its room meets none that is taken, and takes it
+-- a label is drawn where its room meets none that is taken
 unfoldable pub drawn_label : List Room → Label → List ℕ
 drawn_label rooms l = if is_free rooms (room_of l) then label_text l else []
 
+-- and it takes its room
 unfoldable pub with_label : List Room → Label → List Room
 with_label rooms l = with_room rooms (room_of l)
 
--- labels in their order, and the rooms behind them
+-- labels in their order, each where those before it leave room
 abbrev pub drawn_labels : List Room → List Label → List ℕ
 drawn_labels rooms [] = []
 drawn_labels rooms (l ∷ labels) = drawn_label rooms l ⊕ drawn_labels (with_label rooms l) labels
 
+-- the rooms that are taken behind them
 abbrev pub with_labels : List Room → List Label → List Room
 with_labels rooms [] = rooms
 with_labels rooms (l ∷ labels) = with_labels (with_label rooms l) labels
@@ -73,10 +78,11 @@ band_lines p =
     codes "<path class=\"band\" d=\"" ⊕ line p p.heights.top ⊕ line p p.heights.bottom
     ⊕ codes "\"/><path class=\"reference\" d=\"" ⊕ line p p.heights.middle ⊕ codes "\"/>"
 
--- a price over each of the three lines, or below it, where they are wide enough
+-- a price at a point
 abbrev pub price_label : ℕ → ℕ → ℕ → Label
 price_label x y price = label Plain x y (dollars_text price) []
 
+-- the upper price over its line, the reference price over its own, the lower one below it: where the lines are 300 wide
 unfoldable pub band_labels : Place → ℕ → ℕ → ℕ → List Label
 band_labels p reference lower upper =
     if nat_lt (p.right - p.left) 300 then []
@@ -89,20 +95,22 @@ collar_lines p =
     codes "<path class=\"collar\" d=\"" ⊕ line p p.heights.top ⊕ line p p.heights.bottom
     ⊕ codes "M" ⊕ decimal p.left ⊕ codes " " ⊕ decimal p.heights.top ⊕ codes "V" ⊕ decimal p.heights.bottom ⊕ codes "\"/>"
 
--- the round's number at each of them
+-- a round by its number
 abbrev pub round_text : ℕ → List ℕ
 round_text round = codes "r" ⊕ decimal round
 
+-- over the upper line and below the lower one
 unfoldable pub collar_labels : Place → ℕ → List Label
 collar_labels p round =
     label Plain p.left (p.heights.top - 20) (round_text round) [] ∷ label Plain p.left (p.heights.bottom + 70) (round_text round) [] ∷ []
 
--- a reopening price as a cross in a circle, with the price
+-- a reopening price as a point in a circle
 unfoldable pub release_mark : Place → List ℕ
 release_mark p =
     codes "<circle class=\"release\" cx=\"" ⊕ decimal p.left ⊕ codes "\" cy=\"" ⊕ decimal p.heights.middle ⊕ codes "\" r=\"28\"/><circle cx=\""
     ⊕ decimal p.left ⊕ codes "\" cy=\"" ⊕ decimal p.heights.middle ⊕ codes "\" r=\"8\"/>"
 
+-- with the price
 unfoldable pub release_labels : Place → ℕ → List Label
 release_labels p price = label Strong (p.left + 50) (p.heights.middle + 80) (codes "reopens " ⊕ dollars_text price) [] ∷ []
 
@@ -122,20 +130,22 @@ stretch class p =
 abbrev pub begun : ℕ → List ℕ → List ℕ
 begun moment words = time_text moment ⊕ codes " " ⊕ words
 
+-- words in the lane of a bar, with a newline
 abbrev pub lane_label : Style → ℕ → Place → List ℕ → Label
 lane_label style x p words = label style x (p.heights.top + 54) words (codes "\n")
 
--- behind the bar where there is room, else before it, else over it
+-- a bar's words stand behind it where there is room, else before it, else over it
 unfoldable pub bar_label : Place → List ℕ → Label
 bar_label p words =
     if nat_le p.right 5500 then lane_label Plate (p.right + 20) p words
     else if nat_le 1600 p.left then lane_label PlateBefore (p.left - 20) p words
     else lane_label Plain (p.left + 20) p words
 
+-- the one label of a bar
 abbrev pub bar_labels : Place → ℕ → List ℕ → List Label
 bar_labels p moment words = bar_label p (begun moment words) ∷ []
 
--- a phase: limit states and pauses and halts as bars, the latter with their stretch; others draw nothing
+-- limit states, pauses and halts are bars, the last two with their stretch; other phases draw nothing
 abbrev pub phase_begin : Phase → Place → List ℕ
 phase_begin phases.LimitLow p = bar (codes "limit") p
 phase_begin phases.LimitHigh p = bar (codes "limit") p
@@ -144,6 +154,7 @@ phase_begin phases.Closing p = stretch (codes "pause") p ⊕ bar (codes "pause")
 phase_begin phases.Halted p = stretch (codes "halt") p ⊕ bar (codes "halt") p
 phase_begin _ p = []
 
+-- the words of their bars
 abbrev pub phase_labels : Phase → Place → ℕ → List Label
 phase_labels phases.LimitLow p moment = bar_labels p moment (codes "lower band")
 phase_labels phases.LimitHigh p moment = bar_labels p moment (codes "upper band")
@@ -152,11 +163,13 @@ phase_labels phases.Closing p moment = bar_labels p moment (codes "to the close"
 phase_labels phases.Halted p moment = bar_labels p moment []
 phase_labels _ p moment = []
 
+-- the words of a market-wide halt
 abbrev pub level_text : Level → List ℕ
 level_text levels.One = codes "Level 1"
 level_text levels.Two = codes "Level 2"
 level_text levels.Three = codes "Level 3"
 
+-- the words of a short sale restriction
 abbrev pub short_text : ShortKind → List ℕ
 short_text kinds.Triggered = codes "triggered"
 short_text kinds.Carried = codes "carried from the day before"
@@ -165,7 +178,7 @@ short_text kinds.Carried = codes "carried from the day before"
 unfoldable pub short_labels : Place → ShortKind → ℕ → List Label
 short_labels p kind moment = lane_label Plate (p.left + 20) p (begun moment (short_text kind)) ∷ []
 
--- what a message draws before its labels, its labels, and what it draws behind them
+-- what a message draws before its labels
 abbrev pub element_begin : Message → Place → List ℕ
 element_begin (Band s cause reference lower upper) p = codes "<g>" ⊕ band_lines p
 element_begin (Collar s round lower upper) p = codes "<g>" ⊕ collar_lines p
@@ -176,6 +189,7 @@ element_begin (Breaker level index) p = stretch (codes "breaker") p ⊕ bar (cod
 element_begin (Short s kind) p = bar (codes "short") p
 element_begin _ p = []
 
+-- the labels of a message
 abbrev pub element_labels : Message → ℕ → Place → List Label
 element_labels (Band s cause reference lower upper) moment p = band_labels p reference lower upper
 element_labels (Collar s round lower upper) moment p = collar_labels p round
@@ -186,6 +200,7 @@ element_labels (Breaker level index) moment p = bar_labels p moment (level_text 
 element_labels (Short s kind) moment p = short_labels p kind moment
 element_labels _ moment p = []
 
+-- what it draws behind them
 abbrev pub element_end : Message → List ℕ
 element_end (Band s cause reference lower upper) = codes "</g>\n"
 element_end (Collar s round lower upper) = codes "</g>\n"
@@ -196,8 +211,10 @@ element_end _ = []
 unfoldable pub drawn : List Room → List ℕ → List Label → List ℕ → List ℕ
 drawn rooms begin labels end = begin ⊕ drawn_labels rooms labels ⊕ end
 
+-- a message at its place, beside the rooms that are taken
 unfoldable pub element_text : List Room → Stamped → Place → List ℕ
 element_text rooms x p = drawn rooms (element_begin x.message p) (element_labels x.message x.moment p) (element_end x.message)
 
+-- the rooms that are taken behind it
 unfoldable pub rooms_after : List Room → Stamped → Place → List Room
 rooms_after rooms x p = with_labels rooms (element_labels x.message x.moment p)

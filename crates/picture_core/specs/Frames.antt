@@ -5,13 +5,15 @@ use Rattle.picture_core.specs.Labels.{◌⊕◌, with_digits, dollars_text}
 use Rattle.picture_core.specs.Scales.{x_of, y_of}
 use Rattle.picture_core.specs.declared.axis.Axis.{Axis}
 
--- half hours are counted from 09:00
+-- the moment of a half hour, counted from 09:00
 abbrev pub half_hour : ℕ → ℕ
 half_hour count = 32400000000000 + 1800000000000 * count
 
+-- its hour and its minute
 unfoldable pub half_hour_text : ℕ → List ℕ
 half_hour_text count = with_digits 2 (9 + count / 2) ⊕ codes ":" ⊕ with_digits 2 (count % 2 * 30)
 
+-- its tick, with its words below the prices
 unfoldable pub time_tick : ℕ → List ℕ
 time_tick count =
     codes "<path class=\"grid\" d=\"M" ⊕ decimal (x_of (half_hour count)) ⊕ codes " 300V2920\"/><text class=\"time\" x=\""
@@ -21,10 +23,11 @@ time_tick count =
 abbrev pub time_ticks : List ℕ
 time_ticks = flat_map time_tick (range_with_len 0 16)
 
--- distances of ticks: 1, 2 and 5 times the powers of ten
+-- 1, 2 and 5 times a power of ten
 abbrev pub steps_at : ℕ → List ℕ
 steps_at power = 10 ^ power ∷ 2 * 10 ^ power ∷ 5 * 10 ^ power ∷ []
 
+-- the distances of ticks
 unfoldable pub steps : List ℕ
 steps = flat_map steps_at (range_with_len 0 12)
 
@@ -32,10 +35,11 @@ steps = flat_map steps_at (range_with_len 0 12)
 abbrev pub reaches : ℕ → ℕ → Bool
 reaches range step = nat_le range (8 * step)
 
--- the first distance that does
+-- the first distance of which eight do
 unfoldable pub step_of : ℕ → ℕ
 step_of range = unwrap_or (find (reaches range) steps) (10 ^ 12)
 
+-- the tick of a price, with its words on the left
 unfoldable pub price_tick : Axis → ℕ → List ℕ
 price_tick axis price =
     codes "<path class=\"grid\" d=\"M780 " ⊕ decimal (y_of axis price) ⊕ codes "H6200\"/><text class=\"left\" x=\"770\" y=\""
@@ -49,5 +53,6 @@ tick_within axis price = if nat_lt price axis.high then price_tick axis price el
 abbrev pub ticks_by : Axis → ℕ → List ℕ
 ticks_by axis step = flat_map (λ count. tick_within axis ((axis.low / step + 1 + count) * step)) (range_with_len 0 9)
 
+-- the ticks of the price axis
 unfoldable pub price_ticks : Axis → List ℕ
 price_ticks axis = ticks_by axis (step_of (axis.high - axis.low))

@@ -12,13 +12,15 @@ use Rattle.picture_core.specs.declared.place.Place.{Place}
 use Rattle.picture_core.specs.declared.room.Room.{Room}
 use Rattle.picture_core.specs.declared.frame.TheConstants.{STYLE, HATCHINGS, NAMES}
 
--- the texts that no message changes stand in the code: how things are drawn, the hatchings, and the frame with its names
+-- how things are drawn, a text that stands in the code
 unfoldable pub style : List ℕ
 style = STYLE.now
 
+-- the hatchings, another
 unfoldable pub hatchings : List ℕ
 hatchings = HATCHINGS.now
 
+-- the frame with the names of its lanes and the legend, the third
 unfoldable pub names : List ℕ
 names = NAMES.now
 
@@ -28,6 +30,7 @@ title symbol messages =
     codes "<text class=\"title\" x=\"800\" y=\"150\">Symbol " ⊕ decimal symbol ⊕ codes " " ⊕ name_text messages
     ⊕ codes "</text><text x=\"800\" y=\"230\">price bands, pauses, halts and restrictions of the day, Eastern time</text>\n"
 
+-- the head of a picture, up to its frame
 unfoldable pub head : ℕ → List Stamped → List ℕ
 head symbol messages =
     codes "<svg xmlns=\"http://www.w3.org/2000/svg\" width=\"1280\" height=\"770\" viewBox=\"0 0 6400 3850\">\n" ⊕ style ⊕ hatchings
@@ -38,6 +41,7 @@ abbrev pub elements : List Room → List Stamped → List Place → List ℕ
 elements rooms (x ∷ messages) (place ∷ places) = element_text rooms x place ⊕ elements (rooms_after rooms x place) messages places
 elements rooms _ _ = []
 
+-- all messages over an axis of prices
 unfoldable pub elements_over : Axis → List Stamped → List ℕ
 elements_over axis messages = elements [] messages (places_of axis messages)
 
@@ -46,6 +50,7 @@ abbrev pub over_axis : Option Axis → List Stamped → List ℕ
 over_axis (Some axis) messages = price_ticks axis ⊕ elements_over axis messages
 over_axis None messages = elements_over (record { low = 0; high = 1 }) messages
 
+-- the axis is that of the least and the greatest price that is drawn
 unfoldable pub messages_text : List Stamped → List ℕ
 messages_text messages = over_axis (axis_of (lowest messages) (highest messages)) messages
 

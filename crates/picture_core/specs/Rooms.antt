@@ -3,10 +3,11 @@ use Rattle.std.specs.Prelude.{◌≡◌, ⊤, ℕ, ◌+◌, ◌-◌, ◌*◌, Bo
 use Rattle.std.specs.List.{list_all}
 use Rattle.picture_core.specs.declared.room.Room.{Room}
 
--- words from an x on, or up to it where they end there, over a line at y: a character is taken to be 30 wide
+-- words begin at their x, or end there: a character is taken to be 30 wide
 abbrev pub left_of_words : ℕ → Bool → List ℕ → ℕ
 left_of_words x ends_there words = if ends_there then x - 30 * length words else x
 
+-- the room of words over a line at y
 abbrev pub room_of_words : ℕ → ℕ → Bool → List ℕ → Room
 room_of_words x y ends_there words = record {
   left = left_of_words x ends_there words;

@@ -1,10 +1,10 @@
 //! The elements of the picture, one function for each kind of message.
 
-ghost use Rattle.std.specs.Prelude.{◌≡◌, ◌++◌, [], ◌∷◌, IfOk, OnOk, codes};
+ghost use Rattle.std.specs.Prelude.{◌≡◌, [], IfOk, OnOk, codes};
 ghost use Rattle.std.specs.String.{string_bytes};
 ghost use Rattle.picture_core.specs.Places.{IsWithin};
-ghost use Rattle.picture_core.specs.Labels.{◌⊕◌, dollars_text};
-ghost use Rattle.picture_core.specs.Elements.{label, class_of, ends_there, label_text, drawn_label, with_label, drawn_labels, with_labels, line, band_lines, price_label, band_labels, collar_lines, collar_labels, release_mark, release_labels, bar, stretch, begun, lane_label, bar_label, bar_labels, phase_begin, phase_labels, level_text, short_text, short_labels, drawn, element_text, rooms_after};
+ghost use Rattle.picture_core.specs.Labels.{◌⊕◌};
+ghost use Rattle.picture_core.specs.Elements.{label, class_of, ends_there, label_text, drawn_label, with_label, drawn_labels, with_labels, line, band_lines, price_label, band_labels, collar_lines, collar_labels, release_mark, release_labels, bar, stretch, lane_label, bar_label, bar_labels, phase_begin, phase_labels, level_text, short_text, short_labels, drawn, element_text, rooms_after};
 
 use crate::label::{price, time};
 use crate::place::Place;

@@ -13,15 +13,15 @@ use price_core::NoMemory;
 use std::alloc::Global;
 
 /// How things are drawn, told apart by lines and hatching and not by colour.
-pub const STYLE: &str =
+const STYLE: &str =
     "<style>text{font:52px sans-serif}.title{font-size:84px;font-weight:bold}.strong{font-weight:bold}.time{text-anchor:middle}.left{text-anchor:end}.nothing{font-size:84px;text-anchor:middle}.plate,.strong{paint-order:stroke;stroke:#fff;stroke-width:16px}path{fill:none;stroke:#000}.grid{stroke:#bbb;stroke-width:3}.band{stroke-width:11}.reference{stroke-width:7;stroke-dasharray:36 18}.collar{stroke-width:12;stroke-dasharray:10 12}.release{fill:#fff;stroke:#000;stroke-width:9}rect{stroke:#000;stroke-width:4}.page{fill:#fff;stroke:none}.frame{fill:none;stroke-width:5}.limit{fill:#000}.straddle{fill:url(#dots)}.pause{fill:url(#slanted)}.halt{fill:url(#crossed)}.breaker{fill:url(#upright)}.short{fill:url(#level)}.behind{opacity:.3}</style>\n";
 
 /// The hatchings.
-pub const HATCHINGS: &str =
+const HATCHINGS: &str =
     "<defs><pattern id=\"slanted\" width=\"24\" height=\"24\" patternUnits=\"userSpaceOnUse\"><path d=\"M-6 6L6 -6M0 24L24 0M18 30L30 18\" stroke-width=\"5\"/></pattern><pattern id=\"crossed\" width=\"28\" height=\"28\" patternUnits=\"userSpaceOnUse\"><path d=\"M0 28L28 0M0 0L28 28\" stroke-width=\"4\"/></pattern><pattern id=\"upright\" width=\"22\" height=\"22\" patternUnits=\"userSpaceOnUse\"><path d=\"M11 0V22\" stroke-width=\"5\"/></pattern><pattern id=\"level\" width=\"22\" height=\"22\" patternUnits=\"userSpaceOnUse\"><path d=\"M0 11H22\" stroke-width=\"3\"/></pattern><pattern id=\"dots\" width=\"22\" height=\"22\" patternUnits=\"userSpaceOnUse\"><circle cx=\"11\" cy=\"11\" r=\"6\"/></pattern></defs>\n";
 
 /// The frame with the names of its lanes and the legend.
-pub const NAMES: &str =
+const NAMES: &str =
     "<rect class=\"frame\" x=\"800\" y=\"300\" width=\"5400\" height=\"2600\"/><g class=\"left\"><text x=\"770\" y=\"250\">dollars</text><text x=\"770\" y=\"3114\">Limit state</text><text x=\"770\" y=\"3204\">Straddle state</text><text x=\"770\" y=\"3294\">Trading pause</text><text x=\"770\" y=\"3384\">Regulatory halt</text><text x=\"770\" y=\"3474\">Market-wide halt</text><text x=\"770\" y=\"3564\">Short sale restriction</text></g>\n<g><path class=\"band\" d=\"M800 3740H1000\"/><text x=\"1030\" y=\"3758\">price bands</text><path class=\"reference\" d=\"M1550 3740H1750\"/><text x=\"1780\" y=\"3758\">reference price</text><path class=\"collar\" d=\"M2400 3740H2600\"/><text x=\"2630\" y=\"3758\">auction collars of round r0, r1, ..</text><circle class=\"release\" cx=\"3760\" cy=\"3740\" r=\"28\"/><circle cx=\"3760\" cy=\"3740\" r=\"8\"/><text x=\"3820\" y=\"3758\">reopening price</text><text x=\"4400\" y=\"3758\">hatched behind the prices: no trading</text></g>\n";
 
 /// How things are drawn.
@@ -32,6 +32,7 @@ pub fn style() -> &'static str
     STYLE
 }
 
+/// The hatchings.
 #[tactic(auto, unfolding(crate::specs::Pictures::hatchings))]
 pub fn hatchings() -> &'static str
     ensures { result.now ≡ hatchings }
@@ -39,6 +40,7 @@ pub fn hatchings() -> &'static str
     HATCHINGS
 }
 
+/// The frame with the names of its lanes and the legend.
 #[tactic(auto, unfolding(crate::specs::Pictures::names))]
 pub fn names() -> &'static str
     ensures { result.now ≡ names }
@@ -129,6 +131,7 @@ const STEPS: [u64; 36] = [
     500_000_000_000,
 ];
 
+/// The distances of ticks, the shortest first.
 #[tactic(auto, unfolding(crate::specs::Frames::steps))]
 fn steps() -> &'static [u64]
     ensures { result.now ≡ steps }

@@ -1,6 +1,6 @@
 //! The rooms of labels: none is drawn over another.
 
-ghost use Rattle.std.specs.Prelude.{◌≡◌, ◌∷◌, ◌++◌, [], if◌then◌else◌, IfOk, OnOk, OnErr, length, true};
+ghost use Rattle.std.specs.Prelude.{◌≡◌, [], IfOk, OnOk, OnErr};
 ghost use Rattle.picture_core.specs.Rooms.{room_of_words, meets, is_free, with_room};
 
 use price_core::NoMemory;
