@@ -139,7 +139,7 @@ unfoldable pub bar_label : Place → List ℕ → Label
 bar_label p words =
     if nat_le p.right 5500 then lane_label Plate (p.right + 20) p words
     else if nat_le 1600 p.left then lane_label PlateBefore (p.left - 20) p words
-    else lane_label Plain (p.left + 20) p words
+    else lane_label Plate (p.left + 20) p words
 
 -- the one label of a bar
 abbrev pub bar_labels : Place → ℕ → List ℕ → List Label

@@ -320,7 +320,7 @@ fn bar_label(
         let x = place.left.saturating_sub(20);
         lane_label(alloc, rooms, Style::PlateBefore, x, place, words)
     } else {
-        lane_label(alloc, rooms, Style::Plain, place.left + 20, place, words)
+        lane_label(alloc, rooms, Style::Plate, place.left + 20, place, words)
     }
 }
 
