@@ -29,7 +29,7 @@ Generates plan false status old new = SentDay plan status old new
 -- what a command promises; what says that no call of the host was made is given
 abbrev pub Ran : Type 0 → Command → status.Status → Outside → Outside → Type 0
 Ran unbegun (Format limit) status old new = Formatted limit status old new
-Ran unbegun (Serve from workers batch bytes) status old new = Served unbegun workers from bytes status old new
+Ran unbegun (Serve from workers batch bytes) status old new = Served unbegun workers from batch bytes status old new
 Ran unbegun (Replay workers bytes) status old new = Replayed unbegun workers bytes status old new
 Ran unbegun Status status old new = Reported status old new
 Ran unbegun (Print kind) status old new = Printed kind status old new

@@ -1,8 +1,9 @@
 -- What is expected for more frames, and what is safe for them.
-use Rattle.std.proofs.Common.{◌≡◌, ℕ, ◌+◌, Bool, true, false, List, [], ◌∷◌, ◌++◌, length, take, drop, refl, sym, ap, subst, ◌∙◌, append_assoc, length-append, arith}
+use Rattle.std.proofs.Common.{◌≡◌, ℕ, ◌+◌, ◌≤◌, Bool, true, false, List, [], ◌∷◌, ◌++◌, length, take, drop, refl, sym, ap, subst, ◌∙◌, append_assoc, length-append, arith}
 use Rattle.std.specs.Prelude.{reverse}
 use Rattle.std.specs.Io.KnownBytes.{append_known}
 use Rattle.std.proofs.lemmas.List.{append-nil, take_at, take-append-drop}
+use Rattle.std.proofs.lemmas.List.Elements.{All-nil}
 use Rattle.std.proofs.Math.Nat.{add_comm}
 use Rattle.host_core.specs.Outside.{Outside, Agrees}
 use Rattle.wire_in.specs.declared.record.Record.{Record}
@@ -58,17 +59,17 @@ held_further start {prefix} begins =
     (grows.0, sym grows.1 ∙ sym (held-more start (bodies_of prefix) rest) ∙ ap (held_after start) (sym (bodies_of-append prefix begins.more) ∙ ap bodies_of begins.whole))
 
 -- no batch is being kept
-pub at_rest : {recovers : List Record → List (List Record) → List ℕ → Type 0} {start : Start} {bodies : List (List ℕ)} {records : List Record} {image : List ℕ}
-    (more : List Record) → more ++ records ≡ held_after start bodies → recovers records [] image → IsKeeping recovers start bodies records image
-at_rest more next recovered = record { pending = []; few = omega arith; more = more; next = next; recovered = recovered }
+pub at_rest : {most : ℕ} {recovers : List Record → List (List Record) → List ℕ → Type 0} {start : Start} {bodies : List (List ℕ)} {records : List Record} {image : List ℕ}
+    (more : List Record) → more ++ records ≡ held_after start bodies → recovers records [] image → IsKeeping most recovers start bodies records image
+at_rest {most = most} more next recovered = record { pending = []; few = omega arith; small = All-nil (λ (batch : List Record). length batch ≤ most); more = more; next = next; recovered = recovered }
 
 -- and what is kept of some frames is so of more
-pub keeping_further : {recovers wider : List Record → List (List Record) → List ℕ → Type 0} {start : Start} {prefix all : List ℕ} {records : List Record} {image : List ℕ} → Begins prefix all
-    → (keeping : IsKeeping recovers start (bodies_of prefix) records image) → wider records keeping.pending image → IsKeeping wider start (bodies_of all) records image
+pub keeping_further : {most : ℕ} {recovers wider : List Record → List (List Record) → List ℕ → Type 0} {start : Start} {prefix all : List ℕ} {records : List Record} {image : List ℕ} → Begins prefix all
+    → (keeping : IsKeeping most recovers start (bodies_of prefix) records image) → wider records keeping.pending image → IsKeeping most wider start (bodies_of all) records image
 keeping_further {start = start} {records = records} begins keeping recovered =
     let grows = held_further start begins in
     let next = append_assoc grows.0 keeping.more (records_of keeping.pending ++ records) ∙ ap (λ (r : List Record). grows.0 ++ r) keeping.next ∙ grows.1 in
-    record { pending = keeping.pending; few = keeping.few; more = grows.0 ++ keeping.more; next = next; recovered = recovered }
+    record { pending = keeping.pending; few = keeping.few; small = keeping.small; more = grows.0 ++ keeping.more; next = next; recovered = recovered }
 
 -- what some frames gave is recovered, and a prefix of what is expected for them was sent
 pub safe_of : (recovers : List Record → List ℕ → Type 0) (start : Start) (a b : List (List ℕ)) (image bytes since unsent : List ℕ) → recovers (held_after start a) image

@@ -1,7 +1,8 @@
 -- A session that serves: a round of it is kept and then answered, and what its stops leave.
-use Rattle.std.proofs.Common.{◌≡◌, inl, inr, ℕ, List, [], ◌∷◌, ◌++◌, refl, sym, ap, ◌∙◌, append_assoc, arith}
+use Rattle.std.proofs.Common.{◌≡◌, inl, inr, ℕ, ◌≤◌, List, [], ◌∷◌, ◌++◌, length, refl, sym, ap, ◌∙◌, append_assoc, arith}
 use Rattle.std.specs.Prelude.{reverse}
 use Rattle.std.proofs.lemmas.List.{append-nil}
+use Rattle.std.proofs.lemmas.List.Elements.{All-nil, All-cons}
 use Rattle.host_core.specs.Outside.{Outside, Agrees}
 use Rattle.host_core.specs.Frames.{OnlySends, OnlyWrites}
 use Rattle.host_core.proofs.Moments.{further}
@@ -29,9 +30,9 @@ module _ {holds : List Record → Outside → Type 0} {start : Start} {read : Li
       (rw serves.judges.answers.pending_is.known at sent) serves.judges.answers.pending_is.whole)
 
   -- or the round kept
-  pub leaves_keeps : (recovers : List Record → List (List Record) → List ℕ → Type 0) (image bytes : List ℕ)
-      → Keeps recovers (held_after start serves.answered) (records_in session.round.outcomes) now image bytes → Leaves recovers start (bodies_of read) image bytes
-  leaves_keeps recovers image bytes stop =
+  pub leaves_keeps : (most : ℕ) (recovers : List Record → List (List Record) → List ℕ → Type 0) → length (records_in session.round.outcomes) ≤ most → (image bytes : List ℕ)
+      → Keeps recovers (held_after start serves.answered) (records_in session.round.outcomes) now image bytes → Leaves most recovers start (bodies_of read) image bytes
+  leaves_keeps most recovers few image bytes stop =
       let batch = records_in session.round.outcomes in
       let more = added start serves.answered serves.judges.answers.waits.waiting in
       let whole = sym (expected-more start serves.answered serves.judges.answers.waits.waiting) ∙ ap (expected start) serves.judges.answers.waits.whole in
@@ -39,8 +40,8 @@ module _ {holds : List Record → Outside → Type 0} {start : Start} {read : Li
       elim stop.adds [
         | inl before ↦ safe_held _ image bytes (at_rest (reverse batch) kept_is before) stop.sent
         | inr (inl during) ↦ safe_held _ image bytes
-            (record { pending = batch ∷ []; few = omega arith; more = []; next = ap (λ (b : List Record). with_batch (held_after start serves.answered) b) (append-nil batch) ∙ kept_is; recovered = during }) stop.sent
-        | inr (inr after) ↦ rw append-nil at (safe_of (IsKeeping recovers start (bodies_of read)) start (bodies_of read) [] image bytes serves.judges.answers.pending_is.sent (session.outbox ++ more) (at_rest [] refl (rw kept_is at after)) (rw serves.judges.answers.pending_is.known at stop.sent) sent)
+            (record { pending = batch ∷ []; few = omega arith; small = All-cons (λ (one : List Record). length one ≤ most) batch [] few (All-nil (λ (one : List Record). length one ≤ most)); more = []; next = ap (λ (b : List Record). with_batch (held_after start serves.answered) b) (append-nil batch) ∙ kept_is; recovered = during }) stop.sent
+        | inr (inr after) ↦ rw append-nil at (safe_of (IsKeeping most recovers start (bodies_of read)) start (bodies_of read) [] image bytes serves.judges.answers.pending_is.sent (session.outbox ++ more) (at_rest [] refl (rw kept_is at after)) (rw serves.judges.answers.pending_is.known at stop.sent) sent)
       ]
 
 -- what is left alone by a keep, and by answers

@@ -36,9 +36,9 @@ module _ {holds : List Record → Outside → Type 0} {start : Start} {input : L
   answered_by new same sent still = record { input_left = same ∙ reads.input_left; there = reads.there; sent = sent; held = still _ held_all }
 
 -- A session since it began: what it has read, its run, when it asked, and once it is closed all of it answered.
-pub record Polls (holds : List Record → Outside → Type 0) (recovers later : List Record → List (List Record) → List ℕ → Type 0) (start : Start) (input : List ℕ) (most read : ℕ) (on : Bool) (session : Session) (old now : Outside) : Type 0 where
+pub record Polls (at_once : ℕ) (holds : List Record → Outside → Type 0) (recovers later : List Record → List (List Record) → List ℕ → Type 0) (start : Start) (input : List ℕ) (most read : ℕ) (on : Bool) (session : Session) (old now : Outside) : Type 0 where
   pub reads : Reads holds start input read session now
-  pub runs : Runs {T = Unit {0}} holds recovers later start (take read input) (take most input) (Ok tt) session old now
+  pub runs : Runs {T = Unit {0}} at_once holds recovers later start (take read input) (take most input) (Ok tt) session old now
   pub prompt : Prompt start input old.asks now.asks
   pub end : on ≡ false → ((read ≡ length input) ⊎ (read ≡ most)) × Answered holds start input read now
 

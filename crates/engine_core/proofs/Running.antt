@@ -18,9 +18,9 @@ use Rattle.engine_core.proofs.Reading.{held_all}
 use Rattle.engine_core.proofs.Unwritten.{idle, still_nothing, none_before}
 
 -- no time has passed
-pub idles : {holds : List Record → Outside → Type 0} {start : Start} {read : List ℕ} {session : Session} {now : Outside} (serves : Serves holds start read session now) (recovers : List Record → List (List Record) → List ℕ → Type 0) {all : List ℕ}
+pub idles : {most : ℕ} {holds : List Record → Outside → Type 0} {start : Start} {read : List ℕ} {session : Session} {now : Outside} (serves : Serves holds start read session now) (recovers : List Record → List (List Record) → List ℕ → Type 0) {all : List ℕ}
     → Begins read all → ((image bytes : List ℕ) → now.leaves now.moment image bytes → Agrees now.sent bytes) → ((records : List Record) (image : List ℕ) → holds records now → MayLeave now image → recovers records [] image)
-    → Runs {T = Unit {0}} holds recovers recovers start read all (Ok tt) session now now
+    → Runs {T = Unit {0}} most holds recovers recovers start read all (Ok tt) session now now
 idles {start = start} {now = now} serves recovers begins sent_now left = record {
   serves = serves;
   before = λ records pending image recovered. recovered;
@@ -31,14 +31,14 @@ idles {start = start} {now = now} serves recovers begins sent_now left = record 
 }
 
 -- a run, and then one over the first bytes
-pub leaves_on : {recovers later : List Record → List (List Record) → List ℕ → Type 0} {start : Start} {prefix all : List ℕ} → Begins prefix all
+pub leaves_on : {most : ℕ} {recovers later : List Record → List (List Record) → List ℕ → Type 0} {start : Start} {prefix all : List ℕ} → Begins prefix all
     → ((records : List Record) (pending : List (List Record)) (image : List ℕ) → later records pending image → recovers records pending image)
-    → {old mid new : Outside} → Elapses old mid (Leaves recovers start (bodies_of all)) → Elapses mid new (Leaves later start (bodies_of prefix)) → Elapses old new (Leaves recovers start (bodies_of all))
+    → {old mid new : Outside} → Elapses old mid (Leaves most recovers start (bodies_of all)) → Elapses mid new (Leaves most later start (bodies_of prefix)) → Elapses old new (Leaves most recovers start (bodies_of all))
 leaves_on {start = start} begins before first second =
     goes_on first second (safe_further _ start begins _ (λ records image keeping. keeping_further begins keeping (before records keeping.pending image keeping.recovered)))
 
-pub runs_on : {T U : Type 0} {x : U} {result : Result T Fault} {holds keeps : List Record → Outside → Type 0} {recovers later last : List Record → List (List Record) → List ℕ → Type 0} {start : Start} {read prefix all : List ℕ} {session next : Session} {old mid new : Outside}
-    → Begins prefix all → Runs holds recovers later start read all (Ok x) session old mid → Runs keeps later last start prefix prefix result next mid new → Runs keeps recovers last start prefix all result next old new
+pub runs_on : {T U : Type 0} {most : ℕ} {x : U} {result : Result T Fault} {holds keeps : List Record → Outside → Type 0} {recovers later last : List Record → List (List Record) → List ℕ → Type 0} {start : Start} {read prefix all : List ℕ} {session next : Session} {old mid new : Outside}
+    → Begins prefix all → Runs most holds recovers later start read all (Ok x) session old mid → Runs most keeps later last start prefix prefix result next mid new → Runs most keeps recovers last start prefix all result next old new
 runs_on {result = result} {start = start} {prefix = prefix} begins first second = record {
   serves = second.serves;
   before = on_ok result second.before (λ before records pending image recovered. first.before records pending image (before records pending image recovered));
@@ -61,6 +61,6 @@ runs_on {result = result} {start = start} {prefix = prefix} begins first second 
 -- all that waits is sent
 module _ {holds : List Record → Outside → Type 0} {start : Start} {input : List ℕ} {count : ℕ} {session : Session} {old : Outside}
     (reads : Reads holds start input count session old) (empty : session.round.outcomes ≡ []) where
-  pub leaves_sent : (recovers : List Record → List (List Record) → List ℕ → Type 0) → ((records : List Record) (image : List ℕ) → holds records old → MayLeave old image → recovers records [] image) → {new : Outside}
-      → Elapses old new (SendsPrefix start.sent (expected start (bodies_of (take count input))) old) → Elapses old new (Leaves recovers start (bodies_of (take count input)))
+  pub leaves_sent : {most : ℕ} (recovers : List Record → List (List Record) → List ℕ → Type 0) → ((records : List Record) (image : List ℕ) → holds records old → MayLeave old image → recovers records [] image) → {new : Outside}
+      → Elapses old new (SendsPrefix start.sent (expected start (bodies_of (take count input))) old) → Elapses old new (Leaves most recovers start (bodies_of (take count input)))
   leaves_sent recovers left run = widened run _ (λ image bytes stop. safe_sends _ start (bodies_of (take count input)) old image bytes (at_rest [] refl (left _ image (held_all reads empty) stop.was)) stop)

@@ -6,6 +6,7 @@ use Rattle.host_core.specs.Outside.{Outside, Agrees, Elapses, Continues}
 use Rattle.wire_in.specs.declared.record.Record.{Record}
 use Rattle.wire_in.specs.Cutting.{pending, bodies_of, rest_of}
 use Rattle.journal_core.specs.Layout.{records_of}
+use Rattle.journal_core.specs.Extended.{HaveAtMost}
 use Rattle.journal_core.specs.Journal.{Adds}
 use Rattle.market_core.specs.MarketState.{most_messages}
 use Rattle.engine_core.specs.declared.engine.Engine.{Engine}
@@ -55,18 +56,19 @@ pub record Keeps (recovers : List Record → List (List Record) → List ℕ →
   pub adds : Adds (λ held pending. recovers held pending image) records batch
   pub sent : Agrees old.sent bytes
 
--- The image recovers these records while one batch at most is being kept, whose records are the next that the frames of these
--- bodies give.
-pub record IsKeeping (recovers : List Record → List (List Record) → List ℕ → Type 0) (start : Start) (bodies : List (List ℕ)) (records : List Record) (image : List ℕ) : Type 0 where
+-- The image recovers these records while one batch at most is being kept, of at most so many records, which are the next that the
+-- frames of these bodies give.
+pub record IsKeeping (most : ℕ) (recovers : List Record → List (List Record) → List ℕ → Type 0) (start : Start) (bodies : List (List ℕ)) (records : List Record) (image : List ℕ) : Type 0 where
   pub pending : List (List Record)
   pub few : length pending ≤ 1
+  pub small : HaveAtMost most pending
   pub more : List Record
   pub next : more ++ (records_of pending ++ records) ≡ held_after start bodies
   pub recovered : recovers records pending image
 
 -- what a stop leaves is safe, and of the frames behind those whose records it recovers it has at most the next batch in part
-abbrev pub Leaves : (recovers : List Record → List (List Record) → List ℕ → Type 0) (start : Start) (bodies : List (List ℕ)) → List ℕ → List ℕ → Type 0
-Leaves recovers start bodies = IsSafe (IsKeeping recovers start bodies) start bodies
+abbrev pub Leaves : (most : ℕ) (recovers : List Record → List (List Record) → List ℕ → Type 0) (start : Start) (bodies : List (List ℕ)) → List ℕ → List ℕ → Type 0
+Leaves most recovers start bodies = IsSafe (IsKeeping most recovers start bodies) start bodies
 
 -- the input is not read, and to the disk that alone is done which may be
 pub record OnlyAnswers (touches : Outside → Outside → Type 0) (old new : Outside) : Type 0 where
@@ -77,11 +79,11 @@ pub record OnlyAnswers (touches : Outside → Outside → Type 0) (old new : Out
   pub to_disk : touches old new
 
 -- A run of a session. Where it goes on, these bytes are served, and what recovers records then has recovered them before. Of all
--- bytes, its stops leave what is safe for them, it writes nothing where no record of them is accepted, and memory may have been
--- short at one of their frames.
-pub record Runs {T : Type 0} (holds : List Record → Outside → Type 0) (recovers later : List Record → List (List Record) → List ℕ → Type 0) (start : Start) (read all : List ℕ) (result : Result T Fault) (session : Session) (old new : Outside) : Type 0 where
+-- bytes, its stops leave what is safe for them, with at most so many records in the batch that is being kept, it writes nothing
+-- where no record of them is accepted, and memory may have been short at one of their frames.
+pub record Runs {T : Type 0} (most : ℕ) (holds : List Record → Outside → Type 0) (recovers later : List Record → List (List Record) → List ℕ → Type 0) (start : Start) (read all : List ℕ) (result : Result T Fault) (session : Session) (old new : Outside) : Type 0 where
   pub serves : OnOk result (Serves holds start read session new)
   pub before : OnOk result ((records : List Record) (pending : List (List Record)) (image : List ℕ) → later records pending image → recovers records pending image)
-  pub moments : Elapses old new (Leaves recovers start (bodies_of all))
+  pub moments : Elapses old new (Leaves most recovers start (bodies_of all))
   pub nothing : AcceptsNone start (bodies_of all) → WritesNothing old new
   pub starved : result ≡ Err Memory → Starved start (bodies_of all) new

@@ -59,7 +59,7 @@ pub fn serve_input<Rt: Threads + Sync, K: Keeper, H: Host, G: Gate>(
     ensures unread { (start : Start) (input : List ℕ) → start.acknowledges ≡ K.acknowledges → Reads (K.holds keeper.old) start input 0 session.old (H.outside host.old)
         → result ≡ Err Fault.Read → (count : ℕ) × (count < most) × Answered (K.holds keeper.new) start input count (H.outside host.new) }
     ensures moments { (start : Start) (input : List ℕ) → start.acknowledges ≡ K.acknowledges → Reads (K.holds keeper.old) start input 0 session.old (H.outside host.old)
-        → Elapses (H.outside host.old) (H.outside host.new) (Leaves (K.recovers keeper.old (H.outside host.old)) start (bodies_of (take most input))) }
+        → Elapses (H.outside host.old) (H.outside host.new) (Leaves session.old.round.most (K.recovers keeper.old (H.outside host.old)) start (bodies_of (take most input))) }
     ensures nothing { (start : Start) (input : List ℕ) → start.acknowledges ≡ K.acknowledges → Reads (K.holds keeper.old) start input 0 session.old (H.outside host.old)
         → AcceptsNone start (bodies_of (take most input)) → WritesNothing (H.outside host.old) (H.outside host.new) }
     ensures prompt { (start : Start) (input : List ℕ) → start.acknowledges ≡ K.acknowledges → Reads (K.holds keeper.old) start input 0 session.old (H.outside host.old)
@@ -67,7 +67,7 @@ pub fn serve_input<Rt: Threads + Sync, K: Keeper, H: Host, G: Gate>(
     ensures starved { (start : Start) (input : List ℕ) → start.acknowledges ≡ K.acknowledges → Reads (K.holds keeper.old) start input 0 session.old (H.outside host.old)
         → result ≡ Err Fault.Memory → Starved start (bodies_of (take most input)) (H.outside host.new) }
     ensures bytes { ReadsAtMost most (H.outside host.old).input (H.outside host.new).input }
-    ensures touches { K.touches (H.outside host.old) (H.outside host.new) }
+    ensures touches { K.touches session.old.round.most (H.outside host.old) (H.outside host.new) }
     ensures continues { Continues (H.outside host.old) (H.outside host.new) }
     ensures causes { Causes result (H.outside host.old) (H.outside host.new) }
     ensures unkept { result ≡ Err Fault.Disk → K.fails }

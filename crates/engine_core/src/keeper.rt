@@ -32,8 +32,8 @@ pub trait Keeper {
     /// A keep may fail for the disk.
     ghost fails: { Type 0 };
 
-    /// What it may do to the disk.
-    ghost touches: { Outside → Outside → Type 0 };
+    /// What it may do to the disk, where it keeps at most so many records at once.
+    ghost touches: { ℕ → Outside → Outside → Type 0 };
 
     /// What is held stays held while nothing is written.
     ghost still_held: { (keeper : Self) (records : List Record) (old new : Outside) → holds keeper records old
@@ -50,10 +50,13 @@ pub trait Keeper {
     ghost room_for_fewer: { (keeper : Self) (known : Option (List ℕ)) (fewer more : ℕ) → fewer ≤ more → has_room keeper known more → has_room keeper known fewer };
 
     /// Calls that don't write leave the disk alone.
-    ghost untouched: { (old new : Outside) → new.disk ≡ old.disk → new.disk_faults ≡ old.disk_faults → touches old new };
+    ghost untouched: { (most : ℕ) (old new : Outside) → new.disk ≡ old.disk → new.disk_faults ≡ old.disk_faults → touches most old new };
 
     /// What two runs do to the disk, one does after the other.
-    ghost touches_both: { (old mid new : Outside) → touches old mid → touches mid new → touches old new };
+    ghost touches_both: { (most : ℕ) (old mid new : Outside) → touches most old mid → touches most mid new → touches most old new };
+
+    /// What is done where fewer records are kept at once may be done where more are.
+    ghost touches_more: { (fewer more : ℕ) (old new : Outside) → fewer ≤ more → touches fewer old new → touches more old new };
 
     /// Whether accepted records are acknowledged once they are kept and evaluated.
     fn acknowledges(&self) -> bool
@@ -73,7 +76,7 @@ pub trait Keeper {
             → recovers self.old (H.outside host.old) records pending image) }
         ensures room { OnOk result ((more : ℕ) → has_room self.old (H.outside host.old).disk (length batch.now + more)
             → has_room self.new (H.outside host.new).disk more) }
-        ensures touches { touches (H.outside host.old) (H.outside host.new) }
+        ensures touches { touches (length batch.now) (H.outside host.old) (H.outside host.new) }
         ensures keeps { OnlyWrites (H.outside host.old) (H.outside host.new) }
         ensures causes { Causes result (H.outside host.old) (H.outside host.new) }
         ensures unread { result ≢ Err Fault.Read }

@@ -224,7 +224,8 @@ fn keep_round<K: Keeper, H: Host>(
     ensures room { OnOk result ((more : ℕ) → K.has_room keeper.old (H.outside host.old).disk (length (records_in session.now.round.outcomes) + more)
         → K.has_room keeper.new (H.outside host.new).disk more) }
     ensures nothing { records_in session.now.round.outcomes ≡ [] → WritesNothing (H.outside host.old) (H.outside host.new) }
-    ensures touches { K.touches (H.outside host.old) (H.outside host.new) }
+    ensures few { length (records_in session.now.round.outcomes) ≤ session.now.round.most }
+    ensures touches { K.touches session.now.round.most (H.outside host.old) (H.outside host.new) }
     ensures keeps { OnlyWrites (H.outside host.old) (H.outside host.new) }
     ensures causes { Causes result (H.outside host.old) (H.outside host.new) }
     ensures unread { result ≢ Err Fault.Read }
@@ -249,11 +250,12 @@ fn settle<Rt: Threads + Sync, K: Keeper, H: Host, G: Gate>(
     requires ready { IsReady (K.has_room keeper.old (H.outside host.old).disk) K.most session.old }
     requires few { session.old.answered < 2 ^ 42 }
     ensures runs { (start : Start) (read : List ℕ) → start.acknowledges ≡ K.acknowledges → Serves (K.holds keeper.old) start read session.old (H.outside host.old)
-        → Runs (K.holds keeper.new) (K.recovers keeper.old (H.outside host.old)) (K.recovers keeper.new (H.outside host.new)) start read read result session.new (H.outside host.old) (H.outside host.new) }
+        → Runs session.old.round.most (K.holds keeper.new) (K.recovers keeper.old (H.outside host.old)) (K.recovers keeper.new (H.outside host.new)) start read read result session.new (H.outside host.old) (H.outside host.new) }
     ensures empty { OnOk result (session.new.round.outcomes ≡ []) }
+    ensures most { OnOk result (session.new.round.most ≡ session.old.round.most) }
     ensures ready { OnOk result (IsReady (K.has_room keeper.new (H.outside host.new).disk) K.most session.new) }
     ensures answered { OnOk result (session.new.answered ≡ session.old.answered + length session.old.round.outcomes) }
-    ensures keeps { OnlyAnswers K.touches (H.outside host.old) (H.outside host.new) }
+    ensures keeps { OnlyAnswers (K.touches session.old.round.most) (H.outside host.old) (H.outside host.new) }
     ensures causes { Causes result (H.outside host.old) (H.outside host.new) }
     ensures unread { result ≢ Err Fault.Read }
     ensures unkept { result ≡ Err Fault.Disk → K.fails }
@@ -345,12 +347,13 @@ pub fn feed<Rt: Threads + Sync, K: Keeper, H: Host, G: Gate>(
     requires ready { IsReady (K.has_room keeper.old (H.outside host.old).disk) K.most session.old }
     requires few { session.old.answered + length piece.now < 2 ^ 42 }
     ensures runs { (start : Start) (read : List ℕ) → start.acknowledges ≡ K.acknowledges → Serves (K.holds keeper.old) start read session.old (H.outside host.old)
-        → Runs (K.holds keeper.new) (K.recovers keeper.old (H.outside host.old)) (K.recovers keeper.new (H.outside host.new)) start (read ++ piece.now) (read ++ piece.now) result session.new (H.outside host.old) (H.outside host.new) }
+        → Runs session.old.round.most (K.holds keeper.new) (K.recovers keeper.old (H.outside host.old)) (K.recovers keeper.new (H.outside host.new)) start (read ++ piece.now) (read ++ piece.now) result session.new (H.outside host.old) (H.outside host.new) }
     ensures still { length piece.now ≡ 0 → OnOk result ((H.outside host.new).sent ≡ (H.outside host.old).sent) }
     ensures empty { OnOk result (session.new.round.outcomes ≡ []) }
+    ensures most { OnOk result (session.new.round.most ≡ session.old.round.most) }
     ensures ready { OnOk result (IsReady (K.has_room keeper.new (H.outside host.new).disk) K.most session.new) }
     ensures few { OnOk result (session.new.answered ≤ session.old.answered + length piece.now) }
-    ensures keeps { OnlyAnswers K.touches (H.outside host.old) (H.outside host.new) }
+    ensures keeps { OnlyAnswers (K.touches session.old.round.most) (H.outside host.old) (H.outside host.new) }
     ensures causes { Causes result (H.outside host.old) (H.outside host.new) }
     ensures unread { result ≢ Err Fault.Read }
     ensures unkept { result ≡ Err Fault.Disk → K.fails }

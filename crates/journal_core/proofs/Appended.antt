@@ -8,7 +8,7 @@ use Rattle.host_core.proofs.Moments.{ended}
 use Rattle.host_core.proofs.Known.{mapped}
 use Rattle.wire_in.specs.declared.record.Record.{Record}
 use Rattle.journal_core.specs.Layout.{IsBatch, LeadsTo, HoldsTo, Holds, frames_of, content, stored_batch, with_batch}
-use Rattle.journal_core.specs.Extended.{IsGrown, opened_batches}
+use Rattle.journal_core.specs.Extended.{HaveAtMost, IsGrown, opened_batches}
 use Rattle.journal_core.specs.Journal.{JournalState, Represents, IsOfDisk, IsAtRest, IsSettledAt, Adds, Appends, Grown}
 use Rattle.journal_core.proofs.Images.{closed, torn_behind, written_behind, torn_gate, written_gate, grown, either_to}
 use Rattle.journal_core.proofs.Torns.{torn_same, torn_within, torn_twice}
@@ -18,8 +18,9 @@ pub stored_is : (batch : List Record) → stored_batch batch ≡ opened_batches 
 stored_is batch = sym (ap (λ (l : List ℕ). l ++ 0 ∷ []) (append-nil (1 ∷ content batch)))
 
 -- no batch was written yet
-pub grown_none : {capacity gate : ℕ} {records : List Record} {image : List ℕ} → HoldsTo capacity gate records image → IsGrown capacity gate records [] image image
-grown_none {gate = gate} {image = image} holds = record { next = gate; holds = holds; behind = omega arith; valid = All-nil IsBatch; torn = torn_same gate (gate - gate + 1) image }
+pub grown_none : {capacity gate most : ℕ} {records : List Record} {image : List ℕ} → HoldsTo capacity gate records image → IsGrown capacity gate most records [] image image
+grown_none {gate = gate} {most = most} {image = image} holds =
+    record { next = gate; holds = holds; behind = omega arith; valid = All-nil IsBatch; few = All-nil (λ (batch : List Record). length batch ≤ most); torn = torn_same gate (gate - gate + 1) image }
 
 -- what an append writes behind a gate
 abbrev pub body : List Record → List ℕ
@@ -101,13 +102,13 @@ adds_by more (inr (inr all)) = inr (inr (more _ _ all))
 
 -- what is held up to a gate is held
 some_gate : {capacity gate : ℕ} {records : List Record} (batch : List Record) {before image : List ℕ}
-    → Adds (λ held pending. IsGrown capacity gate held pending before image) records batch → Holds image capacity records ⊎ Holds image capacity (with_batch records batch)
+    → Adds (λ held pending. IsGrown capacity gate (length batch) held pending before image) records batch → Holds image capacity records ⊎ Holds image capacity (with_batch records batch)
 some_gate batch (inl same) = inl (record { gate = same.next; held = same.holds })
 some_gate batch (inr (inl part)) = inl (record { gate = part.next; held = part.holds })
 some_gate batch (inr (inr more)) = inr (record { gate = more.next; held = more.holds })
 
 appends : {capacity gate : ℕ} {records batch : List Record} {old : Outside} {image bytes : List ℕ} (before : List ℕ) → MayLeave old before
-    → Adds (λ held pending. IsGrown capacity gate held pending before image) records batch → Agrees old.sent bytes → Appends capacity gate records batch old image bytes
+    → Adds (λ held pending. IsGrown capacity gate (length batch) held pending before image) records batch → Agrees old.sent bytes → Appends capacity gate records batch old image bytes
 appends {batch = batch} before was grows sent = record { holds = some_gate batch grows; before = before; was = was; grown = grows; sent = sent }
 
 pub before_steps : (old : Outside) (capacity gate : ℕ) (records batch : List Record) → IsSettledAt capacity gate records old → (image bytes : List ℕ) → Stays old image bytes → Appends capacity gate records batch old image bytes
@@ -121,6 +122,10 @@ module _ (old : Outside) (capacity gate : ℕ) (records batch : List Record) (va
   pending : All IsBatch (batch ∷ [])
   pending = All-cons IsBatch batch [] valid (All-nil IsBatch)
 
+  -- it is the batch itself that is pending
+  itself : HaveAtMost (length batch) (batch ∷ [])
+  itself = All-cons (λ (one : List Record). length one ≤ length batch) batch [] (omega arith) (All-nil (λ (one : List Record). length one ≤ length batch))
+
   offset : (n : ℕ) → n + length (opened_batches (batch ∷ []) ++ 0 ∷ []) ≡ n + length (stored_batch batch)
   offset n = ap (λ (l : List ℕ). n + length l) (sym (stored_is batch))
 
@@ -132,6 +137,7 @@ module _ (old : Outside) (capacity gate : ℕ) (records batch : List Record) (va
         holds = closed before.same (torn_behind before.leads (length (body batch)) image step.changed);
         behind = omega arith;
         valid = pending;
+        few = itself;
         torn = torn_within gate (gate - gate + length (opened_batches (batch ∷ []) ++ 0 ∷ [])) (gate + 1) (length (body batch)) (omega arith) (omega (arith, offset 0)) step.changed;
       }))) step.sent
 
@@ -160,12 +166,13 @@ module _ (old : Outside) (capacity gate : ℕ) (records batch : List Record) (va
             torn_twice gate n (torn_within gate n (gate + 1) (length (body batch)) (omega arith) (omega (arith, le)) at_end.changed) (torn_within gate n gate 1 (omega arith) (omega (arith, le)) step.changed)
 
         by : HoldsTo capacity gate records image ⊎ HoldsTo capacity (gate + (length (frames_of batch) + 5)) (with_batch records batch) image
-            → Adds (λ held pending. IsGrown capacity gate held pending at_end.before image) records batch
+            → Adds (λ held pending. IsGrown capacity gate (length batch) held pending at_end.before image) records batch
         by (inl holds) = inr (inl (record {
           next = gate;
           holds = holds;
           behind = omega arith;
           valid = pending;
+          few = itself;
           torn = within (gate - gate + length (opened_batches (batch ∷ []) ++ 0 ∷ [])) (omega (arith, offset 0));
         }))
         by (inr holds) = inr (inr (record {
@@ -173,5 +180,6 @@ module _ (old : Outside) (capacity gate : ℕ) (records batch : List Record) (va
           holds = holds;
           behind = omega arith;
           valid = All-nil IsBatch;
+          few = All-nil (λ (one : List Record). length one ≤ length batch);
           torn = within (next_gate gate batch - gate + 1) (omega (arith, length-append (content batch) (0 ∷ [])));
         }))

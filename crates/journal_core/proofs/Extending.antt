@@ -1,5 +1,5 @@
 -- The file of a journal, batch by batch.
-use Rattle.std.proofs.Common.{◌≡◌, ◌≢◌, ℕ, suc, ◌+◌, ◌-◌, ◌≤◌, List, [], ◌∷◌, ◌++◌, length, take, drop, sym, ap, subst, ◌∙◌, arith, append_assoc, append-nil, length-append, length-take-le, length-drop, take_at, drop_at, take-append-drop, drop-drop}
+use Rattle.std.proofs.Common.{◌≡◌, ◌≢◌, ℕ, suc, ◌+◌, ◌-◌, ◌≤◌, List, [], ◌∷◌, ◌++◌, length, take, drop, sym, ap, subst, ◌∙◌, arith, append_assoc, append-nil, length-append, length-take-le, length-drop, take_at, drop_at, take-append-drop, drop-drop, le_trans}
 use Rattle.std.specs.Prelude.{Some, option_map, reverse, Result, Err}
 use Rattle.std.specs.List.{flat_map}
 use Rattle.std.proofs.lemmas.Grind.{flat_map-append}
@@ -15,7 +15,7 @@ use Rattle.journal_core.specs.Journal.{JournalState, IsOfDisk}
 use Rattle.journal_core.proofs.Images.{room, from_gate}
 use Rattle.journal_core.proofs.OneList.{alone}
 use Rattle.journal_core.proofs.Offsets.{appended_holds}
-use Rattle.journal_core.specs.Extended.{opened_batches, IsExtended, Extends, IsGrown}
+use Rattle.journal_core.specs.Extended.{opened_batches, HaveAtMost, IsExtended, Extends, IsGrown}
 use Rattle.journal_core.proofs.Torns.{torn_within, torn_twice}
 use Rattle.journal_core.proofs.Appended.{stored_is}
 
@@ -28,23 +28,24 @@ same_gate {gate = gate} {disk = disk} holds =
     ∙ take-append-drop gate disk
 
 -- nothing was written
-pub extends_same : {old new : Outside} → new.disk ≡ old.disk → old.disk_faults ≤ new.disk_faults → Extends old new
-extends_same {old} {new} same later = record {
+pub extends_same : {most : ℕ} {old new : Outside} → new.disk ≡ old.disk → old.disk_faults ≤ new.disk_faults → Extends most old new
+extends_same {most} {old} {new} same later = record {
   later = later;
   file = λ rose capacity gate held disk known holds. record {
     batches = [];
     valid = All-nil IsBatch;
+    few = All-nil (λ (batch : List Record). length batch ≤ most);
     file = same ∙ known ∙ ap Some (sym (same_gate holds));
     holds = subst (λ (g : ℕ). HoldsTo capacity g held (written gate (0 ∷ []) disk)) (omega arith) (subst (HoldsTo capacity gate held) (sym (same_gate holds)) holds);
   };
 }
 
 -- a batch was written
-pub extends_by : (old new : Outside) (journal : JournalState) (batch : List Record) → old.disk_faults ≤ new.disk_faults → IsOfDisk journal old.disk → IsBatch batch
-    → new.disk ≡ option_map (written journal.gate (stored_batch batch)) old.disk → Extends old new
-extends_by old new journal batch later of_disk valid is = record { later = later; file = λ rose. grown }
+pub extends_by : (most : ℕ) (old new : Outside) (journal : JournalState) (batch : List Record) → length batch ≤ most → old.disk_faults ≤ new.disk_faults → IsOfDisk journal old.disk
+    → IsBatch batch → new.disk ≡ option_map (written journal.gate (stored_batch batch)) old.disk → Extends most old new
+extends_by most old new journal batch few later of_disk valid is = record { later = later; file = λ rose. grown }
   where
-    grown : (capacity gate : ℕ) (held : List Record) (disk : List ℕ) → old.disk ≡ Some disk → HoldsTo capacity gate held disk → IsExtended capacity gate held disk new.disk
+    grown : (capacity gate : ℕ) (held : List Record) (disk : List ℕ) → old.disk ≡ Some disk → HoldsTo capacity gate held disk → IsExtended capacity gate most held disk new.disk
     grown capacity gate held disk known holds =
         let mine = (of_disk disk known).1.held in
         let one = alone.batches disk capacity gate holds.batches holds.rest journal.capacity journal.gate mine.batches mine.rest holds.leads mine.leads in
@@ -53,6 +54,7 @@ extends_by old new journal batch later of_disk valid is = record { later = later
         record {
           batches = batch ∷ [];
           valid = All-cons IsBatch batch [] valid (All-nil IsBatch);
+          few = All-cons (λ (one : List Record). length one ≤ most) batch [] few (All-nil (λ (one : List Record). length one ≤ most));
           file = made ∙ (λ i. Some (written (sym one.2 i) (stored_is batch i) disk));
           holds = subst (λ (b : List ℕ). HoldsTo capacity (gate + length (opened_batches (batch ∷ []))) (records_of (batch ∷ []) ++ held) (written gate b disk)) (stored_is batch)
               (subst (λ (r : List Record). HoldsTo capacity (gate + length (opened_batches (batch ∷ []))) (r ++ held) (written gate (stored_batch batch) disk)) (ap reverse (sym (append-nil batch)))
@@ -93,11 +95,11 @@ records_of-append : (a b : List (List Record)) → records_of (a ++ b) ≡ recor
 records_of-append a b =
     ap reverse (flat_map-append (λ (batch : List Record). batch) a b) ∙ reverse-append (flat_map (λ (batch : List Record). batch) a) (flat_map (λ (batch : List Record). batch) b)
 
-pub extends_on : (old mid new : Outside) → Extends old mid → Extends mid new → Extends old new
-extends_on old mid new first second = record { later = omega (arith, first.later, second.later); file = λ rose capacity gate held disk known holds. both rose capacity gate held disk known holds }
+pub extends_on : (most : ℕ) (old mid new : Outside) → Extends most old mid → Extends most mid new → Extends most old new
+extends_on most old mid new first second = record { later = omega (arith, first.later, second.later); file = λ rose capacity gate held disk known holds. both rose capacity gate held disk known holds }
   where
     both : ¬ (Rose old.disk_faults new.disk_faults) → (capacity gate : ℕ) (held : List Record) (disk : List ℕ) → old.disk ≡ Some disk → HoldsTo capacity gate held disk
-        → IsExtended capacity gate held disk new.disk
+        → IsExtended capacity gate most held disk new.disk
     both rose capacity gate held disk known holds =
         let one = first.file (λ r. rose (rose_within old.disk_faults old.disk_faults mid.disk_faults new.disk_faults (omega arith) r second.later)) capacity gate held disk known holds in
         let two = second.file (λ r. rose (rose_within old.disk_faults mid.disk_faults new.disk_faults new.disk_faults first.later r (omega arith)))
@@ -114,6 +116,7 @@ extends_on old mid new first second = record { later = omega (arith, first.later
         record {
           batches = one.batches ++ two.batches;
           valid = All-append IsBatch one.batches two.batches one.valid two.valid;
+          few = All-append (λ (batch : List Record). length batch ≤ most) one.batches two.batches one.few two.few;
           file = two.file ∙ ap Some image;
           holds = subst (HoldsTo capacity (gate + length (opened_batches (one.batches ++ two.batches))) (records_of (one.batches ++ two.batches) ++ held)) image
               (subst (λ (r : List Record). HoldsTo capacity (gate + length (opened_batches (one.batches ++ two.batches))) r (written (gate + length a) (b ++ 0 ∷ []) (written gate (a ++ 0 ∷ []) disk))) records
@@ -121,8 +124,22 @@ extends_on old mid new first second = record { later = omega (arith, first.later
         }
 
 -- an append failed
-pub extends_failed : {old new : Outside} → old.disk_faults ≤ new.disk_faults → Rose old.disk_faults new.disk_faults → Extends old new
+pub extends_failed : {most : ℕ} {old new : Outside} → old.disk_faults ≤ new.disk_faults → Rose old.disk_faults new.disk_faults → Extends most old new
 extends_failed later rose = record { later = later; file = λ not. absurd (not rose) }
+
+-- batches that have at most so many records have at most more
+pub extends_wider : (fewer more : ℕ) (old new : Outside) → fewer ≤ more → Extends fewer old new → Extends more old new
+extends_wider fewer more old new le extends = record {
+  later = extends.later;
+  file = λ rose capacity gate held disk known holds.
+      let now = extends.file rose capacity gate held disk known holds in
+      record { batches = now.batches; valid = now.valid; few = λ k d lt. le_trans (now.few k d lt) le; file = now.file; holds = now.holds };
+}
+
+-- batches that are pending have at most as many records as each of them has
+pub grown_small : {capacity gate most : ℕ} {records : List Record} {pending : List (List Record)} {old image : List ℕ} (fewer : ℕ) → HaveAtMost fewer pending
+    → IsGrown capacity gate most records pending old image → IsGrown capacity gate fewer records pending old image
+grown_small fewer few g = record { next = g.next; holds = g.holds; behind = g.behind; valid = g.valid; few = few; torn = g.torn }
 
 pub only_disk : {T : Type 0} (result : Result T AppendError) (error : AppendError) → result ≡ Err error → (capacity : ℕ) → ((limit : ℕ) → result ≡ Err (Full limit) → limit ≡ capacity)
     → result ≢ Err (Full capacity) → result ≡ Err DiskFault
@@ -144,8 +161,8 @@ written_torn at piece disk within =
     }
 
 -- and batches that follow a batch grow the file from before it
-pub grown_behind : {capacity gate : ℕ} {records : List Record} {pending : List (List Record)} {disk image : List ℕ} (batch : List Record) → gate ≤ length disk
-    → IsGrown capacity (gate + (length (frames_of batch) + 5)) records pending (written gate (stored_batch batch) disk) image → IsGrown capacity gate records pending disk image
+pub grown_behind : {capacity gate most : ℕ} {records : List Record} {pending : List (List Record)} {disk image : List ℕ} (batch : List Record) → gate ≤ length disk
+    → IsGrown capacity (gate + (length (frames_of batch) + 5)) most records pending (written gate (stored_batch batch) disk) image → IsGrown capacity gate most records pending disk image
 grown_behind {gate = gate} {pending = pending} {disk = disk} batch within g =
     let size = length (opened_batches pending ++ 0 ∷ []) in
     let n = g.next - gate + size in
@@ -156,6 +173,7 @@ grown_behind {gate = gate} {pending = pending} {disk = disk} batch within g =
       holds = g.holds;
       behind = omega (arith, g.behind);
       valid = g.valid;
+      few = g.few;
       torn = torn_twice gate n
           (torn_within gate n gate (length (stored_batch batch)) (omega arith) (omega (arith, g.behind, len, length-append (opened_batches pending) (0 ∷ []))) (written_torn gate (stored_batch batch) disk within))
           (torn_within gate n after (g.next - after + size) (omega arith) (omega (arith, g.behind)) g.torn);

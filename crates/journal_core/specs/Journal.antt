@@ -53,10 +53,10 @@ abbrev pub Adds : (holds : List Record → List (List Record) → Type 0) (recor
 Adds holds records batch = holds records [] ⊎ holds records (batch ∷ []) ⊎ holds (with_batch records batch) []
 
 -- A stop leaves the records as they were or with the batch, in an image that differs from one before in the range of the batch
--- alone, and nothing more was sent.
+-- alone, and nothing more was sent. No batch that is pending has more records than this one.
 pub record Appends (capacity gate : ℕ) (records batch : List Record) (old : Outside) (image bytes : List ℕ) : Type 0 where
   pub holds : Holds image capacity records ⊎ Holds image capacity (with_batch records batch)
   pub before : List ℕ
   pub was : MayLeave old before
-  pub grown : Adds (λ held pending. IsGrown capacity gate held pending before image) records batch
+  pub grown : Adds (λ held pending. IsGrown capacity gate (length batch) held pending before image) records batch
   pub sent : Agrees old.sent bytes

@@ -15,8 +15,8 @@ use Rattle.live_core.specs.InternalKeeping.{Regains}
 
 pub kept_by : (journal : JournalState) {records batch : List Record} {old new : Outside} → Elapses old new (Appends journal.capacity journal.gate records batch old)
     → Elapses old new (Keeps (λ r p i. Regains journal old r p i) records batch old)
-kept_by journal {old = old} run =
-    widened run _ (λ image bytes stop. record { adds = adds_by {wider = λ r p. Regains journal old r p image} (λ held pending grown. record { before = stop.before; was = stop.was; grown = grown }) stop.grown; sent = stop.sent })
+kept_by journal {batch = batch} {old = old} run =
+    widened run _ (λ image bytes stop. record { adds = adds_by {wider = λ r p. Regains journal old r p image} (λ held pending grown. record { before = stop.before; was = stop.was; most = length batch; grown = grown }) stop.grown; sent = stop.sent })
 
 -- what grew from the image after an append grew from the one before it
 pub regained_on : (old new : Outside) (before after : JournalState) (batch : List Record) → after.capacity ≡ before.capacity → after.gate ≡ before.gate + (length (frames_of batch) + 5)
@@ -27,6 +27,7 @@ regained_on old new before after batch limits gates has settled is passes record
     record {
       before = from.0;
       was = passes from.0 from.1;
+      most = r.most;
       grown = grown_behind batch (omega (arith, has from.0 from.1))
-          (subst (λ d. IsGrown before.capacity (before.gate + (length (frames_of batch) + 5)) records pending d image) (sym from.2) (rw (limits, gates) at r.grown));
+          (subst (λ d. IsGrown before.capacity (before.gate + (length (frames_of batch) + 5)) r.most records pending d image) (sym from.2) (rw (limits, gates) at r.grown));
     }

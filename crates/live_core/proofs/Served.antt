@@ -29,7 +29,7 @@ use Rattle.stream_core.proofs.Pending.{prefix_sent}
 use Rattle.stream_core.proofs.Taken.{takes_none, takes_between}
 use Rattle.engine_core.specs.Sessions as engine
 use Rattle.engine_core.proofs.Unwritten.{still_nothing}
-use Rattle.journal_core.proofs.Extending.{extends_same, extends_on}
+use Rattle.journal_core.proofs.Extending.{extends_same, extends_on, grown_small}
 use Rattle.live_core.specs.declared.start.Serving.{Serving}
 use Rattle.live_core.specs.Safe.{Begin, Begins, start_of, IsSafe, IsSafeOrPending}
 use Rattle.recovery_core.specs.Damage.{IsDamagedAt, StopsAtDamage}
@@ -86,11 +86,11 @@ pub answered_as : {most : ℕ} {before after : JournalState} {session : Session}
     → IsAnswered most before after session same old new
 answered_as {most} {before} {after} {session} {old} {new} is = subst (λ s. IsAnswered most before after session s old new) (sym is)
 
-module _ (here : Type 0) (workers : ℕ) (from : Option ℕ) (most : ℕ) (status : Status) (old new : Outside)
+module _ (here : Type 0) (workers : ℕ) (from : Option ℕ) (batch most : ℕ) (status : Status) (old new : Outside)
     (sent_now : (image bytes : List ℕ) → new.leaves new.moment image bytes → Agrees new.sent bytes) (read_passes : (disk : List ℕ) → new.disk ≡ Some disk → MayLeave new disk)
     (stops_now : (sent : List ℕ) → new.sent ≡ Some sent → (image : List ℕ) × MayLeave new image) where
   -- A session, by its stops and its status, and by what it left where no session was served.
-  module _ (serves : (begin : Begin) (input : List ℕ) → begin.from ≡ from → Begins begin input old → Serves here workers from begin input most status old new)
+  module _ (serves : (begin : Begin) (input : List ℕ) → begin.from ≡ from → Begins begin input old → Serves here workers from batch begin input most status old new)
       (continues : Continues old new) (told : Told status old new)
       (unserved : IsUnserved status → IsUnread here workers from status old new) (unsound : (disk : List ℕ) → old.disk ≡ Some disk → ¬ IsSound disk → IsUnread here workers from status old new) where
     told_at : (s : Status) → status ≡ s → Told s old new
@@ -133,7 +133,7 @@ module _ (here : Type 0) (workers : ℕ) (from : Option ℕ) (most : ℕ) (statu
     undamaged : (begin : Begin) (input : List ℕ) → Begins begin input old → (at : ℕ) → status ≢ Damaged at
     undamaged begin input begins at is = lawful_undamaged (stops at is begins.disk begins.disk_known).damaged begins.holds begins.lawful
 
-    pub served : Extends old new → ReadsAtMost most old.input new.input → Served here workers from most status old new
+    pub served : Extends batch old new → ReadsAtMost most old.input new.input → Served here workers from batch most status old new
     served extends bytes = record {
       moments = λ begin input same begins. (serves begin input same begins).moments;
       settled = λ begin input same begins settled. widened (serves begin input same begins).moments _ (settle old begins settled (bodies_of (take most input)));
@@ -182,7 +182,7 @@ module _ (here : Type 0) (workers : ℕ) (from : Option ℕ) (most : ℕ) (statu
     }
 
   -- A session that did not begin.
-  pub unread_served : IsUnread here workers from status old new → Served here workers from most status old new
+  pub unread_served : IsUnread here workers from status old new → Served here workers from batch most status old new
   unread_served u =
       served (λ begin input same begins. record {
         moments = widened (u.moments begin input same begins) _ (first_stops old begin (bodies_of (take most input)));
@@ -199,7 +199,7 @@ module _ (here : Type 0) (workers : ℕ) (from : Option ℕ) (most : ℕ) (statu
 
   -- A session that answered.
   module _ {mid : Outside} (serving : Serving) (journal : JournalState) (r : IsRestored from serving old mid)
-      (a : IsAnswered most serving.keeper.journal journal serving.session status mid new) where
+      (a : IsAnswered most serving.keeper.journal journal serving.session status mid new) (frames : serving.session.round.most ≡ batch) where
     module _ (begin : Begin) (input : List ℕ) (same : begin.from ≡ from) (begins : Begins begin input old) where
       reads : Reads (IsAtRest serving.keeper.journal) (start_of begin) input 0 serving.session mid
       reads = r.reads begin input same begins
@@ -222,9 +222,14 @@ module _ (here : Type 0) (workers : ℕ) (from : Option ℕ) (most : ℕ) (statu
             subst (λ (capacity : ℕ). Holds disk capacity records) (alone.records disk journal.capacity begin.capacity records _ now (ended run (read_passes disk known)).recovered).0 now;
       }
 
+      -- what is left by batches of as many frames as a round has is left by batches of as many as were asked for
+      grows : Elapses mid new (Leaves batch (λ records pending image. Regains serving.keeper.journal mid records pending image) (start_of begin) (bodies_of (take most input)))
+      grows = subst (λ n. Elapses mid new (Leaves n (λ records pending image. Regains serving.keeper.journal mid records pending image) (start_of begin) (bodies_of (take most input)))) frames
+          (a.grows (start_of begin) input refl reads)
+
       -- what grew from an image of the restored session grew from one of the start
-      has_grown : {image bytes : List ℕ} → Leaves (λ records pending image. Regains serving.keeper.journal mid records pending image) (start_of begin) (bodies_of (take most input)) image bytes
-          → HasGrown begin (bodies_of (take most input)) old image
+      has_grown : {image bytes : List ℕ} → Leaves batch (λ records pending image. Regains serving.keeper.journal mid records pending image) (start_of begin) (bodies_of (take most input)) image bytes
+          → HasGrown batch begin (bodies_of (take most input)) old image
       has_grown {image} safe =
           let k = safe.recovered in
           let g = k.recovered in
@@ -235,14 +240,14 @@ module _ (here : Type 0) (workers : ℕ) (from : Option ℕ) (most : ℕ) (statu
             held = subst (λ c. HoldsTo c serving.keeper.journal.gate begin.held g.before) (r.capacity begin input same begins) ((held_all reads r.empty).keeps g.before ((held_all reads r.empty).settled.only g.before g.was)).held;
             count = safe.count;
             within = safe.within;
-            grown = keeping_further whole k (subst (λ c. IsGrown c serving.keeper.journal.gate (engine.held_after (start_of begin) (take safe.count (bodies_of (take most input)))) k.pending g.before image)
-                (r.capacity begin input same begins) g.grown);
+            grown = keeping_further whole k (subst (λ c. IsGrown c serving.keeper.journal.gate batch (engine.held_after (start_of begin) (take safe.count (bodies_of (take most input)))) k.pending g.before image)
+                (r.capacity begin input same begins) (grown_small batch k.small g.grown));
           }
 
       all_answered : (count : ℕ) → engine.Answered (IsAtRest journal) (start_of begin) input count new → Answered begin input count new
       all_answered count answered = record { input_left = answered.input_left; there = answered.there; sent = answered.sent; held = kept answered.held }
 
-      serves : Serves here workers from begin input most status old new
+      serves : Serves here workers from batch begin input most status old new
       serves = record {
         moments = goes_on (widened (r.moments begin input same begins) (IsSafeOrPending old begin (bodies_of (take most input))) (first_stops old begin (bodies_of (take most input)))) run (λ image bytes safe. inl safe);
         exact = λ end.
@@ -254,13 +259,13 @@ module _ (here : Type 0) (workers : ℕ) (from : Option ℕ) (most : ℕ) (statu
         prompt = more_asks (start_of begin) input (no_ask (start_of begin) input r.keeps.asks) (a.prompt (start_of begin) input refl reads);
         starved = λ is. inr (inr (a.starved (start_of begin) input refl reads is));
         unwritten = λ none. still_nothing (r.nothing begin input same begins) (a.nothing (start_of begin) input refl reads none);
-        stops = goes_on (widened (r.nothing begin input same begins).moments _ (λ image bytes left. inl left)) (a.grows (start_of begin) input refl reads) (λ image bytes safe. inr (has_grown safe));
+        stops = goes_on (widened (r.nothing begin input same begins).moments _ (λ image bytes left. inl left)) grows (λ image bytes safe. inr (has_grown safe));
       }
 
-    pub answered_served : Served here workers from most status old new
+    pub answered_served : Served here workers from batch most status old new
     answered_served =
         served serves (further r.keeps.continues a.continues) (grind (arith, faultless, r.none, a.told)) (λ un. absurd (a.served un)) (λ disk known un. absurd (un (r.sound disk known)))
-        (extends_on old mid new (extends_same r.keeps.disk r.keeps.continues.storing) a.extends) (takes_between most old.input mid.input new.input new.input r.keeps.input refl a.bytes)
+        (extends_on batch old mid new (extends_same r.keeps.disk r.keeps.continues.storing) (subst (λ n. Extends n mid new) frames a.extends)) (takes_between most old.input mid.input new.input new.input r.keeps.input refl a.bytes)
 
 -- memory ran out before anything happened
 pub roomless : (here : Type 0) → here → (workers : ℕ) (from : Option ℕ) (now : Outside) → ((image bytes : List ℕ) → now.leaves now.moment image bytes → Agrees now.sent bytes) → IsUnread here workers from NoMemory now now

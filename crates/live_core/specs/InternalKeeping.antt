@@ -7,7 +7,7 @@ use Rattle.wire_in.specs.declared.record.Record.{Record}
 use Rattle.journal_core.specs.Layout.{Holds}
 use Rattle.journal_core.specs.Journal.{JournalState, IsOfDisk, IsAtRest}
 use Rattle.journal_core.specs.Extended.{Extends, IsGrown}
-use Rattle.journal_core.proofs.Extending.{extends_same, extends_on}
+use Rattle.journal_core.proofs.Extending.{extends_same, extends_on, extends_wider}
 use Rattle.journal_core.proofs.Appended.{grown_none}
 
 -- the journal may be written, is of this disk, where it is known, and takes up to so many records more
@@ -33,21 +33,27 @@ pub held_now : (journal : JournalState) (records : List Record) (now : Outside) 
 held_now journal records now image rest left = record { gate = journal.gate; held = (rest.keeps image (rest.settled.only image left)).held }
 
 -- what is done to the file where nothing is written, and by one run after another
-pub extends_still : (old new : Outside) → new.disk ≡ old.disk → new.disk_faults ≡ old.disk_faults → Extends old new
-extends_still old new same faults = extends_same same (subst (λ (n : ℕ). old.disk_faults ≤ n) (sym faults) (le_refl old.disk_faults))
+pub extends_still : (most : ℕ) (old new : Outside) → new.disk ≡ old.disk → new.disk_faults ≡ old.disk_faults → Extends most old new
+extends_still most old new same faults = extends_same same (subst (λ (n : ℕ). old.disk_faults ≤ n) (sym faults) (le_refl old.disk_faults))
 
-pub extends_both : (old mid new : Outside) → Extends old mid → Extends mid new → Extends old new
+pub extends_both : (most : ℕ) (old mid new : Outside) → Extends most old mid → Extends most mid new → Extends most old new
 extends_both = extends_on
 
--- an image holds these records while these batches are added, and grew from one that a stop now may leave
+-- by larger batches as well
+pub extends_more : (fewer more : ℕ) (old new : Outside) → fewer ≤ more → Extends fewer old new → Extends more old new
+extends_more = extends_wider
+
+-- an image holds these records while these batches are added, of at most so many records, and grew from one that a stop now may
+-- leave
 pub record Regains (journal : JournalState) (now : Outside) (records : List Record) (pending : List (List Record)) (image : List ℕ) : Type 0 where
   pub before : List ℕ
   pub was : MayLeave now before
-  pub grown : IsGrown journal.capacity journal.gate records pending before image
+  pub most : ℕ
+  pub grown : IsGrown journal.capacity journal.gate most records pending before image
 
 pub regained_before : (journal : JournalState) (records : List Record) (pending : List (List Record)) (image : List ℕ) (old new : Outside)
     → ((image : List ℕ) → MayLeave new image → MayLeave old image) → Regains journal new records pending image → Regains journal old records pending image
-regained_before journal records pending image old new left regained = record { before = regained.before; was = left regained.before regained.was; grown = regained.grown }
+regained_before journal records pending image old new left regained = record { before = regained.before; was = left regained.before regained.was; most = regained.most; grown = regained.grown }
 
 pub regained_now : (journal : JournalState) (records : List Record) (now : Outside) (image : List ℕ) → IsAtRest journal records now → MayLeave now image → Regains journal now records [] image
-regained_now journal records now image rest left = record { before = image; was = left; grown = grown_none (rest.keeps image (rest.settled.only image left)).held }
+regained_now journal records now image rest left = record { before = image; was = left; most = 0; grown = grown_none (rest.keeps image (rest.settled.only image left)).held }

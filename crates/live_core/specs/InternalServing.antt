@@ -82,15 +82,15 @@ pub record IsUnread (unbegun : Type 0) (workers : ℕ) (from : Option ℕ) (stat
   pub hinders : Hinders (λ at. (disk : List ℕ) → old.disk ≡ Some disk → HasDamage at disk) ((disk : List ℕ) → old.disk ≡ Some disk → HasNoHeader disk)
       (unbegun ⊎ ((disk : List ℕ) → old.disk ≡ Some disk → StarvesAgain workers from old.sent disk new)) status old new
 
--- what a session did that began so, up to so many bytes of this input
-pub record Serves (unbegun : Type 0) (workers : ℕ) (from : Option ℕ) (begin : Begin) (input : List ℕ) (most : ℕ) (status : Status) (old new : Outside) : Type 0 where
+-- what a session did that began so, by batches of at most so many frames, up to so many bytes of this input
+pub record Serves (unbegun : Type 0) (workers : ℕ) (from : Option ℕ) (batch : ℕ) (begin : Begin) (input : List ℕ) (most : ℕ) (status : Status) (old new : Outside) : Type 0 where
   pub moments : Elapses old new (IsSafeOrPending old begin (bodies_of (take most input)))
   pub exact : IsEnd status → (status ≡ end_of most input) × ends.Answered begin input (min most (length input)) new
   pub unread : status ≡ ReadFault → (count : ℕ) × (count < most) × ends.Answered begin input count new
   pub prompt : Prompt (start_of begin) input old.asks new.asks
   pub starved : status ≡ NoMemory → unbegun ⊎ StarvedAtRecord workers from begin.held old.sent new.sent ⊎ Starved (start_of begin) (bodies_of (take most input)) new
   pub unwritten : AcceptsNone (start_of begin) (bodies_of (take most input)) → WritesNothing old new
-  pub stops : Elapses old new (λ image bytes. MayLeave old image ⊎ HasGrown begin (bodies_of (take most input)) old image)
+  pub stops : Elapses old new (λ image bytes. MayLeave old image ⊎ HasGrown batch begin (bodies_of (take most input)) old image)
 
 -- the input was answered, up to so many bytes
 pub record IsAnswered (most : ℕ) (before after : JournalState) (session : Session) (status : Status) (old new : Outside) : Type 0 where
@@ -100,9 +100,9 @@ pub record IsAnswered (most : ℕ) (before after : JournalState) (session : Sess
       → status ≡ ReadFault → (count : ℕ) × (count < most) × Answered (λ records now. IsAtRest after records now) start input count new
   pub nothing : (start : Start) (input : List ℕ) → start.acknowledges ≡ true → Reads (λ records now. IsAtRest before records now) start input 0 session old
       → AcceptsNone start (bodies_of (take most input)) → WritesNothing old new
-  pub extends : Extends old new
+  pub extends : Extends session.round.most old new
   pub grows : (start : Start) (input : List ℕ) → start.acknowledges ≡ true → Reads (λ records now. IsAtRest before records now) start input 0 session old
-      → Elapses old new (Leaves (λ records pending image. Regains before old records pending image) start (bodies_of (take most input)))
+      → Elapses old new (Leaves session.round.most (λ records pending image. Regains before old records pending image) start (bodies_of (take most input)))
   pub prompt : (start : Start) (input : List ℕ) → start.acknowledges ≡ true → Reads (λ records now. IsAtRest before records now) start input 0 session old
       → Prompt start input old.asks new.asks
   pub starved : (start : Start) (input : List ℕ) → start.acknowledges ≡ true → Reads (λ records now. IsAtRest before records now) start input 0 session old

@@ -19,8 +19,8 @@ use Rattle.live_core.specs.Written.{Written}
 use Rattle.recovery_core.specs.Ends.{TellsNoJournal, TellsDamage}
 use Rattle.live_core.specs.Ends.{Answered, IsAnswer, IsUnserved, IsLeftAlone}
 
--- a session was served by so many workers, from that message on, up to so many bytes; what says that no call of the host was made is given
-pub record Served (unbegun : Type 0) (workers : ℕ) (from : Option ℕ) (most : ℕ) (status : Status) (old new : Outside) : Type 0 where
+-- A session was served by so many workers, from that message on, by batches of at most so many frames, up to so many bytes; what says that no call of the host was made is given.
+pub record Served (unbegun : Type 0) (workers : ℕ) (from : Option ℕ) (batch most : ℕ) (status : Status) (old new : Outside) : Type 0 where
   -- Whenever the run is stopped, the image holds the records from before and those of some of the first frames, and a
   -- prefix of what is expected for them was sent. Or nothing was sent, and a stop at the start might have left the image.
   pub moments : (begin : Begin) (input : List ℕ) → begin.from ≡ from → Begins begin input old → Elapses old new (IsSafeOrPending old begin (bodies_of (take most input)))
@@ -68,7 +68,7 @@ pub record Served (unbegun : Type 0) (workers : ℕ) (from : Option ℕ) (most :
   pub untouched : IsUnserved status → new.disk ≡ old.disk
   pub input_is_left : IsUnserved status → new.input ≡ old.input
   -- what is written to the journal's file
-  pub written : Written from most old new
+  pub written : Written from batch most old new
   -- no more bytes than asked for are read, whatever the answer
   pub bytes : ReadsAtMost most old.input new.input
   -- with enough memory and no faults, the input is read to its end or to the most bytes

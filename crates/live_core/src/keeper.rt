@@ -10,7 +10,7 @@ ghost use Rattle.journal_core.specs.Layout.{with_batch};
 ghost use Rattle.journal_core.specs.Journal.{IsAtRest};
 ghost use Rattle.engine_core.specs.Serving.{Keeps};
 ghost use Rattle.journal_core.specs.Extended.{Extends};
-ghost use Rattle.live_core.specs.InternalKeeping.{HasRoom, Regains, rests_still, regained_before, regained_now, room_for_fewer, extends_still, extends_both};
+ghost use Rattle.live_core.specs.InternalKeeping.{HasRoom, Regains, rests_still, regained_before, regained_now, room_for_fewer, extends_still, extends_both, extends_more};
 
 use engine_core::Keeper;
 use host_core::{Fault, Host};
@@ -49,7 +49,7 @@ impl Keeper for JournalKeeper {
 
     ghost fails = { Unit {0} };
 
-    ghost touches = { λ old new. Extends old new };
+    ghost touches = { λ most old new. Extends most old new };
 
     ghost still_held = { λ keeper records old new rest same left. rests_still keeper.journal records old new rest same left };
 
@@ -59,9 +59,11 @@ impl Keeper for JournalKeeper {
 
     ghost room_for_fewer = { λ keeper known fewer more le has. room_for_fewer keeper.journal known fewer more le has };
 
-    ghost untouched = { λ old new same faults. extends_still old new same faults };
+    ghost untouched = { λ most old new same faults. extends_still most old new same faults };
 
-    ghost touches_both = { λ old mid new first second. extends_both old mid new first second };
+    ghost touches_both = { λ most old mid new first second. extends_both most old mid new first second };
+
+    ghost touches_more = { λ fewer more old new le extends. extends_more fewer more old new le extends };
 
     fn acknowledges(&self) -> bool {
         true

@@ -39,6 +39,7 @@ pub struct ServeOptions {
 fn room(alloc: Global, options: &ServeOptions) -> Result<(Restoring, Vec<u8>), NoMemory>
     requires batch { (1 ≤ options.now.batch) × (options.now.batch ≤ BATCH_MAX) }
     ensures room { IfOk result (λ room. IsRoom room.0) }
+    ensures frames { IfOk result (λ room. room.0.round.most ≡ options.now.batch) }
     ensures buffer { IfOk result (λ room. vec_len room.1 ≡ PIECE) }
 {
     let restoring = Restoring {
@@ -90,8 +91,9 @@ fn serve_in<Rt: Threads + Sync, H: Host, G: Gate>(
     requires workers { (1 ≤ options.now.workers) × (options.now.workers ≤ 64) }
     requires bytes { options.now.bytes ≤ BYTES_MAX }
     requires room { IsRoom room }
+    requires frames { room.round.most ≡ options.now.batch }
     requires buffer { 0 < length buffer.old }
-    ensures served { Served (host.new ≡ host.old) options.now.workers options.now.from options.now.bytes result (H.outside host.old) (H.outside host.new) }
+    ensures served { Served (host.new ≡ host.old) options.now.workers options.now.from options.now.batch options.now.bytes result (H.outside host.old) (H.outside host.new) }
 {
     match restore(rt, alloc, host, gate, options.workers, options.from, room) {
         Ok(mut serving) => answer(rt, &mut serving, host, gate, buffer, options.bytes),
@@ -114,7 +116,7 @@ pub fn serve<Rt: Threads + Sync, H: Host, G: Gate>(
     requires workers { (1 ≤ options.now.workers) × (options.now.workers ≤ 64) }
     requires bytes { options.now.bytes ≤ BYTES_MAX }
     requires batch { (1 ≤ options.now.batch) × (options.now.batch ≤ BATCH_MAX) }
-    ensures served { Served (host.new ≡ host.old) options.now.workers options.now.from options.now.bytes result (H.outside host.old) (H.outside host.new) }
+    ensures served { Served (host.new ≡ host.old) options.now.workers options.now.from options.now.batch options.now.bytes result (H.outside host.old) (H.outside host.new) }
 {
     match room(alloc, options) {
         Ok((room, mut buffer)) => serve_in(rt, alloc, host, gate, options, room, &mut buffer),

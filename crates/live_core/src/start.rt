@@ -59,6 +59,7 @@ pub fn restore<Rt: Threads + Sync, H: Host, G: Gate>(
 ) -> Result<Serving, Status>
     requires workers { (1 ≤ workers) × (workers ≤ 64) }
     requires room { IsRoom room }
+    ensures frames { IfOk result (λ serving. serving.session.round.most ≡ room.round.most) }
     ensures restored { IfOk result (λ serving. IsRestored from serving (H.outside host.old) (H.outside host.new)) }
     ensures unread { IfErr result (λ status. IsUnread (host.new ≡ host.old) workers from status (H.outside host.old) (H.outside host.new)) }
 {

@@ -42,7 +42,7 @@ ends_as workers (Ok status) begin input most now end = (end.0, answered_as begin
 ends_as workers (Err fault) begin input most now end = tt
 
 -- the stops of a replay
-pub stops_as : {workers : ℕ} (read : List ℕ) (old new : Outside) → Elapses old new (Leaves (λ _ _ image. MayLeave old image) (replay_start workers old.sent) (bodies_of read))
+pub stops_as : {workers most : ℕ} (read : List ℕ) (old new : Outside) → Elapses old new (Leaves most (λ _ _ image. MayLeave old image) (replay_start workers old.sent) (bodies_of read))
     → Elapses old new (SendsPrefix old.sent (replay_text read) old)
 unfolding expected replay_text
 stops_as {workers} read old new run =

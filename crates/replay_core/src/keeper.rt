@@ -27,7 +27,7 @@ impl Keeper for NoKeeper {
 
     ghost fails = { ⊥ };
 
-    ghost touches = { LeavesDisk };
+    ghost touches = { λ _ old new. LeavesDisk old new };
 
     ghost still_held = { λ _ _ _ _ held _ _. held };
 
@@ -37,9 +37,11 @@ impl Keeper for NoKeeper {
 
     ghost room_for_fewer = { λ _ _ _ _ _ room. room };
 
-    ghost untouched = { λ _ _ disk faults. record { disk = disk; disk_faults = faults } };
+    ghost untouched = { λ _ _ _ disk faults. record { disk = disk; disk_faults = faults } };
 
-    ghost touches_both = { left_on };
+    ghost touches_both = { λ _ old mid new first second. left_on old mid new first second };
+
+    ghost touches_more = { λ _ _ _ _ _ left. left };
 
     fn acknowledges(&self) -> bool {
         false

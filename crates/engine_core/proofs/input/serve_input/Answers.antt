@@ -26,6 +26,7 @@ loop-open-init g c = record {
   answered = omega (arith, c.requires.fresh);
   buffer = c.requires.buffer;
   empty = c.requires.empty;
+  most = refl;
   ready = c.requires.ready;
   polls = λ start input same reads. record {
     reads = reads;
@@ -34,7 +35,7 @@ loop-open-init g c = record {
     end = λ closed. absurd (true≢false closed);
   };
   taken = takes_none 0 _ _ refl;
-  touches = g.K.Keeper.untouched _ _ refl refl;
+  touches = g.K.Keeper.untouched _ _ _ refl refl;
   continues = unchanged _;
   none = no_fault _;
 }
@@ -42,7 +43,7 @@ loop-open-init g c = record {
 -- what the run is once a piece was read, however its frames are answered
 fed : (g : Over) (c : After-feed g) (start : Start) (input : List ℕ) → start.acknowledges ≡ g.K.Keeper.acknowledges
     → Reads (g.K.Keeper.holds c.args.keeper.now) start input 0 c.args.session.now (g.H.Host.outside c.args.host.now)
-    → Runs (g.K.Keeper.holds c.feed.new.keeper) (g.K.Keeper.recovers c.args.keeper.now (g.H.Host.outside c.args.host.now)) (g.K.Keeper.recovers c.feed.new.keeper (g.H.Host.outside c.feed.new.host)) start (take (c.loop-open.read + c.in_ok-count.count) input) (take c.args.most input) c.feed.result c.feed.new.session
+    → Runs c.args.session.now.round.most (g.K.Keeper.holds c.feed.new.keeper) (g.K.Keeper.recovers c.args.keeper.now (g.H.Host.outside c.args.host.now)) (g.K.Keeper.recovers c.feed.new.keeper (g.H.Host.outside c.feed.new.host)) start (take (c.loop-open.read + c.in_ok-count.count) input) (take c.args.most input) c.feed.result c.feed.new.session
     (g.H.Host.outside c.args.host.now) (g.H.Host.outside c.feed.new.host)
     × Prompt start input (g.H.Host.outside c.args.host.now).asks (g.H.Host.outside c.feed.new.host).asks
 fed g c start input same reads =
@@ -50,7 +51,7 @@ fed g c start input same reads =
     let took = c.in_ok-count.ensures.taken in
     let expects = expects_all was.reads c.loop-open.invariant.empty in
     let run = c.exchange.ensures.moments start.sent _ expects in
-    let swept : Runs {T = ℕ} (g.K.Keeper.holds c.loop-open.keeper) (g.K.Keeper.recovers c.loop-open.keeper (g.H.Host.outside c.loop-open.host)) (g.K.Keeper.recovers c.loop-open.keeper (g.H.Host.outside c.exchange.new.host)) start (take c.loop-open.read input) (take c.loop-open.read input)
+    let swept : Runs {T = ℕ} c.args.session.now.round.most (g.K.Keeper.holds c.loop-open.keeper) (g.K.Keeper.recovers c.loop-open.keeper (g.H.Host.outside c.loop-open.host)) (g.K.Keeper.recovers c.loop-open.keeper (g.H.Host.outside c.exchange.new.host)) start (take c.loop-open.read input) (take c.loop-open.read input)
     (Ok c.in_ok-count.count) (record c.loop-open.session { outbox = c.exchange.new.outbox }) (g.H.Host.outside c.loop-open.host) (g.H.Host.outside c.exchange.new.host) = record {
       serves = record {
         answered = was.reads.serves.answered;
@@ -71,7 +72,7 @@ fed g c start input same reads =
       starved = λ is. absurd cc;
     } in
     let begins = piece_begins was.reads took c.args.most (omega (arith, c.loop-open.invariant.within, took.within, c.min-room.ensures)) in (
-      rw (piece_is was.reads took) at (runs_on begins (runs_on (up_to c.loop-open.read c.args.most input c.loop-open.invariant.within) was.runs swept) (c.feed.ensures.runs start _ same swept.serves)),
+      rw (piece_is was.reads took) at (runs_on begins (runs_on (up_to c.loop-open.read c.args.most input c.loop-open.invariant.within) was.runs swept) (rw c.loop-open.invariant.most at (c.feed.ensures.runs start _ same swept.serves))),
       more_asks start input (more_asks start input was.prompt (c.exchange.ensures.prompt (answers_to start) start.sent input c.loop-open.read was.reads.input_left was.reads.there expects))
           (no_ask start input c.feed.ensures.keeps.asks),
     )
@@ -85,6 +86,7 @@ loop-open-preserved g c =
       answered = omega (arith, c.loop-open.invariant.answered, c.in_ok-feed.ensures.few, length-take n c.exchange.new.buffer);
       buffer = omega (arith, c.loop-open.invariant.buffer, c.exchange.auto.buffer);
       empty = c.in_ok-feed.ensures.empty;
+      most = c.in_ok-feed.ensures.most ∙ c.loop-open.invariant.most;
       ready = c.in_ok-feed.ensures.ready;
       polls = λ start input same reads.
           let was = c.loop-open.invariant.polls start input same reads in
@@ -112,8 +114,9 @@ loop-open-preserved g c =
                 );
           };
       taken = takes_on c.loop-open.read n _ _ _ _ (omega arith) c.loop-open.invariant.taken (record { count = n; within = omega arith; left = c.feed.ensures.keeps.input ∙ took.left });
-      touches = g.K.Keeper.touches_both _ _ _ c.loop-open.invariant.touches
-          (g.K.Keeper.touches_both _ _ _ (g.K.Keeper.untouched _ _ c.exchange.ensures.keeps.disk c.exchange.ensures.keeps.disk_faults) c.feed.ensures.keeps.to_disk);
+      touches = g.K.Keeper.touches_both _ _ _ _ c.loop-open.invariant.touches
+          (g.K.Keeper.touches_both _ _ _ _ (g.K.Keeper.untouched _ _ _ c.exchange.ensures.keeps.disk c.exchange.ensures.keeps.disk_faults)
+          (rw c.loop-open.invariant.most at c.feed.ensures.keeps.to_disk));
       continues = further c.loop-open.invariant.continues (further c.exchange.ensures.keeps.continues c.feed.ensures.keeps.continues);
       none = faultless c.loop-open.invariant.none (faultless c.in_ok-count.ensures.causes c.in_ok-feed.ensures.causes);
     }
@@ -143,7 +146,7 @@ returns-in_err-count-clause-unread g c start input same reads failed =
 
 pub returns-in_err-count-clause-touches : goal.returns-in_err-count-clause-touches
 returns-in_err-count-clause-touches g c =
-    g.K.Keeper.touches_both _ _ _ c.loop-open.invariant.touches (g.K.Keeper.untouched _ _ c.exchange.ensures.keeps.disk c.exchange.ensures.keeps.disk_faults)
+    g.K.Keeper.touches_both _ _ _ _ c.loop-open.invariant.touches (g.K.Keeper.untouched _ _ _ c.exchange.ensures.keeps.disk c.exchange.ensures.keeps.disk_faults)
 
 pub returns-in_err-count-clause-nothing : goal.returns-in_err-count-clause-nothing
 returns-in_err-count-clause-nothing g c start input same reads none =
@@ -171,8 +174,9 @@ returns-in_err-feed-clause-bytes g c =
 
 pub returns-in_err-feed-clause-touches : goal.returns-in_err-feed-clause-touches
 returns-in_err-feed-clause-touches g c =
-    g.K.Keeper.touches_both _ _ _ c.loop-open.invariant.touches
-    (g.K.Keeper.touches_both _ _ _ (g.K.Keeper.untouched _ _ c.exchange.ensures.keeps.disk c.exchange.ensures.keeps.disk_faults) c.feed.ensures.keeps.to_disk)
+    g.K.Keeper.touches_both _ _ _ _ c.loop-open.invariant.touches
+    (g.K.Keeper.touches_both _ _ _ _ (g.K.Keeper.untouched _ _ _ c.exchange.ensures.keeps.disk c.exchange.ensures.keeps.disk_faults)
+    (rw c.loop-open.invariant.most at c.feed.ensures.keeps.to_disk))
 
 -- the session was closed
 pub returns-clause-exact : goal.returns-clause-exact

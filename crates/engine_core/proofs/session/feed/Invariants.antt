@@ -11,11 +11,12 @@ invariant-loop-at g l = record {
   empty : l.session.round.outcomes ≡ [];
   few : l.session.answered ≤ l.initial.session.answered + l.at;
   still : l.at ≡ 0 → (g.H.Host.outside l.host).sent ≡ (g.H.Host.outside l.initial.host).sent;
+  most : l.session.round.most ≡ l.initial.session.round.most;
   ready : IsReady (g.K.Keeper.has_room l.keeper (g.H.Host.outside l.host).disk) g.K.Keeper.most l.session;
   runs : (start : Start) (read : List ℕ) → start.acknowledges ≡ g.K.Keeper.acknowledges → Serves (g.K.Keeper.holds l.initial.keeper) start read l.initial.session (g.H.Host.outside l.initial.host)
-      → Runs {T = Unit {0}} (g.K.Keeper.holds l.keeper) (g.K.Keeper.recovers l.initial.keeper (g.H.Host.outside l.initial.host)) (g.K.Keeper.recovers l.keeper (g.H.Host.outside l.host)) start (read ++ take l.at l.piece) (read ++ l.piece) (Ok tt) l.session
+      → Runs {T = Unit {0}} l.initial.session.round.most (g.K.Keeper.holds l.keeper) (g.K.Keeper.recovers l.initial.keeper (g.H.Host.outside l.initial.host)) (g.K.Keeper.recovers l.keeper (g.H.Host.outside l.host)) start (read ++ take l.at l.piece) (read ++ l.piece) (Ok tt) l.session
       (g.H.Host.outside l.initial.host) (g.H.Host.outside l.host);
-  keeps : OnlyAnswers g.K.Keeper.touches (g.H.Host.outside l.initial.host) (g.H.Host.outside l.host);
+  keeps : OnlyAnswers (g.K.Keeper.touches l.initial.session.round.most) (g.H.Host.outside l.initial.host) (g.H.Host.outside l.host);
   none : NoFault (g.H.Host.outside l.initial.host) (g.H.Host.outside l.host);
 }
 

@@ -17,7 +17,7 @@ pub returns-in_err-keep_round-clause-runs : goal.returns-in_err-keep_round-claus
 returns-in_err-keep_round-clause-runs g c start read same serves = record {
   serves = search rules;
   before = search rules;
-  moments = widened (c.keep_round.ensures.moments _ serves.held) _ (leaves_keeps serves _);
+  moments = widened (c.keep_round.ensures.moments _ serves.held) _ (leaves_keeps serves _ _ c.keep_round.ensures.few);
   nothing = λ none. c.keep_round.ensures.nothing (no_records serves none);
   starved = λ is. absurd (c.keep_round.ensures.unstarved (search rules));
 }
@@ -37,7 +37,7 @@ returns-clause-runs g c start read same serves =
           });
       before = whenever_ok c.answer_round.result (λ records pending image recovered.
           c.in_ok-keep_round.ensures.before records pending image (g.K.Keeper.recovered_before c.keep_round.new.keeper records pending image _ _ c.answer_round.ensures.keeps.left recovered));
-      moments = goes_on (widened (c.keep_round.ensures.moments _ serves.held) _ (leaves_keeps serves _)) replies.moments
+      moments = goes_on (widened (c.keep_round.ensures.moments _ serves.held) _ (leaves_keeps serves _ _ c.keep_round.ensures.few)) replies.moments
           (λ image bytes stop. safe_sends _ start (bodies_of read) _ image bytes
           (at_rest [] refl (c.in_ok-keep_round.ensures.before _ [] image (g.K.Keeper.recovers_now c.keep_round.new.keeper _ _ image held stop.was))) stop);
       nothing = λ none. still_nothing (c.keep_round.ensures.nothing (no_records serves none)) (sending replies.moments c.answer_round.ensures.keeps.disk);
@@ -61,7 +61,10 @@ returns-clause-ready g c =
       most = omega (arith, c.requires.ready.most, c.answer_round.ensures.most);
     })
 
+pub returns-clause-most : goal.returns-clause-most
+returns-clause-most g c = whenever_ok c.answer_round.result c.answer_round.ensures.most
+
 pub returns-clause-keeps : goal.returns-clause-keeps
 returns-clause-keeps g c =
-    answers_on _ g.K.Keeper.touches_both (answers_writes _ c.keep_round.ensures.keeps c.keep_round.ensures.touches)
-    (answers_sends _ c.answer_round.ensures.keeps (g.K.Keeper.untouched _ _ c.answer_round.ensures.keeps.disk c.answer_round.ensures.keeps.disk_faults))
+    answers_on _ (g.K.Keeper.touches_both _) (answers_writes _ c.keep_round.ensures.keeps c.keep_round.ensures.touches)
+    (answers_sends _ c.answer_round.ensures.keeps (g.K.Keeper.untouched _ _ _ c.answer_round.ensures.keeps.disk c.answer_round.ensures.keeps.disk_faults))

@@ -1,4 +1,5 @@
-use Rattle.std.proofs.Common.{◌∙◌}
+use Rattle.std.proofs.Common.{◌∙◌, ap}
+use Rattle.engine_core.specs.declared.session.Session.{Session}
 use Rattle.recovery_core.proofs.Recovering.{answered_on}
 use Rattle.live_core.proofs.Restoring.{unbegun, unread, restored}
 use Rattle.live_core.proofs.start.restore.Goals as goal
@@ -18,3 +19,6 @@ pub returns-clause-restored : goal.returns-clause-restored
 returns-clause-restored g c =
     restored c.args.workers c.args.from c.begin.ensures.keeps c.in_ok-recovery.ensures.none c.in_ok-recovery.ensures.recovers c.recover.ensures.keeps c.recover.ensures.moments
     c.in_ok-recover.ensures.recovers c.in_ok-recover.ensures.alone c.in_ok-recover.ensures.closed c.finish.result c.requires.room.round c.finish.ensures c.in_ok-recover.ensures.reading c.in_ok-recover.ensures.none
+
+pub returns-clause-frames : goal.returns-clause-frames
+returns-clause-frames g c = ap (λ (s : Session). s.round.most) c.finish.ensures.session

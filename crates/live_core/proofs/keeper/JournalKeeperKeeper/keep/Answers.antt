@@ -31,7 +31,7 @@ returns-in_err-append-clause-touches g c =
 
 pub returns-clause-touches : goal.returns-clause-touches
 returns-clause-touches g c =
-    extends_by _ _ c.args.self.now.journal c.refill.new.batch c.append.ensures.keeps.continues.storing c.requires.room.of_disk c.in_ok-append.ensures.valid c.in_ok-append.ensures.written
+    extends_by _ _ _ c.args.self.now.journal c.refill.new.batch (omega (arith, ap length c.refill.ensures)) c.append.ensures.keeps.continues.storing c.requires.room.of_disk c.in_ok-append.ensures.valid c.in_ok-append.ensures.written
 
 pub returns-clause-before : goal.returns-clause-before
 returns-clause-before g c =
