@@ -31,7 +31,7 @@ abbrev pub Ran : Type 0 → Command → status.Status → Outside → Outside �
 Ran unbegun (Format limit) status old new = Formatted limit status old new
 Ran unbegun (Serve from workers batch bytes) status old new = Served unbegun workers from batch bytes status old new
 Ran unbegun (Replay workers bytes) status old new = Replayed unbegun workers bytes status old new
-Ran unbegun Status status old new = Reported status old new
+Ran unbegun Status status old new = Reported unbegun status old new
 Ran unbegun (Print kind) status old new = Printed unbegun kind status old new
 Ran unbegun (Pack kind) status old new = Packed unbegun kind status old new
 Ran unbegun (Generate seed symbols records workers summary) status old new = Generates (record { seed = seed; symbols = symbols; records = records }) summary status old new

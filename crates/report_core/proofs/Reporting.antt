@@ -1,5 +1,5 @@
 -- Telling what a journal holds, from its parts.
-use Rattle.std.proofs.Common.{◌≡◌, inl, ℕ, List, [], ◌∷◌, ◌++◌, refl, sym, ap, subst, ◌∙◌, arith}
+use Rattle.std.proofs.Common.{◌≡◌, ◌⊎◌, inl, inr, ⊎_elim, ℕ, List, [], ◌∷◌, ◌++◌, refl, sym, ap, subst, ◌∙◌, arith}
 use Rattle.std.specs.Prelude.{Option, Some, None, IsTrue}
 use Rattle.std.specs.Io.KnownBytes.{append_known}
 use Rattle.std.proofs.lemmas.List.{append-nil}
@@ -7,7 +7,7 @@ use Rattle.host_core.specs.declared.status.Status.{Status}
 use Rattle.host_core.specs.declared.status.Status.TheVariants.{Done, SendFault, DiskFault, Damaged, NoJournal, NoMemory}
 use Rattle.host_core.specs.Outside.{Outside, Agrees, MayLeave, Elapses, NoFault, Sends}
 use Rattle.host_core.specs.Frames.{OnlyReadsDisk, OnlySends}
-use Rattle.host_core.proofs.Moments.{widened, ended, nothing}
+use Rattle.host_core.proofs.Moments.{widened, ended}
 use Rattle.host_core.proofs.Causes.{faultless, no_fault}
 use Rattle.host_core.proofs.Known.{append_known-nil}
 use Rattle.wire_in.specs.declared.record.Record.{Record}
@@ -22,7 +22,8 @@ use Rattle.recovery_core.specs.declared.recovery.Recovery.{Recovery}
 use Rattle.recovery_core.specs.Damage.{IsDamagedAt}
 use Rattle.recovery_core.specs.Ends.{TellsNoJournal, TellsDamage}
 use Rattle.evaluator_core.specs.Evaluating.{workers_of}
-use Rattle.recovery_core.specs.Recoveries.{again, SendsAgain, StarvesAgain, Recovers, OnlyRecovers, HasDamage, Hinders}
+use Rattle.recovery_core.specs.Starved.{StarvedAtRecord}
+use Rattle.recovery_core.specs.Recoveries.{again, Covers, SendsAgain, StarvesAgain, Recovers, OnlyRecovers, HasDamage, Hinders}
 use Rattle.report_core.specs.InternalReport.{Tells, IsTold, IsGathered, IsUngathered}
 use Rattle.report_core.specs.Reported.{Reported, IsHeld, IsReport, report_of}
 use Rattle.recovery_core.proofs.OneDamage.{covers_held, covers_damaged, one_damage, lawful_undamaged}
@@ -38,13 +39,14 @@ reads_still {old} reads disk all covers = widened reads.moments (SendsPrefix old
 
 -- no journal was begun
 pub ungathered_at_once : (here : Type 0) (status : Status) {old mid : Outside} → OnlyReadsDisk old mid → TellsNoJournal status
-    → Hinders (λ at. ⊥) ((disk : List ℕ) → mid.disk ≡ Some disk → HasNoHeader disk) here status old mid → IsUngathered status old mid
+    → Hinders (λ at. ⊥) ((disk : List ℕ) → mid.disk ≡ Some disk → HasNoHeader disk) here status old mid → IsUngathered here status old mid
 ungathered_at_once here status {old} {mid} reads tells why = record {
   moments = λ disk known. reads_still reads disk;
   no_header = λ disk known none. tells;
+  no_header_starved = λ disk known none is. (why_at _ _ _ old mid NoMemory is why).1;
   unsent = λ is. reads.sent;
   keeps = only_read reads;
-  hinders = hinders_on _ _ (no_fault old) (λ at none. absurd none) (λ missing disk known. missing disk (reads.disk ∙ known)) (λ before. tt) why;
+  hinders = hinders_on _ _ (no_fault old) (λ at none. absurd none) (λ missing disk known. missing disk (reads.disk ∙ known)) (λ before. inl before) why;
 }
 
 -- A journal was begun, and then read.
@@ -58,15 +60,17 @@ module _ {old mid new : Outside} {recovery : Recovery} (reads : OnlyReadsDisk ol
   all_moments disk known all covers = sends_then (reads_still reads disk all covers) (moments old.sent disk (begun_at disk known) all covers)
 
   -- but not to its end
-  pub ungathered : (status : Status) → ((disk : List ℕ) → mid.disk ≡ Some disk → ¬ HasNoHeader disk)
+  pub ungathered : (here : Type 0) (status : Status) → workers_of recovery.engine.evaluator ≡ 1 → ((disk : List ℕ) → mid.disk ≡ Some disk → ¬ HasNoHeader disk)
       → Hinders (λ at. (begin : Option (List ℕ)) (disk : List ℕ) → Recovers (again None) begin disk recovery mid → HasDamage at disk) ⊥
-      ((begin : Option (List ℕ)) (disk : List ℕ) → Recovers (again None) begin disk recovery mid → StarvesAgain (workers_of recovery.engine.evaluator) None begin disk new) status mid new → IsUngathered status old new
-  ungathered status header why = record {
+      ((begin : Option (List ℕ)) (disk : List ℕ) → Recovers (again None) begin disk recovery mid → StarvesAgain (workers_of recovery.engine.evaluator) None begin disk new) status mid new → IsUngathered here status old new
+  ungathered here status alone header why = record {
     moments = all_moments;
     no_header = λ disk known missing. absurd (header disk (reads.disk ∙ known) missing);
+    no_header_starved = λ disk known missing is. absurd (header disk (reads.disk ∙ known) missing);
     unsent = λ is. absurd (why_at _ _ _ mid new NoJournal is why).1;
     keeps = recovers_on (only_read reads) keeps;
-    hinders = hinders_on _ _ none (λ at there disk known. there old.sent disk (begun_at disk known)) (λ missing. absurd missing) (λ hungry. tt) why;
+    hinders = hinders_on _ _ none (λ at there disk known. there old.sent disk (begun_at disk known)) (λ missing. absurd missing)
+        (λ hungry. inr (λ disk known. subst (λ (n : ℕ). StarvesAgain n None old.sent disk new) alone (hungry old.sent disk (begun_at disk known)))) why;
   }
 
   -- to its end
@@ -102,7 +106,7 @@ module _ {old mid new : Outside} {recovery : Recovery} (reads : OnlyReadsDisk ol
     }
 
 -- The whole command.
-module _ (status : Status) (old new : Outside) (sent_now : (image bytes : List ℕ) → new.leaves new.moment image bytes → Agrees new.sent bytes)
+module _ (here : Type 0) (status : Status) (old new : Outside) (sent_now : (image bytes : List ℕ) → new.leaves new.moment image bytes → Agrees new.sent bytes)
     (stops_now : (sent : List ℕ) → new.sent ≡ Some sent → (image : List ℕ) × MayLeave new image) (keeps : OnlyRecovers old new) where
   -- what was sent at the end is a prefix of what may be sent at each stop
   part_of : (text : List ℕ) → Elapses old new (SendsPrefix old.sent text old) → SentPrefix old.sent new.sent text
@@ -121,15 +125,17 @@ module _ (status : Status) (old new : Outside) (sent_now : (image bytes : List �
   kind_by damaged missing starved s why = grind arith
 
   -- it was not read to its end
-  pub unread_reported : IsUngathered status old new → Reported status old new
+  pub unread_reported : IsUngathered here status old new → Reported here status old new
   unread_reported u = record {
     exact = λ capacity held h is. absurd (at Done is);
     sound = λ disk known is. absurd (at Done is);
     moments = moments;
     part = λ capacity held h. part_of (report_of capacity held) (moments capacity held h);
+    short = λ capacity held h is. starved_in h.disk h.known held (covers_held h.holds) is;
     starved = λ capacity held h short. nothing_sent (u.moments h.disk h.known held (covers_held h.holds));
     no_journal = λ is. (at NoJournal is).1;
     no_header = u.no_header;
+    no_header_starved = u.no_header_starved;
     unsent = u.unsent;
     damaged = λ offset is. (at (Damaged offset) is).1;
     undamaged = λ capacity held h offset is. lawful_undamaged ((at (Damaged offset) is).1 h.disk h.known).2 h.holds h.lawful;
@@ -137,6 +143,7 @@ module _ (status : Status) (old new : Outside) (sent_now : (image bytes : List �
     damage_is_unsent = λ offset disk is known.
         let damage = (at (Damaged offset) is).1 disk known in
         nothing_sent (u.moments disk known damage.1 (covers_damaged damage.2));
+    damage_short = λ capacity offset before disk known damage is. starved_in disk known before (covers_damaged damage) is;
     damage_starved = λ capacity offset before disk known damage short. nothing_sent (u.moments disk known before (covers_damaged damage));
     disk = keeps.disk;
     input = keeps.input;
@@ -148,14 +155,20 @@ module _ (status : Status) (old new : Outside) (sent_now : (image bytes : List �
     continues = keeps.continues;
   }
     where
-      at : (s : Status) → status ≡ s → Hinders (λ at. (disk : List ℕ) → old.disk ≡ Some disk → HasDamage at disk) ((disk : List ℕ) → old.disk ≡ Some disk → HasNoHeader disk) (Unit {0}) s old new
+      at : (s : Status) → status ≡ s → Hinders (λ at. (disk : List ℕ) → old.disk ≡ Some disk → HasDamage at disk) ((disk : List ℕ) → old.disk ≡ Some disk → HasNoHeader disk)
+          (here ⊎ ((disk : List ℕ) → old.disk ≡ Some disk → StarvesAgain 1 None old.sent disk new)) s old new
       at s is = why_at _ _ _ old new s is u.hinders
+
+      -- in each list that covers the disk
+      starved_in : (disk : List ℕ) → old.disk ≡ Some disk → (all : List Record) → Covers disk all → status ≡ NoMemory → here ⊎ StarvedAtRecord 1 None all old.sent new.sent
+      starved_in disk known all covers is = ⊎_elim (λ now. inl now) (λ hungry. inr (hungry disk known all covers)) (at NoMemory is).1
 
       moments : (capacity : ℕ) (held : List Record) → IsHeld capacity held old → Elapses old new (SendsPrefix old.sent (report_of capacity held) old)
       moments capacity held h = sends_longer [] (report_of capacity held) (report_of capacity held) refl (u.moments h.disk h.known held (covers_held h.holds))
 
       tells : {capacity offset : ℕ} {before : List Record} (disk : List ℕ) → old.disk ≡ Some disk → IsDamagedAt capacity offset before disk → ¬ HasNoHeader disk
-          → (s : Status) → Hinders (λ at. (disk : List ℕ) → old.disk ≡ Some disk → HasDamage at disk) ((disk : List ℕ) → old.disk ≡ Some disk → HasNoHeader disk) (Unit {0}) s old new → TellsDamage offset s
+          → (s : Status) → Hinders (λ at. (disk : List ℕ) → old.disk ≡ Some disk → HasDamage at disk) ((disk : List ℕ) → old.disk ≡ Some disk → HasNoHeader disk)
+          (here ⊎ ((disk : List ℕ) → old.disk ≡ Some disk → StarvesAgain 1 None old.sent disk new)) s old new → TellsDamage offset s
       tells disk known damage has (Damaged other) why = inl (ap (λ k. Damaged k) (one_damage (why.1 disk known).2 damage))
       tells disk known damage has NoJournal why = absurd (has (why.1 disk known))
       tells disk known damage has s why = grind arith
@@ -177,29 +190,32 @@ module _ (status : Status) (old new : Outside) (sent_now : (image bytes : List �
         sends_on (sends_longer [] text text refl (gathered.moments h.disk h.known held (covers_held h.holds))) text [] (append-nil text)
         (subst (λ b. Elapses mid new (SendsPrefix b text mid)) (gathered.unsent capacity held h) (tells_held capacity held h).moments)
 
-    pub told_reported : Reported status old new
+    pub told_reported : Reported here status old new
     told_reported = record {
       exact = λ capacity held h is.
           (tells_held capacity held h).done is ∙ ap (λ b. append_known b (report_of capacity held)) (gathered.unsent capacity held h);
       sound = λ disk known is. gathered.sound disk known;
       moments = run;
       part = λ capacity held h. part_of (report_of capacity held) (run capacity held h);
-      starved = λ capacity held h short. (told_at NoMemory short).1 ∙ gathered.unsent capacity held h;
+      short = λ capacity held h is. absurd (told_at NoMemory is);
+      starved = λ capacity held h is. absurd (told_at NoMemory is);
       no_journal = λ is. absurd (told_at NoJournal is);
       no_header = λ disk known missing.
           let held = gathered.sound disk known in absurd (headed disk known held.2 missing);
+      no_header_starved = λ disk known missing is. absurd (told_at NoMemory is);
       unsent = λ is. absurd (told_at NoJournal is);
       damaged = λ offset is. absurd (told_at (Damaged offset) is);
       undamaged = λ capacity held h offset is. absurd (told_at (Damaged offset) is);
       damage_is_told = λ capacity offset before disk known damage has. absurd (undamaged disk known damage);
       damage_is_unsent = λ offset disk is known. absurd (told_at (Damaged offset) is);
-      damage_starved = λ capacity offset before disk known damage short. absurd (undamaged disk known damage);
+      damage_short = λ capacity offset before disk known damage is. absurd (told_at NoMemory is);
+      damage_starved = λ capacity offset before disk known damage is. absurd (told_at NoMemory is);
       disk = keeps.disk;
       input = keeps.input;
       asks = keeps.asks;
       send_cause = λ is. rw (gathered.none.sending) at (told_at SendFault is);
       disk_cause = λ is. absurd (told_at DiskFault is);
-      memory = λ is. faultless gathered.none (told_at NoMemory is).0;
+      memory = λ is. absurd (told_at NoMemory is);
       kind = told_kind status told;
       continues = keeps.continues;
     }
@@ -219,10 +235,6 @@ module _ (status : Status) (old new : Outside) (sent_now : (image bytes : List �
         told_kind s t = grind arith
 
 -- The parts of the sending.
-
--- nothing of a text was sent
-pub untold : (now : Outside) → ((image bytes : List ℕ) → now.leaves now.moment image bytes → Agrees now.sent bytes) → (text : List ℕ) → Tells text NoMemory now now
-untold now sent_now text = record { done = λ is. cc is; moments = widened (nothing now sent_now) (SendsPrefix now.sent text now) (sends_none text now) }
 
 -- a piece that is this text was sent
 module _ {old new : Outside} (piece text : List ℕ) (same : piece ≡ text) (run : Elapses old new (Sends piece old)) where

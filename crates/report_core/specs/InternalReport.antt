@@ -1,5 +1,5 @@
 -- The parts of telling what a journal holds.
-use Rattle.std.specs.Prelude.{◌≡◌, ℕ, List, Some, None}
+use Rattle.std.specs.Prelude.{◌≡◌, ◌⊎◌, ℕ, List, Some, None}
 use Rattle.std.specs.Io.KnownBytes.{append_known}
 use Rattle.host_core.specs.declared.status.Status.{Status}
 use Rattle.host_core.specs.declared.status.Status.TheVariants.{Done, SendFault, NoJournal, NoMemory}
@@ -9,7 +9,7 @@ use Rattle.journal_core.specs.Scan.{HasNoHeader}
 use Rattle.engine_core.specs.EngineState.{Represents}
 use Rattle.stream_core.specs.Pending.{SendsPrefix}
 use Rattle.recovery_core.specs.Ends.{TellsNoJournal}
-use Rattle.recovery_core.specs.Recoveries.{HasDamage, Hinders, OnlyRecovers, SendsAgain}
+use Rattle.recovery_core.specs.Recoveries.{HasDamage, Hinders, OnlyRecovers, SendsAgain, StarvesAgain}
 use Rattle.report_core.specs.Reported.{IsHeld}
 use Rattle.recovery_core.specs.declared.recovery.Recovery.{Recovery}
 
@@ -18,11 +18,10 @@ pub record Tells (text : List ℕ) (status : Status) (old new : Outside) : Type 
   pub done : status ≡ Done → new.sent ≡ append_known old.sent text
   pub moments : Elapses old new (SendsPrefix old.sent text old)
 
--- how the sending ended; where memory was short for the text, nothing was sent
+-- how the sending ended: no memory was needed for it
 abbrev pub IsTold : Status → Outside → Outside → Type 0
 IsTold Done old new = Unit {0}
 IsTold SendFault old new = Rose old.send_faults new.send_faults
-IsTold NoMemory old new = NoFault old new × (new.sent ≡ old.sent)
 IsTold status old new = ⊥
 
 -- a journal was read to its end: what was read is the lawful list that the disk held, and nothing was sent
@@ -35,10 +34,13 @@ pub record IsGathered (recovery : Recovery) (old new : Outside) : Type 0 where
   pub keeps : OnlyRecovers old new
   pub none : NoFault old new
 
--- a journal was not read to its end, for this reason, and nothing was sent
-pub record IsUngathered (status : Status) (old new : Outside) : Type 0 where
+-- A journal was not read to its end, for this reason, and nothing was sent. Memory was short before the first call of the host,
+-- or at a record.
+pub record IsUngathered (unbegun : Type 0) (status : Status) (old new : Outside) : Type 0 where
   pub moments : (disk : List ℕ) → old.disk ≡ Some disk → SendsAgain None old.sent disk old new
   pub no_header : (disk : List ℕ) → old.disk ≡ Some disk → HasNoHeader disk → TellsNoJournal status
+  pub no_header_starved : (disk : List ℕ) → old.disk ≡ Some disk → HasNoHeader disk → status ≡ NoMemory → unbegun
   pub unsent : status ≡ NoJournal → new.sent ≡ old.sent
   pub keeps : OnlyRecovers old new
-  pub hinders : Hinders (λ at. (disk : List ℕ) → old.disk ≡ Some disk → HasDamage at disk) ((disk : List ℕ) → old.disk ≡ Some disk → HasNoHeader disk) (Unit {0}) status old new
+  pub hinders : Hinders (λ at. (disk : List ℕ) → old.disk ≡ Some disk → HasDamage at disk) ((disk : List ℕ) → old.disk ≡ Some disk → HasNoHeader disk)
+      (unbegun ⊎ ((disk : List ℕ) → old.disk ≡ Some disk → StarvesAgain 1 None old.sent disk new)) status old new

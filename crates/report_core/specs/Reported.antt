@@ -1,5 +1,5 @@
 -- What a journal holds, told in five lines, and what the command that tells it did, whatever its answer.
-use Rattle.std.specs.Prelude.{◌≡◌, ◌≢◌, ℕ, List, [], ◌∷◌, ◌++◌, length, Option, Some, None, codes, decimal}
+use Rattle.std.specs.Prelude.{◌≡◌, ◌≢◌, ◌⊎◌, ℕ, List, [], ◌∷◌, ◌++◌, length, Option, Some, None, codes, decimal}
 use Rattle.std.specs.Io.KnownBytes.{append_known}
 use Rattle.host_core.specs.declared.status.Status.{Status}
 use Rattle.host_core.specs.declared.status.Status.TheVariants.{Done, SendFault, DiskFault, Damaged, NoJournal, NoMemory}
@@ -13,6 +13,7 @@ use Rattle.rulebook.specs.Admission.{IsLawful, last_day, names}
 use Rattle.rulebook.specs.Book.{messages_of}
 use Rattle.stream_core.specs.Pending.{SendsPrefix, SentPrefix}
 use Rattle.recovery_core.specs.Damage.{IsDamagedAt}
+use Rattle.recovery_core.specs.Starved.{StarvedAtRecord}
 use Rattle.recovery_core.specs.Ends.{TellsNoJournal, TellsDamage}
 
 -- a word and a value, with a blank between them, and a newline (10)
@@ -51,19 +52,21 @@ IsReport NoJournal = Unit {0}
 IsReport NoMemory = Unit {0}
 IsReport _ = ⊥
 
--- a journal was told of
-pub record Reported (status : Status) (old new : Outside) : Type 0 where
+-- a journal was told of; what says that no call of the host was made is given
+pub record Reported (unbegun : Type 0) (status : Status) (old new : Outside) : Type 0 where
   -- where all went well, exactly the five lines were sent, and the disk held a lawful list
   pub exact : (capacity : ℕ) (held : List Record) → IsHeld capacity held old → status ≡ Done → new.sent ≡ append_known old.sent (report_of capacity held)
   pub sound : (disk : List ℕ) → old.disk ≡ Some disk → status ≡ Done → (capacity : ℕ) × (held : List Record) × IsHeld capacity held old
   -- whenever the run is stopped, and at its end, a prefix of them was sent, and what the disk may be left with is as before
   pub moments : (capacity : ℕ) (held : List Record) → IsHeld capacity held old → Elapses old new (SendsPrefix old.sent (report_of capacity held) old)
   pub part : (capacity : ℕ) (held : List Record) → IsHeld capacity held old → SentPrefix old.sent new.sent (report_of capacity held)
-  -- where memory is short, before the first call of the host, at a record or for the lines, nothing was sent
+  -- memory is short only before the first call of the host, or at a Listing or a Trade of the journal, and nothing was sent
+  pub short : (capacity : ℕ) (held : List Record) → IsHeld capacity held old → status ≡ NoMemory → unbegun ⊎ StarvedAtRecord 1 None held old.sent new.sent
   pub starved : (capacity : ℕ) (held : List Record) → IsHeld capacity held old → status ≡ NoMemory → new.sent ≡ old.sent
   -- where no header stands it is told, unless the disk fails or memory is short, and nothing is sent
   pub no_journal : status ≡ NoJournal → (disk : List ℕ) → old.disk ≡ Some disk → HasNoHeader disk
   pub no_header : (disk : List ℕ) → old.disk ≡ Some disk → HasNoHeader disk → TellsNoJournal status
+  pub no_header_starved : (disk : List ℕ) → old.disk ≡ Some disk → HasNoHeader disk → status ≡ NoMemory → unbegun
   pub unsent : status ≡ NoJournal → new.sent ≡ old.sent
   -- damage is told at the gate of the first batch that has no form or holds a record that may not follow, never of a lawful
   -- list, and nothing is sent
@@ -71,6 +74,7 @@ pub record Reported (status : Status) (old new : Outside) : Type 0 where
   pub undamaged : (capacity : ℕ) (held : List Record) → IsHeld capacity held old → (at : ℕ) → status ≢ Damaged at
   pub damage_is_told : (capacity at : ℕ) (before : List Record) (disk : List ℕ) → old.disk ≡ Some disk → IsDamagedAt capacity at before disk → ¬ HasNoHeader disk → TellsDamage at status
   pub damage_is_unsent : (at : ℕ) (disk : List ℕ) → status ≡ Damaged at → old.disk ≡ Some disk → new.sent ≡ old.sent
+  pub damage_short : (capacity at : ℕ) (before : List Record) (disk : List ℕ) → old.disk ≡ Some disk → IsDamagedAt capacity at before disk → status ≡ NoMemory → unbegun ⊎ StarvedAtRecord 1 None before old.sent new.sent
   pub damage_starved : (capacity at : ℕ) (before : List Record) (disk : List ℕ) → old.disk ≡ Some disk → IsDamagedAt capacity at before disk → status ≡ NoMemory → new.sent ≡ old.sent
   -- whatever the answer, nothing is written, and no input is read
   pub disk : new.disk ≡ old.disk

@@ -11,7 +11,7 @@ pub returns-in_err-read-clause-ungathered : goal.returns-in_err-read-clause-unga
 returns-in_err-read-clause-ungathered g c =
     answered_on _ c.from_residual-in_err-read.result c.from_residual-in_err-read.ensures.1
     (ungathered c.begin.ensures.keeps c.in_ok-recovery.ensures.none c.in_ok-recovery.ensures.recovers c.read.ensures.keeps c.read.ensures.moments
-    _ c.in_ok-recovery.ensures.header c.in_err-read.ensures.hindered)
+    _ _ c.in_ok-recovery.ensures.workers c.in_ok-recovery.ensures.header c.in_err-read.ensures.hindered)
 
 pub returns-clause-gathered : goal.returns-clause-gathered
 returns-clause-gathered g c =

@@ -11,17 +11,17 @@ pub returns-in_default : goal.returns-in_default
 returns-in_default g c =
     let now = g.H.Host.outside c.args.host.now in
     let reads = reads_nothing now (g.met.H.Host.sent_now c.args.host.now) in
-    unread_reported NoMemory now now (g.met.H.Host.sent_now c.args.host.now) (g.met.H.Host.stops_now c.args.host.now) (only_read reads)
-    (ungathered_at_once (Unit {0}) NoMemory reads (inr (inr refl)) (no_fault now, tt))
+    unread_reported _ NoMemory now now (g.met.H.Host.sent_now c.args.host.now) (g.met.H.Host.stops_now c.args.host.now) (only_read reads)
+    (ungathered_at_once _ NoMemory reads (inr (inr refl)) (no_fault now, refl))
 
 -- it was read to its end
 pub returns-in-Ok-gather : goal.returns-in-Ok-gather
 returns-in-Ok-gather g c =
-    told_reported _ _ _ (g.met.H.Host.sent_now c.tell.new.host) (g.met.H.Host.stops_now c.tell.new.host)
+    told_reported _ _ _ _ (g.met.H.Host.sent_now c.tell.new.host) (g.met.H.Host.stops_now c.tell.new.host)
     (recovers_on c.in-Ok-gather.ensures.gathered.keeps (only_sent c.tell.ensures.keeps))
     c.in-Ok-gather.recovery c.in-Ok-gather.ensures.gathered c.tell.ensures.keeps c.tell.ensures.ends c.tell.ensures.tells
 
 -- it was not
-pub returns-in-Err : goal.returns-in-Err
-returns-in-Err g c =
-    unread_reported _ _ _ (g.met.H.Host.sent_now c.gather.new.host) (g.met.H.Host.stops_now c.gather.new.host) c.in-Err.ensures.ungathered.keeps c.in-Err.ensures.ungathered
+pub returns : goal.returns
+returns g c =
+    unread_reported _ _ _ _ (g.met.H.Host.sent_now c.gather.new.host) (g.met.H.Host.stops_now c.gather.new.host) c.in-Err.ensures.ungathered.keeps c.in-Err.ensures.ungathered
