@@ -1,6 +1,6 @@
 //! The top call: what the words ask for, done over a reader and a sink.
 
-ghost use Rattle.std.specs.Prelude.{◌≡◌, List, Option, IfOk, IfErr, IfSome, map};
+ghost use Rattle.std.specs.Prelude.{◌≡◌, List, Option, IfOk, IfErr, OnOk, IfSome, map};
 ghost use Rattle.std.specs.String.{string_bytes};
 ghost use Rattle.wire_out.specs.declared.message.Stamped.{Stamped};
 ghost use Rattle.picture_core.specs.declared.words.Command.{Command};
