@@ -11,7 +11,20 @@ use std::rt::Files;
 use std::thread::Threads;
 use yard_core::OpenGate;
 
-/// Does what the words of this process say, over the standard streams.
+/// Does what these words say, over the standard streams and the files of the system.
+fn perform_words<Rt: Input + Print + Files + AllocGlobal + Threads + Sync>(
+    rt: &Rt,
+    args: &[&str],
+) -> Status
+where
+    Rt::File: FileExt + Held,
+{
+    let (input, output) = (Stream::new(rt.reader()), Stream::new(io::writer(rt)));
+    let mut host = host_of(args, input, output, SystemFiles::new(rt));
+    perform(rt, rt.alloc(), args, &mut host, &OpenGate)
+}
+
+/// Does what the words of this process say.
 fn perform_here<Rt: Env + Input + Print + Files + AllocGlobal + Threads + Sync>(
     rt: &Rt,
 ) -> io::Result<Status>
@@ -27,9 +40,7 @@ where
     for word in &words {
         args.push(word.as_str())?;
     }
-    let (input, output) = (Stream::new(rt.reader()), Stream::new(io::writer(rt)));
-    let mut host = host_of(&args, input, output, SystemFiles::new(rt));
-    Ok(perform(rt, alloc, &args, &mut host, &OpenGate))
+    Ok(perform_words(rt, &args))
 }
 
 fn main(rt: HostRuntime) -> ExitCode {

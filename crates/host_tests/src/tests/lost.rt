@@ -21,7 +21,8 @@ impl RawFile for LostFile {
     }
 
     fn read_at(&mut self, at: u64, into: &mut [u8]) -> io::Result<usize> {
-        let _ = (at, into);
+        let _ = at;
+        let _ = into;
         Ok(0)
     }
 
