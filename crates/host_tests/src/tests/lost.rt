@@ -53,6 +53,7 @@ impl RawFile for LostFile {
 struct LostFiles;
 
 impl Opens for LostFiles {
+    ghost use Rattle.std.specs.Prelude.{false};
     ghost use Rattle.host_core.specs.Files.{untold};
 
     type File = LostFile;
