@@ -8,7 +8,9 @@ ghost use Rattle.window_core.specs.WindowState.{Represents};
 
 use crate::bounds::PriceBounds;
 use crate::leaving::{FEW, few_move_from, many_move_from};
-use crate::queue::{first, keep_live, later, make_room, push_deal, remove, stays_ordered, total_of};
+use crate::queue::{
+    first, keep_live, later, make_room, push_deal, remove, stays_ordered, total_of,
+};
 use crate::tally::Tally;
 use price_core::{NoMemory, Price};
 use session_core::{FIVE_MINUTES, Moment, midnight};
