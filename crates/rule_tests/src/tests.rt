@@ -1,3 +1,4 @@
+mod audit;
 mod breaker;
 mod eligible;
 mod limit;
