@@ -1,15 +1,15 @@
 -- The parts of a base at their offsets.
-use Rattle.std.proofs.Common.{◌≡◌, ℕ, ◌+◌, ◌*◌, ◌^◌, ◌<◌, ◌≤◌, true, List, [], ◌∷◌, ◌++◌, length, take, drop, get_or, refl, sym, ◌∙◌, ap, subst, true≢false, arith, length-append}
-use Rattle.std.specs.Prelude.{All}
+use Rattle.std.proofs.Common.{◌≡◌, ℕ, ◌+◌, ◌*◌, ◌^◌, ◌<◌, true, List, [], ◌++◌, length, take, drop, get_or, refl, sym, ◌∙◌, ap, subst, true≢false, arith, length-append}
+use Rattle.std.specs.Prelude.{All, Bool, IsTrue, ◌↔◌, Option, Some, None, is_some}
 use Rattle.std.specs.List.{flat_map}
 use Rattle.std.specs.Int.{w16, w64, to_be_bytes, from_be_bytes}
-use Rattle.std.proofs.lemmas.List.{take_at, drop_at, drop-drop, length-drop}
+use Rattle.std.proofs.lemmas.List.{drop_at, drop-drop, length-drop}
 use Rattle.wire_core.specs.Fields.{number}
 use Rattle.wire_core.specs.Frames.{framed}
 use Rattle.wire_core.proofs.Cells.{IsBytes, wide16, wide64, cell, byte_cell, text_cell, number_below}
 use Rattle.wire_in.specs.declared.base.Base.{Base}
 use Rattle.wire_in.specs.declared.record.Record.{Record}
-use Rattle.wire_in.specs.Bases.{HasDay, HasForm, HasNames, IsInRange, SpellsBase, base_bytes}
+use Rattle.wire_in.specs.Bases.{AreNew, HasDay, HasForm, HasNames, IsInRange, IsNearlyInRange, SpellsBase}
 use Rattle.wire_in.specs.Records.{is_day}
 use Rattle.wire_in.specs.Spelling.{body_of}
 use Rattle.wire_in.proofs.OneBase.{IsEight, IsId, behind_day, form_is_alone, has_form, ids-length, named_of, names-length, tail_of}
@@ -103,3 +103,35 @@ is_spelled body b c f s = form_is_alone body b c f (has_form body c s)
 
 pub none_spelled : (body : List ℕ) (b : Base) → HasForm body b → ¬ IsInRange b → (c : Base) → ¬ SpellsBase body c
 none_spelled body b f outside c s = outside (subst IsInRange (sym (is_spelled body b c f s)) s.ranges)
+
+-- what the parts of a body say where it spells a base
+pub no_names : (body : List ℕ) (o : Option ℕ) → o ≡ None → ((n : ℕ) → HasNames n body → o ≡ Some n) → (b : Base) → ¬ SpellsBase body b
+no_names body o none only b s = true≢false (sym (ap is_some (only (length b.names) (names_there (has_form body b s)))) ∙ ap is_some none)
+
+pub no_day : (body : List ℕ) (o : Option Record) → o ≡ None → ((x : Record) → HasDay x body → o ≡ Some x) → (b : Base) → ¬ SpellsBase body b
+no_day body o none only b s = true≢false (sym (ap is_some (only b.day (day_there (has_form body b s)))) ∙ ap is_some none)
+
+-- the ranges of a base by parts
+pub in_range_by : (b : Base) (r : Bool) → is_day b.day ≡ true → IsNearlyInRange b → IsTrue r ↔ AreNew [] b.names → IsTrue r ↔ IsInRange b
+in_range_by b r begins nearly new = (
+  λ holds. record {
+    some = nearly.few.some;
+    records_are = nearly.few.records_are;
+    messages_are = nearly.few.messages_are;
+    begins = begins;
+    few = nearly.few.few;
+    different = new.0 holds;
+    are_names = nearly.are_names;
+    rising = nearly.rising;
+    below = nearly.below;
+  },
+  λ ranges. new.1 ranges.different,
+)
+
+pub nearly_in_range : (b : Base) → IsInRange b → IsNearlyInRange b
+nearly_in_range b r = record {
+  few = record { some = r.some; records_are = r.records_are; messages_are = r.messages_are; few = r.few };
+  are_names = r.are_names;
+  rising = r.rising;
+  below = r.below;
+}

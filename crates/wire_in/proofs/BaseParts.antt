@@ -1,10 +1,9 @@
 -- Names and ids, one after the other.
-use Rattle.std.proofs.Common.{◌≡◌, ◌⊎◌, ℕ, suc, ◌+◌, ◌*◌, ◌^◌, ◌<◌, ◌≤◌, Bool, true, false, not, cond, List, [], ◌∷◌, ◌++◌, length, take, drop, get_or, refl, sym, ◌∙◌, ap, subst, true≢false, arith, append_assoc, length-append}
-use Rattle.std.specs.Prelude.{All, IsTrue, IsSome, Option, Some, None, is_none, ◌↔◌, ◌&&◌, ◌||◌, nat_lt, nat_le}
+use Rattle.std.proofs.Common.{◌≡◌, ◌⊎◌, ℕ, ◌+◌, ◌<◌, ◌≤◌, Bool, true, false, not, List, [], ◌∷◌, ◌++◌, length, take, drop, get_or, refl, sym, ◌∙◌, ap, subst, true≢false, arith}
+use Rattle.std.specs.Prelude.{All, IsTrue, IsSome, Option, is_some, ◌↔◌, ◌&&◌, if◌then◌else◌, nat_lt, nat_le}
 use Rattle.std.specs.List.{flat_map, list_any}
 use Rattle.std.specs.Int.{w16, to_be_bytes}
 use Rattle.std.specs.Str.{bytes_eq}
-use Rattle.std.proofs.lemmas.Bool.{cases_lt}
 use Rattle.std.proofs.lemmas.Bool.Decides.{nat_tests}
 use Rattle.std.proofs.lemmas.Grind.{flat_map-append}
 use Rattle.std.proofs.lemmas.List.{append-nil, take-append-drop, take-take, drop-take, length-take, length-drop, take_all, take_more, at_drop_more}
@@ -69,12 +68,30 @@ if-new before (name ∷ later) new = (λ i. not (new.0 i) && are_new (before ++ 
 pub new_decides : (r : Bool) (names : List (List ℕ)) → r ≡ are_new [] names → IsTrue r ↔ AreNew [] names
 new_decides r names e = (λ holds. new-if [] names (sym e ∙ holds), λ new. e ∙ if-new [] names new)
 
-pub new_step : (names : List (List ℕ)) (i : ℕ) (x : List ℕ) → i < length names → x ≡ get_or names i x
-    → are_new (take i names) (drop i names) ≡ (not (list_any (bytes_eq x) (take i names)) && are_new (take (i + 1) names) (drop (i + 1) names))
-new_step names i x lt is =
-    at_drop_more (are_new (take i names)) names i x lt
-    ∙ ap (λ (y : List ℕ). are_new (take i names) (y ∷ drop (i + 1) names)) (sym is)
-    ∙ ap (λ (t : List (List ℕ)). not (list_any (bytes_eq x) (take i names)) && are_new t (drop (i + 1) names)) (sym (take_more names i x lt ∙ ap (λ (y : List ℕ). take i names ++ y ∷ []) (sym is)))
+new_step : (names : List (List ℕ)) (i : ℕ) → i < length names
+    → are_new (take i names) (drop i names) ≡ (not (list_any (bytes_eq (get_or names i [])) (take i names)) && are_new (take (i + 1) names) (drop (i + 1) names))
+new_step names i lt =
+    at_drop_more (are_new (take i names)) names i [] lt
+    ∙ ap (λ (t : List (List ℕ)). not (list_any (bytes_eq (get_or names i [])) (take i names)) && are_new t (drop (i + 1) names)) (sym (take_more names i [] lt))
+
+-- the names that were seen, and the rest, once a name is seen
+module _ (names keys : List (List ℕ)) (i : ℕ) (r : Bool) (lt : i < length names) (seen : keys ≡ take i names) (rest : are_new (take i names) (drop i names) ≡ are_new [] names)
+    (added : r ≡ not (list_any (bytes_eq (get_or names i [])) keys)) where
+  here : r ≡ not (list_any (bytes_eq (get_or names i [])) (take i names))
+  here = added ∙ ap (λ (t : List (List ℕ)). not (list_any (bytes_eq (get_or names i [])) t)) seen
+
+  pub seen_again : r ≡ false → false ≡ are_new [] names
+  seen_again e = (λ k. (sym e ∙ here) k && are_new (take (i + 1) names) (drop (i + 1) names)) ∙ sym (new_step names i lt) ∙ rest
+
+  pub rest_more : r ≡ true → are_new (take (i + 1) names) (drop (i + 1) names) ≡ are_new [] names
+  rest_more e = (λ k. (sym e ∙ here) k && are_new (take (i + 1) names) (drop (i + 1) names)) ∙ sym (new_step names i lt) ∙ rest
+
+  pub seen_more : (next : List (List ℕ)) → r ≡ true → next ≡ (if list_any (bytes_eq (get_or names i [])) keys then keys else keys ++ get_or names i [] ∷ []) → next ≡ take (i + 1) names
+  seen_more next e is =
+      is
+      ∙ ap (λ (b : Bool). if b then keys else keys ++ get_or names i [] ∷ []) (opened (list_any (bytes_eq (get_or names i [])) keys) (sym added ∙ e))
+      ∙ ap (λ (t : List (List ℕ)). t ++ get_or names i [] ∷ []) seen
+      ∙ sym (take_more names i [] lt)
 
 -- Ids
 
@@ -135,10 +152,9 @@ rises_decides r n ids e = (
   λ parts. e ∙ if-rises 0 n ids (record { rising = parts.0; below = parts.1; from = all-least ids }),
 )
 
-pub rises_step : (least n : ℕ) (ids : List ℕ) (i s : ℕ) → i < length ids → s ≡ get_or ids i s
-    → rises_from least n (drop i ids) ≡ (nat_le least s && (nat_lt s n && rises_from (s + 1) n (drop (i + 1) ids)))
-rises_step least n ids i s lt is =
-    at_drop_more (rises_from least n) ids i s lt ∙ ap (λ (y : ℕ). rises_from least n (y ∷ drop (i + 1) ids)) (sym is)
+pub rises_step : (least n : ℕ) (ids : List ℕ) (i : ℕ) → i < length ids
+    → rises_from least n (drop i ids) ≡ (nat_le least (get_or ids i 0) && (nat_lt (get_or ids i 0) n && rises_from (get_or ids i 0 + 1) n (drop (i + 1) ids)))
+rises_step least n ids i lt = at_drop_more (rises_from least n) ids i 0 lt
 
 pub rises_on : (least n s : ℕ) (rest : Bool) → least ≤ s → s < n → (nat_le least s && (nat_lt s n && rest)) ≡ rest
 rises_on least n s rest le lt = λ i. le_is least s le i && (lt_is s n lt i && rest)
@@ -148,10 +164,8 @@ rises_no least n s true h = grind (arith, nat_tests)
 rises_no least n s false h = grind (arith, nat_tests)
 
 -- a name that was tried
-pub listed_if : (name : List ℕ) (o : Option (List ℕ)) → length name ≡ 8 → IsSome o ↔ IsTrue (is_name (take 8 (drop 0 name))) → false ≡ is_none o → IsListed name
-listed_if name None len range is = absurd (true≢false (sym is))
-listed_if name (Some t) len range is = (len, subst (λ (n : List ℕ). IsTrue (is_name n)) (take_all 8 name (omega (arith, len))) (range.0 refl))
+pub listed_if : (name : List ℕ) (o : Option (List ℕ)) → length name ≡ 8 → IsSome o ↔ IsTrue (is_name (take 8 (drop 0 name))) → is_some o ≡ true → IsListed name
+listed_if name o len range is = (len, subst (λ (n : List ℕ). IsTrue (is_name n)) (take_all 8 name (omega (arith, len))) (range.0 is))
 
-pub unlisted_if : (name : List ℕ) (o : Option (List ℕ)) → length name ≡ 8 → IsSome o ↔ IsTrue (is_name (take 8 (drop 0 name))) → true ≡ is_none o → ¬ IsListed name
-unlisted_if name (Some t) len range is listed = true≢false is
-unlisted_if name None len range is listed = true≢false (sym (range.1 (subst (λ (n : List ℕ). IsTrue (is_name n)) (sym (take_all 8 name (omega (arith, len)))) listed.1)))
+pub unlisted_if : (name : List ℕ) (o : Option (List ℕ)) → length name ≡ 8 → IsSome o ↔ IsTrue (is_name (take 8 (drop 0 name))) → is_some o ≡ false → ¬ IsListed name
+unlisted_if name o len range is listed = true≢false (sym (range.1 (subst (λ (n : List ℕ). IsTrue (is_name n)) (sym (take_all 8 name (omega (arith, len)))) listed.1)) ∙ is)

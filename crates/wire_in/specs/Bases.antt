@@ -45,6 +45,13 @@ pub record HasFew (b : Base) : Type 0 where
   pub messages_are : b.messages ≤ 262146 * b.records
   pub few : length b.names ≤ 16384
 
+-- a base is in its ranges, but for its day, and for names that stand there twice
+pub record IsNearlyInRange (b : Base) : Type 0 where
+  pub few : HasFew b
+  pub are_names : All IsListed b.names
+  pub rising : AreRising b.carried
+  pub below : All (λ s. s < length b.names) b.carried
+
 -- the two numbers, the frame of the day, and the names and the carried ids, each behind their number
 abbrev pub base_bytes : Base → List ℕ
 base_bytes b =

@@ -3,6 +3,7 @@
 #![tactic(auto)]
 
 mod base;
+mod base_reading;
 mod base_writing;
 mod code;
 mod cutter;
@@ -12,6 +13,7 @@ mod law;
 mod record;
 
 pub use base::{Base, BaseError, Ids, Names};
+pub use base_reading::get_base;
 pub use base_writing::put_base;
 pub use cutter::{Cut, Cutter};
 pub use decoding::{blank, decode, decode_into};

@@ -1,4 +1,4 @@
-use Rattle.std.proofs.Common.{◌∙◌, length, ap, arith}
+use Rattle.std.proofs.Common.{length, ap, arith}
 use Rattle.wire_in.proofs.BaseForms.{day-length}
 use Rattle.wire_in.proofs.BaseWriting.{day_in_range, sound_from_frame}
 use Rattle.wire_in.proofs.base_writing.write_day.Goals as goal

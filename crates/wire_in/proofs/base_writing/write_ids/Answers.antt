@@ -1,4 +1,4 @@
-use Rattle.std.proofs.Common.{◌≡◌, ◌∙◌, ◌+◌, ◌*◌, ◌++◌, List, ℕ, length, get_or, take, ap, sym, arith, append_assoc}
+use Rattle.std.proofs.Common.{◌∙◌, ◌++◌, List, ℕ, length, get_or, take, ap, sym, arith, append_assoc}
 use Rattle.std.specs.Int.{w16, to_be_bytes}
 use Rattle.std.specs.List.{flat_map}
 use Rattle.wire_in.proofs.BaseParts.{flat_more}

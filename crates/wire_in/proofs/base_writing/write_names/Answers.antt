@@ -1,4 +1,4 @@
-use Rattle.std.proofs.Common.{◌≡◌, ◌∙◌, ◌+◌, ◌*◌, ◌++◌, [], List, ℕ, length, get_or, take, ap, sym, arith, append_assoc}
+use Rattle.std.proofs.Common.{◌≡◌, ◌∙◌, ◌++◌, [], List, ℕ, length, get_or, take, ap, sym, arith, append_assoc}
 use Rattle.std.specs.List.{flat_map}
 use Rattle.wire_in.proofs.BaseParts.{flat_more}
 use Rattle.wire_in.proofs.base_writing.write_names.Goals as goal
