@@ -3,9 +3,11 @@
 #![tactic(auto)]
 
 mod event;
+mod law;
 mod symbol;
 
 pub use event::Event;
+pub use law::{a_base_has_ranges, a_base_is_enough, a_base_is_read, a_base_stands_for};
 pub use symbol::{Banded, Terms};
 
 /// The most names that are ever listed.

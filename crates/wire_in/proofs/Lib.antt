@@ -4,3 +4,7 @@ pub mod RoundTrip
 pub mod Cuts
 pub mod Streams
 pub mod RecordKinds
+pub mod OneBase
+pub mod BaseForms
+pub mod BaseParts
+pub mod BaseWriting

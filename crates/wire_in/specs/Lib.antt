@@ -5,3 +5,4 @@ pub mod Reading
 pub mod Spelling
 pub mod Cutting
 pub mod Laws
+pub mod Bases

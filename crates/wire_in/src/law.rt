@@ -1,5 +1,6 @@
-//! Laws of streams of frames, and of the kinds of records.
+//! Laws of streams of frames, of the kinds of records, and of bases.
 
+ghost use Rattle.wire_in.specs.Bases.{BaseIsAlone};
 ghost use Rattle.wire_in.specs.Laws.{CutContinues, CutIsUnique, FramesDiffer, KindIsUnique, RecordsDiffer};
 
 /// Cutting goes on where it left off, so the frames of a stream do not depend on its pieces.
@@ -22,4 +23,9 @@ pub fn frames_differ()
 /// does no other of these.
 pub fn there_is_one_kind()
     ensures { KindIsUnique }
+{}
+
+/// A body spells one base at most.
+pub fn a_base_is_alone()
+    ensures { BaseIsAlone }
 {}
