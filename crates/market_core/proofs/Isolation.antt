@@ -628,7 +628,7 @@ one_goes capacity s x A passed so =
 all_go : (capacity s : ℕ) (A : List Record) → IsLawful capacity A → InStep s A
 all_go capacity s [] lawful =
     record {
-      twins = record { held = record { kept = renewed s false; deals = [] }; id = refl; one = rests-new (named [] s).own s [] tt; two = rests-new every s [] tt };
+      twins = record { held = record { kept = renewed s false; deals = []; spare = 0 }; id = refl; one = rests-new (named [] s).own s [] tt; two = rests-new every s [] tt };
       halt = refl;
       greatest = refl;
       day = refl;

@@ -3,6 +3,7 @@ pub mod MarkedNames
 pub mod Admitting
 pub mod Appending
 pub mod Sections
+pub mod Room
 pub mod Ranges
 pub mod RecordsOfOthers
 pub mod OwnSteps

@@ -6,5 +6,6 @@ pub mod Ruled
 pub mod Leads
 pub mod Applied
 pub mod Sections
+pub mod Room
 pub mod Ranges
 pub mod Isolation

@@ -11,6 +11,7 @@ ghost use Rattle.market_core.specs.Kinds.{is_trade};
 ghost use Rattle.market_core.specs.MarketState.{most_of_names};
 ghost use Rattle.market_core.specs.Isolation.{newest_isolated};
 ghost use Rattle.market_core.specs.AdmissionState.{is_full_for, lacks_room, added};
+ghost use Rattle.market_core.specs.Room.{HasRoomAt, HasRoomFor};
 ghost use Rattle.market_core.specs.Ruled.{stamped, view_of};
 
 use crate::lead::{Lead, Today};
@@ -44,14 +45,15 @@ pub struct Market {
 }
 
 impl Model for Market {
-    ghost use Rattle.std.specs.Prelude.{◌≡◌, length};
+    ghost use Rattle.std.specs.Prelude.{◌≡◌, ◌+◌, ◌≤◌, length};
+    ghost use Rattle.rulebook.specs.Admission.{most_names};
     ghost use Rattle.market_core.specs.MarketState.{MarketState};
 
     ghost Value = { MarketState };
 
     ghost view = { λ market. record { directory = market.lead.directory; today = market.lead.today; symbols = market.section.symbols } };
 
-    ghost invariant = { λ market. length market.section.symbols ≡ length market.lead.directory };
+    ghost invariant = { λ market. (length market.section.symbols ≡ length market.lead.directory) × (most_names ≤ length market.section.symbols + market.section.spare) };
 }
 
 impl Market {
@@ -59,30 +61,37 @@ impl Market {
     ghost use Rattle.market_core.specs.Leads.{IsLed, lead_of, led, market_messages, market_view, rulings, with_listed};
     ghost use Rattle.market_core.specs.Applied.{EachEvaluated, OneEvaluated, Finds, Lists, OnToday, Ticks, Evaluated, Applies};
 
-    /// A market with no names and no day.
+    /// A market with no names and no day. It takes the room for the stocks of all names that may come.
     pub fn new(alloc: Global) -> Result<Market, NoMemory>
         ensures { IfOk result (λ market. Represents market []) }
     {
+        let lead = Lead::new(alloc)?;
+        let mut section = Section::new(alloc)?;
+        section.reserve(MOST_NAMES)?;
         Ok(Market {
-            alloc,
-            lead: Lead::new(alloc)?,
-            section: Section::new(alloc)?,
-        })
-    }
-
-    /// The market of these names and this day with these stocks; none where there aren't as many of them as names.
-    pub fn of(alloc: Global, lead: Lead, section: Section) -> Option<Market>
-        ensures some { IfSome result (λ market. market ≡ record { directory = lead.directory; today = lead.today; symbols = section.symbols }) }
-        ensures none { IsNone result ↔ (length section.symbols ≢ length lead.directory) }
-    {
-        if section.len() != lead.names() as usize {
-            return None;
-        }
-        Some(Market {
             alloc,
             lead,
             section,
         })
+    }
+
+    /// The market of these names and this day with these stocks; none where there aren't as many of them as names. It takes the
+    /// room for the stocks of all names that may still come.
+    pub fn of(alloc: Global, lead: Lead, section: Section) -> Result<Option<Market>, NoMemory>
+        ensures some { IfOk result (λ found. IfSome found (λ market. market ≡ record { directory = lead.directory; today = lead.today; symbols = section.symbols })) }
+        ensures none { IfOk result (λ found. IsNone found ↔ (length section.symbols ≢ length lead.directory)) }
+    {
+        let names = lead.names() as usize;
+        if section.len() != names {
+            return Ok(None);
+        }
+        let mut section = section;
+        section.reserve(MOST_NAMES - names)?;
+        Ok(Some(Market {
+            alloc,
+            lead,
+            section,
+        }))
     }
 
     /// How many names were ever listed.
@@ -171,6 +180,7 @@ impl Market {
         ensures len { vec_len out.new ≤ vec_len out.old + most_of_symbol }
         ensures room { is_trade x.now ≡ false → vec_len out.old + most_of_symbol ≤ vec_capacity out.old → IsOk result }
         ensures room_for_all { is_trade x.now ≡ false → vec_len out.old + most_of_symbol * length self.old.directory ≤ vec_capacity out.old → IsOk result }
+        ensures room_there { (is_trade x.now ≡ true → HasRoomAt self.old.symbols id) → vec_len out.old + most_of_symbol ≤ vec_capacity out.old → IsOk result }
         ensures keeps_room { vec_capacity out.old ≤ vec_capacity out.new }
         ensures names { self.new.directory ≡ self.old.directory }
     {
@@ -186,37 +196,34 @@ impl Market {
     }
 
     /// Makes the symbol of a new name.
-    fn make(&mut self, name: [u8; 8]) -> Result<u16, NoMemory>
+    fn make(&mut self, name: [u8; 8]) -> u16
         requires new { position (bytes_eq name) self.old.directory ≡ None }
         requires room { length self.old.directory < most_names }
-        ensures ok { IfOk result (λ id. Finds name id self.old self.new) }
-        ensures err { OnErr result (self.new ≡ self.old) }
+        ensures finds { Finds name result self.old self.new }
         ensures names { length self.new.directory ≤ length self.old.directory + 1 }
-        ensures listed { OnOk result (self.new.directory ≡ self.old.directory ++ name ∷ []) }
+        ensures listed { self.new.directory ≡ self.old.directory ++ name ∷ [] }
         ensures today { self.new.today ≡ self.old.today }
     {
-        self.section.reserve()?;
-        let symbol = Symbol::new(self.alloc, self.lead.names() as u16)?;
+        let symbol = Symbol::new(self.alloc, self.lead.names() as u16).unwrap();
         let id = self.lead.push(name);
         self.section.push(symbol);
-        Ok(id)
+        id
     }
 
     /// The symbol of a name, which is made where the name is new. A new name that finds no room has none, and leaves all
     /// as it was.
-    fn find(&mut self, name: [u8; 8]) -> Result<Option<u16>, NoMemory>
-        ensures ok { is_full_for self.old.directory name ≡ false → IfOk result (λ found. IsSomeAnd found (λ id. Finds name id self.old self.new)) }
-        ensures err { OnErr result (self.new ≡ self.old) }
+    fn find(&mut self, name: [u8; 8]) -> Option<u16>
+        ensures finds { is_full_for self.old.directory name ≡ false → IsSomeAnd result (λ id. Finds name id self.old self.new) }
         ensures names { length self.new.directory ≤ length self.old.directory + 1 }
-        ensures listed { OnOk result (self.new.directory ≡ with_listed self.old.directory name) }
+        ensures listed { self.new.directory ≡ with_listed self.old.directory name }
         ensures today { self.new.today ≡ self.old.today }
     {
         // For the proof: it has the invariant, that there are as many symbols as names.
         let _symbols = self.section.len();
         match self.lead.id(&name) {
-            Some(id) => Ok(Some(id)),
-            None if self.lead.names() as usize >= MOST_NAMES => Ok(None),
-            None => Ok(Some(self.make(name)?)),
+            Some(id) => Some(id),
+            None if self.lead.names() as usize >= MOST_NAMES => None,
+            None => Some(self.make(name)),
         }
     }
 
@@ -228,11 +235,12 @@ impl Market {
         ensures ok { is_full_for self.old.directory name ≡ false → OnOk result (OnToday self.old (λ today. Lists name today x.now self.old self.new out.old.items out.new.items)) }
         ensures err { OnErr result ((self.new ≡ self.old) × (out.new.items ≡ out.old.items)) }
         ensures len { vec_len out.new ≤ vec_len out.old + most_of_symbol }
+        ensures room { vec_len out.old + most_of_symbol ≤ vec_capacity out.old → IsOk result }
         ensures keeps_room { vec_capacity out.old ≤ vec_capacity out.new }
         ensures names { length self.new.directory ≤ length self.old.directory + 1 }
     {
         out.reserve(MOST_OF_SYMBOL)?;
-        let Some(id) = self.find(name)? else {
+        let Some(id) = self.find(name) else {
             return Ok(());
         };
         self.evaluate(id, x, out).unwrap();
@@ -240,15 +248,14 @@ impl Market {
     }
 
     /// Leads a listing: a new name gets its symbol, which isn't evaluated.
-    fn lead_listing(&mut self, name: [u8; 8]) -> Result<MarketView, NoMemory>
+    fn lead_listing(&mut self, name: [u8; 8]) -> MarketView
         requires day { IsSome self.old.today }
-        ensures listed { OnOk result (self.new.directory ≡ with_listed self.old.directory name) }
+        ensures listed { self.new.directory ≡ with_listed self.old.directory name }
         ensures today { self.new.today ≡ self.old.today }
-        ensures seen { IfOk result (λ view. option_map view_of self.old.today ≡ Some view) }
-        ensures err { OnErr result (self.new ≡ self.old) }
+        ensures seen { option_map view_of self.old.today ≡ Some result }
     {
-        self.find(name)?;
-        Ok(self.lead.view().unwrap())
+        self.find(name);
+        self.lead.view().unwrap()
     }
 
     /// Leads a record, by what is kept.
@@ -259,11 +266,11 @@ impl Market {
         ensures seen { IfOk result (λ view. option_map view_of self.new.today ≡ Some view) }
         ensures err { OnErr result ((self.new ≡ self.old) × (out.new.items ≡ out.old.items)) }
         ensures few { vec_len out.new ≤ vec_len out.old + 2 }
-        ensures room { name_of x.now ≡ None → vec_len out.old + 2 ≤ vec_capacity out.old → IsOk result }
+        ensures room { vec_len out.old + 2 ≤ vec_capacity out.old → IsOk result }
         ensures keeps_room { vec_capacity out.old ≤ vec_capacity out.new }
     {
         match *x {
-            Record::Listing { name, .. } => self.lead_listing(name),
+            Record::Listing { name, .. } => Ok(self.lead_listing(name)),
             _ => self.lead.lead(x, out),
         }
     }
@@ -271,7 +278,8 @@ impl Market {
     /// Leads a record that is admissible after the led ones: it does what `apply` does, but evaluates no symbol. It appends
     /// the market's messages, and answers what the market then is to its symbols. A day has begun, or the record begins
     /// one. A new name gets a symbol that isn't evaluated: so a market stands for what was led in its names, its day and
-    /// its breakers alone, and where a listed symbol was led past it represents no list. An error leaves all as it was.
+    /// its breakers alone, and where a listed symbol was led past it represents no list. An error leaves all as it was, and
+    /// there is none where the list has room for two messages.
     pub fn lead(&mut self, x: &Record, out: &mut Vec<Stamped>) -> Result<MarketView, NoMemory>
         requires day { is_day x.now ≡ false → IsSome self.old.today }
         ensures given { (capacity : ℕ) (before : List Record) → IsLed (lead_of self.old) before → verdict capacity before x.now ≡ None
@@ -282,7 +290,7 @@ impl Market {
             → IfOk result (λ view. market_view (x.now ∷ before) ≡ Some view) }
         ensures err { OnErr result ((self.new ≡ self.old) × (out.new.items ≡ out.old.items)) }
         ensures few { vec_len out.new ≤ vec_len out.old + 2 }
-        ensures room { name_of x.now ≡ None → vec_len out.old + 2 ≤ vec_capacity out.old → IsOk result }
+        ensures room { vec_len out.old + 2 ≤ vec_capacity out.old → IsOk result }
         ensures keeps_room { vec_capacity out.old ≤ vec_capacity out.new }
     {
         self.keep_lead(x, out)
@@ -295,6 +303,7 @@ impl Market {
         ensures err { OnErr result ((self.new ≡ self.old) × (out.new.items ≡ out.old.items)) }
         ensures len { vec_len out.new ≤ vec_len out.old + most_messages }
         ensures room { name_of x.now ≡ None → is_trade x.now ≡ false → vec_len out.old + most_of_names (length self.old.directory) ≤ vec_capacity out.old → IsOk result }
+        ensures never_refused { HasRoomFor self.old.symbols x.now → vec_len out.old + most_messages ≤ vec_capacity out.old → IsOk result }
         ensures keeps_room { vec_capacity out.old ≤ vec_capacity out.new }
         ensures names { name_of x.now ≡ None → length self.new.directory ≡ length self.old.directory }
         ensures one_more { length self.new.directory ≤ length self.old.directory + 1 }
@@ -318,7 +327,9 @@ impl Market {
     /// Applies a record that is admissible after the applied ones, and appends the messages of its step. What it appends
     /// of one symbol is what that symbol says alone, over its own records and the market-wide ones. An error
     /// leaves market and list as they were. It takes no memory where the record is neither a Listing nor a Trade and
-    /// the list has room for two messages and 16 for each name. The list keeps its room. A Listing alone may add a name.
+    /// the list has room for two messages and 16 for each name. Room that is there is never refused: where the list has room
+    /// for the most messages of a record, an error comes of a trade alone, whose stock has no room for its deal. The list keeps
+    /// its room. A Listing alone may add a name.
     pub fn apply(&mut self, x: &Record, out: &mut Vec<Stamped>) -> Result<(), NoMemory>
         ensures given { (capacity : ℕ) (applied : List Record) → Represents self.old applied → verdict capacity applied x.now ≡ None
             → OnOk result (out.new.items ≡ out.old.items ++ newest_messages (x.now ∷ applied)) }
@@ -330,6 +341,7 @@ impl Market {
         ensures few { vec_len out.new ≤ vec_len out.old + most_messages }
         ensures room { name_of x.now ≡ None → is_trade x.now ≡ false
             → vec_len out.old + most_of_names (length self.old.directory) ≤ vec_capacity out.old → IsOk result }
+        ensures never_refused { HasRoomFor self.old.symbols x.now → vec_len out.old + most_messages ≤ vec_capacity out.old → IsOk result }
         ensures keeps_room { vec_capacity out.old ≤ vec_capacity out.new }
         ensures names { name_of x.now ≡ None → length self.new.directory ≡ length self.old.directory }
         ensures one_more { length self.new.directory ≤ length self.old.directory + 1 }

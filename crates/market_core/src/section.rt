@@ -1,8 +1,9 @@
-ghost use Rattle.std.specs.Prelude.{◌≡◌, ◌+◌, ◌*◌, ◌<◌, ◌≤◌, ◌++◌, ◌∷◌, [], true, false, Some, IfOk, IsOk, OnOk, OnErr, drop, length, take, vec_len, vec_capacity};
+ghost use Rattle.std.specs.Prelude.{◌≡◌, ◌+◌, ◌*◌, ◌<◌, ◌≤◌, ◌++◌, ◌∷◌, ℕ, [], true, false, Some, IfOk, IsOk, OnOk, OnErr, drop, length, slice_index, take, vec_len, vec_capacity};
 ghost use Rattle.wire_in.specs.Records.{is_day, is_tick, moment_of};
 ghost use Rattle.alarms.specs.Due.{NoneDue};
 ghost use Rattle.symbol_core.specs.Evaluates.{most_of_symbol};
 ghost use Rattle.market_core.specs.Kinds.{is_trade};
+ghost use Rattle.market_core.specs.Room.{HasRoomAt};
 
 use crate::since::{ALWAYS_DUE, Since, alarm_of, pass, renew};
 use crate::symbols::{evaluate, evaluate_each};
@@ -55,6 +56,8 @@ fn first_due(alarms: &mut Alarms, from: usize, end: usize, t: Moment) -> usize
 fn make_places(alarms: &mut Alarms, count: usize) -> Result<(), NoMemory>
     ensures more { OnOk result (length alarms.old + count ≤ length alarms.new) }
     ensures kept { length alarms.old ≤ length alarms.new }
+    ensures same { (place : ℕ) → slice_index alarms.new place ≡ slice_index alarms.old place }
+    ensures none { count ≡ 0 → IsOk result }
 {
     for _place in 0..count {
         alarms.push(ALWAYS_DUE)?;
@@ -78,6 +81,7 @@ fn push_symbol(symbols: &mut Vec<Symbol>, symbol: Symbol)
     requires { vec_len symbols.old + 1 ≤ vec_capacity symbols.old }
     ensures items { symbols.new.items ≡ symbols.old.items ++ symbol ∷ [] }
     ensures len { vec_len symbols.new ≡ vec_len symbols.old + 1 }
+    ensures room { vec_capacity symbols.old ≤ vec_capacity symbols.new }
 {
     symbols.push(symbol).unwrap();
 }
@@ -106,22 +110,23 @@ impl Section {
         self.symbols.len()
     }
 
-    /// Takes room for one more stock. An error leaves the stocks as they were.
-    pub fn reserve(&mut self) -> Result<(), NoMemory>
-        ensures ok { OnOk result (1 ≤ self.new.spare) }
+    /// Takes room for so many more stocks: room that is there is never refused. An error leaves the stocks as they were.
+    pub fn reserve(&mut self, more: usize) -> Result<(), NoMemory>
+        ensures ok { OnOk result (more ≤ self.new.spare) }
+        ensures succeeds { more ≤ self.old.spare → IsOk result }
         ensures symbols { self.new.symbols ≡ self.old.symbols }
+        ensures spare { self.old.spare ≤ self.new.spare }
     {
-        self.symbols.reserve(1)?;
-        if self.alarms.len() == self.symbols.len() {
-            self.alarms.push(ALWAYS_DUE)?;
-        }
-        Ok(())
+        self.symbols.reserve(more)?;
+        let places = self.alarms.len() - self.symbols.len();
+        make_places(&mut self.alarms, more.saturating_sub(places))
     }
 
     /// Adds a stock behind the others, in room that was taken before.
     pub fn push(&mut self, symbol: Symbol)
         requires { 1 ≤ self.old.spare }
-        ensures { self.new.symbols ≡ self.old.symbols ++ symbol ∷ [] }
+        ensures symbols { self.new.symbols ≡ self.old.symbols ++ symbol ∷ [] }
+        ensures spare { self.old.spare ≤ self.new.spare + 1 }
     {
         self.alarms.set(self.symbols.len(), ALWAYS_DUE);
         push_symbol(&mut self.symbols, symbol);
@@ -158,7 +163,8 @@ impl Section {
         Ok(rest)
     }
 
-    /// Evaluates a record for the stock of an index. Only a trade may find no memory, and then all stays as it was.
+    /// Evaluates a record for the stock of an index. Only a trade whose stock has no room for its deal may find no memory, and
+    /// then all stays as it was.
     #[inline(always)]
     pub fn evaluate(
         &mut self,
@@ -172,6 +178,8 @@ impl Section {
         ensures ok { OnOk result (AppendsOne index market.now x.now self.old.symbols self.new.symbols out.old.items out.new.items) }
         ensures err { OnErr result ((self.new.symbols ≡ self.old.symbols) × (out.new.items ≡ out.old.items)) }
         ensures succeeds { is_trade x.now ≡ false → IsOk result }
+        ensures room_there { HasRoomAt self.old.symbols index → IsOk result }
+        ensures spare { self.old.spare ≤ self.new.spare }
         ensures since { (now : MarketView) → self.old.since ≡ Some (record { from = moment_of x.now; market = now }) → self.new.since ≡ self.old.since }
         ensures room { vec_capacity out.old ≤ vec_capacity out.new }
         ensures len { vec_len out.new ≤ vec_len out.old + most_of_symbol }
@@ -190,6 +198,7 @@ impl Section {
         requires room { vec_len out.old + most_of_symbol * length self.old.symbols ≤ vec_capacity out.old }
         ensures appends { AppendsBelow (length self.old.symbols) market.now x.now self.old.symbols self.new.symbols out.old.items out.new.items }
         ensures count { length self.new.symbols ≡ length self.old.symbols }
+        ensures spare { self.old.spare ≤ self.new.spare }
         ensures room { vec_capacity out.old ≤ vec_capacity out.new }
         ensures len { vec_len out.new ≤ vec_len out.old + most_of_symbol * length self.old.symbols }
     {
@@ -201,6 +210,7 @@ impl Section {
     fn begin_tick(&mut self, t: Moment, market: &MarketView)
         ensures since { self.new.since ≡ Some (record { from = t; market = market.now }) }
         ensures symbols { self.new.symbols ≡ self.old.symbols }
+        ensures spare { self.old.spare ≤ self.new.spare }
     {
         let now = Since {
             from: t,
@@ -220,6 +230,7 @@ impl Section {
         ensures none { NoneMoves market.now x.now from result self.old.symbols }
         ensures since { self.new.since ≡ self.old.since }
         ensures symbols { self.new.symbols ≡ self.old.symbols }
+        ensures spare { self.old.spare ≤ self.new.spare }
     {
         first_due(&mut self.alarms, from, self.symbols.len(), x.moment())
     }
@@ -230,6 +241,7 @@ impl Section {
         requires room { vec_len out.old + most_of_symbol * length self.old.symbols ≤ vec_capacity out.old }
         ensures appends { AppendsBelow (length self.old.symbols) market.now x.now self.old.symbols self.new.symbols out.old.items out.new.items }
         ensures count { length self.new.symbols ≡ length self.old.symbols }
+        ensures spare { self.old.spare ≤ self.new.spare }
         ensures room { vec_capacity out.old ≤ vec_capacity out.new }
         ensures len { vec_len out.new ≤ vec_len out.old + most_of_symbol * length self.old.symbols }
     {

@@ -34,7 +34,8 @@ fn stamp(said: &[Message], moment: Moment, out: &mut Vec<Stamped>)
     }
 }
 
-/// Evaluates a record for a symbol. Only a trade may find no memory, and then all stays as it was.
+/// Evaluates a record for a symbol. Only a trade for which the symbol has no room may find no memory, and then all stays as
+/// it was.
 #[inline(always)]
 pub(crate) fn evaluate(
     symbol: &mut Symbol,
@@ -47,6 +48,7 @@ pub(crate) fn evaluate(
     ensures ok { OnOk result (Appends market.now x.now symbol.old symbol.new out.old.items out.new.items) }
     ensures err { OnErr result ((symbol.new ≡ symbol.old) × (out.new.items ≡ out.old.items)) }
     ensures succeeds { is_trade x.now ≡ false → IsOk result }
+    ensures room_there { 1 ≤ symbol.old.spare → IsOk result }
     ensures room { vec_capacity out.old ≤ vec_capacity out.new }
     ensures len { vec_len out.new ≤ vec_len out.old + most_of_symbol }
 {

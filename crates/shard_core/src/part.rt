@@ -113,7 +113,7 @@ fn take_new(
     if count >= MOST_NAMES {
         return Err(NoMemory);
     }
-    section.reserve()?;
+    section.reserve(1)?;
     let symbol = Symbol::new(alloc, id)?;
     section.push(symbol);
     take_at(section, count, x, view, said)

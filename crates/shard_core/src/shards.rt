@@ -129,7 +129,7 @@ impl Shards {
         }
         let symbols = gather(alloc, &mut self.parts)?;
         let lead = mem::replace(&mut self.lead, Lead::new(alloc)?);
-        Market::of(alloc, lead, symbols).ok_or(NoMemory)
+        Market::of(alloc, lead, symbols)?.ok_or(NoMemory)
     }
 
     /// How many records a piece of a block has at most.

@@ -208,9 +208,9 @@ module _ (market : MarketView) (x : Record) (k : Kept) (deals : List Deal) (deal
       step-evaluates step k spoken.said (taken k step) (taken k step) k deals (filter (leaves k.id x) deals) stayed stayed left before spoken.between before
       refl refl refl refl spoken.announces spoken.obeys keeps_deals over
 
-  pub dealt-evaluated : (before : List Message) → Evaluates market x (record { kept = k; deals = deals }) (record { kept = k; deals = left }) before before
+  pub dealt-evaluated : (before : List Message) → Evaluates market x (record { kept = k; deals = deals; spare = 0 }) (record { kept = k; deals = left; spare = 0 }) before before
   dealt-evaluated before =
-      step-evaluated market x (record { kept = k; deals = deals }) (record { kept = k; deals = left }) before before plainly.no_day (is_here k x w.inside) (deal-steps before)
+      step-evaluated market x (record { kept = k; deals = deals; spare = 0 }) (record { kept = k; deals = left; spare = 0 }) before before plainly.no_day (is_here k x w.inside) (deal-steps before)
 
   -- deals that are live with the new one
   pub dealt-recent : live t left ≡ left

@@ -11,7 +11,7 @@ use Rattle.rulebook.proofs.OtherRecords.{leaves}
 use Rattle.rulebook.specs.declared.event.Event.{Event}
 use Rattle.rulebook.specs.declared.event.Event.TheVariants.{Accepted}
 use Rattle.rulebook.specs.declared.symbol.Terms.{Terms}
-use Rattle.rulebook.specs.History.{records}
+use Rattle.rulebook.specs.History.{publish, records}
 use Rattle.rulebook.specs.Symbol.{terms, terms_in}
 use Rattle.rulebook.proofs.Histories.{records-publish}
 use Rattle.symbol_core.specs.declared.state.Kept.{Kept}
@@ -22,7 +22,7 @@ use Rattle.symbol_core.specs.Rests.{Rests, SymbolState}
 use Rattle.symbol_core.specs.Silent.{IsOfOthers}
 use Rattle.symbol_core.specs.Stands.{named}
 use Rattle.symbol_core.specs.Steps.{Starts, Steps, step_for}
-use Rattle.symbol_core.proofs.Resting.{rests-apart}
+use Rattle.symbol_core.proofs.Resting.{rests-apart, rests-with}
 
 -- a clock or an index tick, while this listing isn't there
 abbrev pub away : Record → Option Terms → Bool
@@ -43,7 +43,7 @@ away-open mine held x others h r =
 pub starts : (mine : List ℕ → Bool) (held : SymbolState) (market : MarketView) (x : Record) (others : List Message) (h : List Event) → Opens mine held market x others h
     → Starts mine held.kept held.deals (step_for market x) others h
 starts mine held market x others h p =
-    record { rests = p.rests; silent = p.silent; no_day = p.no_day; name = p.name; index = p.index; day = p.day; moment = refl; stopped = p.stopped; later = p.later }
+    record { rests = rests-with mine held 0 h p.rests; silent = p.silent; no_day = p.no_day; name = p.name; index = p.index; day = p.day; moment = refl; stopped = p.stopped; later = p.later }
 
 pub step-evaluated : (market : MarketView) (x : Record) (held new : SymbolState) (before after : List Message) → is_day x ≡ false → away x held.kept.terms ≡ false
     → Steps (step_for market x) held.kept new.kept held.deals new.deals before after → Evaluates market x held new before after
@@ -51,7 +51,9 @@ step-evaluated market x held new before after no_day here s =
     record {
       says = λ mine others h p.
           s.says mine others h (starts mine held market x others h p) ∙ ap (λ (ms : List Message). before ++ ms) (sym (part_is mine others h p));
-      rests = λ mine others h p. rw (part_is mine others h p) (s.rests mine others h (starts mine held market x others h p));
+      rests = λ mine others h p.
+          let said = step_of market.day (named mine held.kept.id) x (open_history x others h) in
+          rw (part_is mine others h p) (rests-with mine (record new { spare = 0 }) new.spare (publish said (open_history x others h)) (s.rests mine others h (starts mine held market x others h p)));
       says_no_day = λ e. let e2 : true ≡ false = sym e ∙ no_day in cc;
       begins = λ e mine h r. let e2 : true ≡ false = sym e ∙ no_day in cc;
       id = s.id;
@@ -97,11 +99,29 @@ evaluated-away market x held before is_away =
     part_is mine others h p =
         ap (λ (b : Bool). if b then [] else step_of market.day (named mine held.kept.id) x (open_history x others h)) (away-open mine held x others h p.rests ∙ is_away)
 
+-- how much room there is makes no difference
+pub evaluated-with : (market : MarketView) (x : Record) (held new : SymbolState) (room left : ℕ) (before after : List Message) → Evaluates market x held new before after
+    → Evaluates market x (record held { spare = room }) (record new { spare = left }) before after
+evaluated-with market x held new room left before after e =
+    record {
+      says = λ mine others h p. e.says mine others h (opens mine others h p);
+      rests = λ mine others h p.
+          let said = part_of market.day (named mine held.kept.id) x (open_history x others h) in
+          rests-with mine new left (publish said (open_history x others h)) (e.rests mine others h (opens mine others h p));
+      says_no_day = e.says_no_day;
+      begins = λ day mine h r. rests-with mine new left (Accepted x ∷ h) (e.begins day mine h (rests-with mine (record held { spare = room }) held.spare h r));
+      id = e.id;
+    }
+  where
+    opens : (mine : List ℕ → Bool) (others : List Message) (h : List Event) → Opens mine (record held { spare = room }) market x others h → Opens mine held market x others h
+    opens mine others h p =
+        record { rests = rests-with mine (record held { spare = room }) held.spare h p.rests; silent = p.silent; no_day = p.no_day; name = p.name; index = p.index; day = p.day; stopped = p.stopped; later = p.later }
+
 -- the same, over what the code has
-pub step-obeyed : (market : MarketView) (x : Record) (held : SymbolState) (k : Kept) (kept lent : List Deal) (new : SymbolState) (before got after : List Message) (step : Step) → record { kept = k; deals = kept } ≡ held → step ≡ step_for market x → lent ≡ kept → got ≡ before
+pub step-obeyed : (market : MarketView) (x : Record) (held : SymbolState) (k : Kept) (kept lent : List Deal) (spare : ℕ) (new : SymbolState) (before got after : List Message) (step : Step) → record { kept = k; deals = kept; spare = spare } ≡ held → step ≡ step_for market x → lent ≡ kept → got ≡ before
     → is_day x ≡ false → away x held.kept.terms ≡ false
     → Steps step k new.kept lent new.deals got after → Evaluates market x held new before after
-step-obeyed market x held k kept lent new before got after step v m l g no_day here s =
+step-obeyed market x held k kept lent spare new before got after step v m l g no_day here s =
     step-evaluated market x held new before after no_day here
     (subst (λ (a : SymbolState). Steps (step_for market x) a.kept new.kept a.deals new.deals before after) v
     (subst (λ (u : Step). Steps u k new.kept kept new.deals before after) m

@@ -17,7 +17,7 @@ use Rattle.symbol_core.specs.Window.{SameLive, window}
 use Rattle.symbol_core.proofs.Live.{same_then}
 
 pub rests-finished : (mine : List ℕ → Bool) (k : InStep) (kept left : List Deal) (step : Step) (index : ℕ) (h : List Event) → day_record (records h) ≡ Some (step.day, index)
-    → SameLive step.moment left (window k kept) → Stands mine k kept step h → Rests mine (record { kept = k.kept; deals = left }) h
+    → SameLive step.moment left (window k kept) → Stands mine k kept step h → Rests mine (record { kept = k.kept; deals = left; spare = 0 }) h
 rests-finished mine k kept left step index h day same s =
     record {
       terms = s.terms;

@@ -36,7 +36,7 @@ settled-market k deals due market is inside same = let idle = is inside in subst
 
 -- the symbol once a quotation of its run is taken in at a moment, and nothing else
 abbrev pub quoted : SymbolState → ℕ → Quotation → SymbolState
-quoted held t quote = record { kept = with_quote held.kept quote; deals = live t held.deals }
+quoted held t quote = record { kept = with_quote held.kept quote; deals = live t held.deals; spare = 0 }
 
 -- what a quotation leaves
 kept_quoted : {X : Type 0} (value : Kept → X) (k : Kept) (quote : Quotation) → ((run : Run) (other : Option Quotation) → value (record k { run = Some (requoted other run) }) ≡ value (record k { run = Some run })) → value (with_quote k quote) ≡ value k
@@ -123,13 +123,13 @@ module _ (market : MarketView) (t i y z : ℕ) (bid offer : Option ℕ) (k : Kep
 
 pub quoted-evaluated : (market : MarketView) (x : Record) (k : Kept) (deals : List Deal) (due : Due) (quote : Quotation) (before : List Message) → IsDue (Some due) k deals → is_out k ≡ false → due.from ≤ moment_of x → moment_of x < due.until
     → market ≡ due.market → is_some k.run ≡ true → IsSettledAt k (Some quote) market.stopped → quoted_by k.id x ≡ Some quote
-    → Evaluates market x (record { kept = k; deals = deals }) (quoted (record { kept = k; deals = deals }) (moment_of x) quote) before before
+    → Evaluates market x (record { kept = k; deals = deals; spare = 0 }) (quoted (record { kept = k; deals = deals; spare = 0 }) (moment_of x) quote) before before
 quoted-evaluated market (in_.Day t d c) k deals due quote before is inside from until same run settled offered = absurd cc
 quoted-evaluated market (in_.Listing t name tier l c) k deals due quote before is inside from until same run settled offered = absurd cc
 quoted-evaluated market (in_.Trade t i n p q f) k deals due quote before is inside from until same run settled offered = absurd cc
 quoted-evaluated market (in_.Cancel t i n) k deals due quote before is inside from until same run settled offered = absurd cc
 quoted-evaluated market (in_.Quote t i bid offer y z) k deals due quote before is inside from until same run settled offered =
-    step-evaluated market (in_.Quote t i bid offer y z) (record { kept = k; deals = deals }) (quoted (record { kept = k; deals = deals }) t quote) before before refl refl
+    step-evaluated market (in_.Quote t i bid offer y z) (record { kept = k; deals = deals; spare = 0 }) (quoted (record { kept = k; deals = deals; spare = 0 }) t quote) before before refl refl
     (quote-steps market t i y z bid offer k deals due quote is inside from until same run settled offered before)
 quoted-evaluated market (in_.IndexTick t v) k deals due quote before is inside from until same run settled offered = absurd cc
 quoted-evaluated market (in_.Clock t) k deals due quote before is inside from until same run settled offered = absurd cc

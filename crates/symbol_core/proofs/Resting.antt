@@ -109,7 +109,7 @@ rests-silent mine held [] h q r = r
 rests-silent mine held (m ∷ ms) h q r = rests-silent mine held ms (Published m ∷ h) q.1 (rests-message mine held m h q.0 r)
 
 -- other kept deals of which the same are live serve as well
-pub rests-same : (mine : List ℕ → Bool) (k : Kept) (deals other : List Deal) (h : List Event) → SameLive (now h) other deals → Rests mine (record { kept = k; deals = deals }) h → Rests mine (record { kept = k; deals = other }) h
+pub rests-same : (mine : List ℕ → Bool) (k : Kept) (deals other : List Deal) (h : List Event) → SameLive (now h) other deals → Rests mine (record { kept = k; deals = deals; spare = 0 }) h → Rests mine (record { kept = k; deals = other; spare = 0 }) h
 rests-same mine k deals other h same r =
     record {
       terms = r.terms;
@@ -177,6 +177,26 @@ rests-record mine held x h not_day o same r =
     deals_stay None = refl
     deals_stay (Some day) = deals_at day.0
 
+-- how much room there is makes no difference
+pub rests-with : (mine : List ℕ → Bool) (held : SymbolState) (spare : ℕ) (h : List Event) → Rests mine held h → Rests mine (record held { spare = spare }) h
+rests-with mine held spare h r =
+    record {
+      terms = r.terms;
+      phase = r.phase;
+      since = r.since;
+      begun = r.begun;
+      quote = r.quote;
+      band = r.band;
+      adopted = r.adopted;
+      straddling = r.straddling;
+      halted = r.halted;
+      auction = r.auction;
+      prior_close = r.prior_close;
+      triggered = r.triggered;
+      carried = r.carried;
+      deals = r.deals;
+    }
+
 -- A symbol that rests does so after a record of others that is no day, as a clock or an index tick at which it isn't evaluated,
 -- and messages that say nothing of it.
 pub rests-apart : (mine : List ℕ → Bool) (held : SymbolState) (x : Record) (others : List Message) (h : List Event) → is_day x ≡ false → IsOfOthers mine held.kept.id x → AllSilent held.kept.id others → now h ≤ moment_of x
@@ -186,7 +206,7 @@ rests-apart mine held x others h not_day o q later r =
 
 -- A new day: nothing is kept but whether the day before triggered.
 pub rests-day : (mine : List ℕ → Bool) (held : SymbolState) (t : ℕ) (day : Day) (index : ℕ) (h : List Event) → Rests mine held h
-    → Rests mine (record { kept = renewed held.kept.id held.kept.short.triggered; deals = [] }) (Accepted (in_.Day t day index) ∷ h)
+    → Rests mine (record { kept = renewed held.kept.id held.kept.short.triggered; deals = []; spare = 0 }) (Accepted (in_.Day t day index) ∷ h)
 rests-day mine held t day index h r =
     record {
       terms = refl;
@@ -207,14 +227,14 @@ rests-day mine held t day index h r =
 
 -- the same of a record that is a day
 pub rests-renewed : (mine : List ℕ → Bool) (held : SymbolState) (x : Record) (h : List Event) → is_day x ≡ true → Rests mine held h
-    → Rests mine (record { kept = renewed held.kept.id held.kept.short.triggered; deals = [] }) (Accepted x ∷ h)
+    → Rests mine (record { kept = renewed held.kept.id held.kept.short.triggered; deals = []; spare = 0 }) (Accepted x ∷ h)
 rests-renewed mine held x h e r =
-    by_listing (λ y. is_day y ≡ true → Rests mine (record { kept = renewed held.kept.id held.kept.short.triggered; deals = [] }) (Accepted y ∷ h))
+    by_listing (λ y. is_day y ≡ true → Rests mine (record { kept = renewed held.kept.id held.kept.short.triggered; deals = []; spare = 0 }) (Accepted y ∷ h))
     (λ t d c e. rests-day mine held t d c h r) (λ t n k l c e. cc) (λ y o e. let both : true ≡ false = sym e ∙ o.no_day in cc) x e
 
 -- Before its first listing a symbol has said nothing.
 
-rests-empty : (mine : List ℕ → Bool) (s : ℕ) → Rests mine (record { kept = renewed s false; deals = [] }) []
+rests-empty : (mine : List ℕ → Bool) (s : ℕ) → Rests mine (record { kept = renewed s false; deals = []; spare = 0 }) []
 rests-empty mine s =
     record {
       terms = refl;
@@ -248,13 +268,13 @@ none_today s h e = by (day_record (records h))
     by None = refl
     by (Some day) = none_counts s day.0 h e
 
-pub rests-new : (mine : List ℕ → Bool) (s : ℕ) (h : List Event) → SaysNothing mine s h → Rests mine (record { kept = renewed s false; deals = [] }) h
+pub rests-new : (mine : List ℕ → Bool) (s : ℕ) (h : List Event) → SaysNothing mine s h → Rests mine (record { kept = renewed s false; deals = []; spare = 0 }) h
 rests-new mine s [] q = rests-empty mine s
-rests-new mine s (Published m ∷ h) q = rests-message mine (record { kept = renewed s false; deals = [] }) m h q.0 (rests-new mine s h q.1)
+rests-new mine s (Published m ∷ h) q = rests-message mine (record { kept = renewed s false; deals = []; spare = 0 }) m h q.0 (rests-new mine s h q.1)
 rests-new mine s (Accepted x ∷ h) q = by (is_day x) refl (rests-new mine s h q.1)
   where
     fresh : SymbolState
-    fresh = record { kept = renewed s false; deals = [] }
+    fresh = record { kept = renewed s false; deals = []; spare = 0 }
 
     by : (b : Bool) → is_day x ≡ b → Rests mine fresh h → Rests mine fresh (Accepted x ∷ h)
     by true e before = rests-renewed mine fresh x h e before

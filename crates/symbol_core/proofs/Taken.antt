@@ -180,7 +180,7 @@ window_taken day s x t u end kept own (Some r) le e same =
     }
 
 pub stands-taken : (mine : List ℕ → Bool) (k : Kept) (kept : List Deal) (step : Step) (index : ℕ) (h : List Event) → is_day step.input ≡ false → option_map_or mine (name_of step.input) true ≡ true
-    → day_record (records h) ≡ Some (step.day, index) → Rests mine (record { kept = k; deals = kept }) h → step.moment ≡ moment_of step.input → step.stopped ≡ is_market_halted (Accepted step.input ∷ h) → now h ≤ step.moment
+    → day_record (records h) ≡ Some (step.day, index) → Rests mine (record { kept = k; deals = kept; spare = 0 }) h → step.moment ≡ moment_of step.input → step.stopped ≡ is_market_halted (Accepted step.input ∷ h) → now h ≤ step.moment
     → Stands mine (taken k step) (filter (leaves k.id step.input) kept) step (Accepted step.input ∷ h)
 stands-taken mine k kept step index h not_day name day s at stopped later =
     record {

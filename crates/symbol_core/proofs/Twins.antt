@@ -348,7 +348,7 @@ step_twins mine other step k kept others more h g p q =
     record {
       same = both.same;
       twins = record {
-        held = record { kept = both.new.kept; deals = window both.new dropped };
+        held = record { kept = both.new.kept; deals = window both.new dropped; spare = 0 };
         id = both.id;
         one = rests-finished mine both.new dropped (window both.new dropped) step p.index (publish ms (open_history step.input others h)) (day_opened mine step k kept others h p ms) (record { at = λ u le. refl }) both.one;
         two = rests-finished other both.new dropped (window both.new dropped) step q.index (publish ns (open_history step.input more g)) (day_opened other step k kept more g q ns) (record { at = λ u le. refl }) both.two;
@@ -393,7 +393,7 @@ twins-step mine other market x s held others more h g is p q =
 pub twins-day : (mine other : List ℕ → Bool) (s : ℕ) (x : Record) (h g : List Event) → is_day x ≡ true → Twins mine other s h g → Twins mine other s (Accepted x ∷ h) (Accepted x ∷ g)
 twins-day mine other s x h g e t =
     record {
-      held = record { kept = renewed t.held.kept.id t.held.kept.short.triggered; deals = [] };
+      held = record { kept = renewed t.held.kept.id t.held.kept.short.triggered; deals = []; spare = 0 };
       id = t.id;
       one = rests-renewed mine t.held x h e t.one;
       two = rests-renewed other t.held x g e t.two;

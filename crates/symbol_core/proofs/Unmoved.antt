@@ -53,7 +53,7 @@ use Rattle.symbol_core.proofs.Cancels.{leaves-all}
 use Rattle.symbol_core.proofs.Evaluated.{evaluated-away, starts}
 use Rattle.symbol_core.proofs.Gives.{banding-gives, enter-gives, leave-gives, mean-gives, pause-gives, reopen-gives, restrict-gives, straddle-gives, turned-gives}
 use Rattle.symbol_core.proofs.Live.{same-live}
-use Rattle.symbol_core.proofs.Resting.{rests-apart, rests-same}
+use Rattle.symbol_core.proofs.Resting.{rests-apart, rests-same, rests-with}
 use Rattle.symbol_core.proofs.Runs.{same_run}
 use Rattle.symbol_core.proofs.Steps.{stands-opened}
 
@@ -332,7 +332,7 @@ evaluated-due market x held due before is tick from until same = by (is_done hel
 
 -- Deals that are five minutes old may go at a tick.
 pub evaluated-live : (market : MarketView) (x : Record) (held : SymbolState) (before : List Message) → is_tick x ≡ true → Evaluates market x held held before before
-    → Evaluates market x held (record { kept = held.kept; deals = live (moment_of x) held.deals }) before before
+    → Evaluates market x held (record { kept = held.kept; deals = live (moment_of x) held.deals; spare = 0 }) before before
 evaluated-live market x held before tick e =
     record {
       says = e.says;
@@ -341,7 +341,7 @@ evaluated-live market x held before tick e =
           rests-same mine held.kept held.deals (live (moment_of x) held.deals) (publish ms (open_history x others h))
           (subst (λ (t : ℕ). SameLive t (live (moment_of x) held.deals) held.deals)
           (sym (now-publish ms (open_history x others h) ∙ now-publish others (Accepted x ∷ h))) (same-live (moment_of x) held.deals))
-          (e.rests mine others h p);
+          (rests-with mine held 0 (publish ms (open_history x others h)) (e.rests mine others h p));
       says_no_day = λ day. refl;
       begins = λ day mine h r. let both : true ≡ false = sym day ∙ (only_ticks x tick).other.no_day in cc;
       id = refl;

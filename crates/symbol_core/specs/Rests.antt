@@ -14,10 +14,11 @@ use Rattle.symbol_core.specs.Auctions.{auction_of}
 use Rattle.symbol_core.specs.Runs.{adoption_by, run_adopted, run_band, run_begun, run_quote}
 use Rattle.symbol_core.specs.Window.{SameLive}
 
--- the kept state and the kept deals
+-- the kept state, the kept deals, and for how many more of them there is room
 pub record SymbolState : Type 0 where
   pub kept : Kept
   pub deals : List Deal
+  pub spare : ℕ
 
 -- whether a trade of the day of the last day record triggered the short sale restriction
 abbrev pub triggered_today : (List ℕ → Bool) → ℕ → List Event → Bool

@@ -22,7 +22,7 @@ step_for market x = record { moment = moment_of x; day = market.day; stopped = m
 
 -- the step is that of a record of the day, other than the day record, on a history that the symbol rests on
 pub record Starts (own : List ℕ → Bool) (k : Kept) (kept : List Deal) (step : Step) (others : List Message) (h : List Event) : Type 0 where
-  pub rests : Rests own (record { kept = k; deals = kept }) h
+  pub rests : Rests own (record { kept = k; deals = kept; spare = 0 }) h
   pub silent : AllSilent k.id others
   pub no_day : is_day step.input ≡ false
   pub name : option_map_or own (name_of step.input) true ≡ true
@@ -37,5 +37,5 @@ pub record Steps (step : Step) (old new : Kept) (kept left : List Deal) (before 
   pub says : (own : List ℕ → Bool) (others : List Message) (h : List Event) → Starts own old kept step others h
       → after ≡ before ++ step_of step.day (named own old.id) step.input (open_history step.input others h)
   pub rests : (own : List ℕ → Bool) (others : List Message) (h : List Event) → Starts own old kept step others h
-      → Rests own (record { kept = new; deals = left }) (publish (step_of step.day (named own old.id) step.input (open_history step.input others h)) (open_history step.input others h))
+      → Rests own (record { kept = new; deals = left; spare = 0 }) (publish (step_of step.day (named own old.id) step.input (open_history step.input others h)) (open_history step.input others h))
   pub id : new.id ≡ old.id

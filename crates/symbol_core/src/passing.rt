@@ -1,5 +1,5 @@
 // Quotations that bring nothing but themselves, and trades and ticks that bring nothing but perhaps a new reference price.
-ghost use Rattle.std.specs.Prelude.{◌≡◌, ◌<◌, ◌≤◌, ◌++◌, ◌&&◌, [], Bool, None, Some, IfSome, if◌then◌else◌, true, false, is_some, length, nat_le, nat_lt, not, option_to_list, IsOk, OnOk};
+ghost use Rattle.std.specs.Prelude.{◌≡◌, ◌<◌, ◌≤◌, ◌++◌, ◌&&◌, [], Bool, None, Some, IfSome, if◌then◌else◌, true, false, is_some, length, nat_le, nat_lt, not, option_to_list, IsOk, OnErr, OnOk};
 ghost use Rattle.window_core.specs.Deals.{live, mean_of};
 ghost use Rattle.limit_core.specs.Limits.{straddles};
 ghost use Rattle.rulebook.specs.Rules.{at_band, meets};
@@ -66,7 +66,9 @@ pub fn drop_old(t: Moment, deals: &mut Window)
 pub fn reserve_deal(deal: &Option<Deal>, deals: &mut Window) -> Result<(), NoMemory>
     ensures ok { OnOk result (length (option_to_list deal.now) ≤ deals.new.spare) }
     ensures succeeds { deal.now ≡ None → IsOk result }
+    ensures room { 1 ≤ deals.old.spare → IsOk result }
     ensures deals { deals.new.deals ≡ deals.old.deals }
+    ensures err { OnErr result (deals.new ≡ deals.old) }
 {
     match deal {
         Some(_) => deals.reserve(),

@@ -61,7 +61,7 @@ impl Model for Symbol {
 
     ghost Value = { SymbolState };
 
-    ghost view = { λ s. record { kept = s.kept; deals = s.deals.deals } };
+    ghost view = { λ s. record { kept = s.kept; deals = s.deals.deals; spare = s.deals.spare } };
 
     ghost invariant = { λ s. IsDue s.due s.kept s.deals.deals };
 }
@@ -82,7 +82,9 @@ fn step_of(x: &Record, market: &MarketView) -> Step
 fn reserve_for(id: u16, step: &Step, deals: &mut Window) -> Result<(), NoMemory>
     ensures ok { OnOk result (length (option_to_list (deal_of step.now.day id step.now.input)) ≤ deals.new.spare) }
     ensures succeeds { traded_price step.now.day id step.now.input ≡ None → IsOk result }
+    ensures room { 1 ≤ deals.old.spare → IsOk result }
     ensures deals { deals.new.deals ≡ deals.old.deals }
+    ensures err { OnErr result (deals.new ≡ deals.old) }
 {
     match traded_price(id, step) {
         Some(_) => deals.reserve(),
@@ -236,6 +238,7 @@ impl Symbol {
         ensures ok { OnOk result (Evaluates market.now x.now self.old self.new out.old out.new) }
         ensures err { OnErr result ((self.new ≡ self.old) × (out.new ≡ out.old)) }
         ensures succeeds { traded_price market.now.day self.old.kept.id x.now ≡ None → IsOk result }
+        ensures room { 1 ≤ self.old.spare → IsOk result }
         ensures recent { OnOk result (live (moment_of x.now) self.new.deals ≡ self.new.deals) }
     {
         let t = x.moment();
@@ -272,6 +275,7 @@ impl Symbol {
         ensures ok { OnOk result (Evaluates market.now x.now self.old self.new out.old out.new) }
         ensures err { OnErr result ((self.new ≡ self.old) × (out.new ≡ out.old)) }
         ensures succeeds { traded_price market.now.day self.old.kept.id x.now ≡ None → IsOk result }
+        ensures room { 1 ≤ self.old.spare → IsOk result }
         ensures recent { OnOk result (live (moment_of x.now) self.new.deals ≡ self.new.deals) }
     {
         let deal = deal_in(self.kept.id, x, &market.day);
@@ -285,7 +289,7 @@ impl Symbol {
     /// Evaluates a record: leaves what it announces of the symbol and what the rules then give, in place of the messages that
     /// were there. It leaves none at a Day record, which begins the day, nor at a clock or an index tick of a day on which the
     /// symbol isn't listed. Out of memory, it leaves none and doesn't change the symbol; that can't come of a record that is no
-    /// eligible trade of the symbol. Of a listed symbol, no trade that is five minutes old is kept.
+    /// eligible trade of the symbol, nor where there is room for one more deal. Of a listed symbol, no trade that is five minutes old is kept.
     #[inline(always)]
     pub fn evaluate(
         &mut self,
@@ -296,6 +300,7 @@ impl Symbol {
         ensures ok { OnOk result (Evaluates market.now x.now self.old self.new [] out.new) }
         ensures err { OnErr result ((self.new ≡ self.old) × (out.new ≡ [])) }
         ensures succeeds { traded_price market.now.day self.old.kept.id x.now ≡ None → IsOk result }
+        ensures room { 1 ≤ self.old.spare → IsOk result }
         ensures recent { is_some self.new.kept.terms ≡ true → OnOk result (live (moment_of x.now) self.new.deals ≡ self.new.deals) }
     {
         out.clear();
@@ -314,6 +319,7 @@ impl Symbol {
         ensures ok { OnOk result (Evaluates market.now x.now self.old self.new out.old out.new) }
         ensures err { OnErr result ((self.new ≡ self.old) × (out.new ≡ out.old)) }
         ensures succeeds { traded_price market.now.day self.old.kept.id x.now ≡ None → IsOk result }
+        ensures room { 1 ≤ self.old.spare → IsOk result }
         ensures recent { is_some self.new.kept.terms ≡ true → OnOk result (live (moment_of x.now) self.new.deals ≡ self.new.deals) }
     {
         if x.is_day() {
@@ -342,6 +348,7 @@ impl Symbol {
         ensures ok { OnOk result (Evaluates market.now x.now self.old self.new out.old out.new) }
         ensures err { OnErr result ((self.new ≡ self.old) × (out.new ≡ out.old)) }
         ensures succeeds { traded_price market.now.day self.old.kept.id x.now ≡ None → IsOk result }
+        ensures room { 1 ≤ self.old.spare → IsOk result }
         ensures recent { OnOk result (live (moment_of x.now) self.new.deals ≡ self.new.deals) }
     {
         let step = step_of(x, market);

@@ -1,12 +1,16 @@
 // The deals of a window, in a queue.
-ghost use Rattle.std.specs.Prelude.{◌≡◌, ◌+◌, ◌*◌, ◌≤◌, ◌++◌, ◌∷◌, ◌&&◌, [], filter, length, nat_le, slice_get, sum_by};
+ghost use Rattle.std.specs.Prelude.{◌≡◌, ◌+◌, ◌*◌, ◌≤◌, ◌++◌, ◌∷◌, ◌&&◌, [], IsOk, OnErr, OnOk, filter, length, nat_le, slice_get, sum_by};
 ghost use Rattle.std.specs.VecDeque.{deque_len, deque_capacity};
 ghost use Rattle.window_core.specs.Deals.{live, stays};
 ghost use Rattle.window_core.specs.Tallies.{Tallies};
 
 use crate::window::Deal;
+use price_core::NoMemory;
 use session_core::Moment;
 use std::collections::VecDeque;
+
+/// For how many deals room is taken at first.
+const FIRST_ROOM: usize = 4;
 
 /// Removes the deals that are five minutes old.
 pub fn keep_live(t: Moment, deals: &mut VecDeque<Deal>)
@@ -24,6 +28,27 @@ pub fn remove(number: u32, deals: &mut VecDeque<Deal>)
     ensures capacity { deque_capacity deals.new ≡ deque_capacity deals.old }
 {
     deals.retain(|deal| deal.number != number);
+}
+
+/// Takes room for one more deal: for as many more as there are, or for one where that is refused. An error leaves all as it
+/// was.
+pub fn make_room(deals: &mut VecDeque<Deal>) -> Result<(), NoMemory>
+    ensures ok { OnOk result (deque_len deals.new + 1 ≤ deque_capacity deals.new) }
+    ensures succeeds { deque_len deals.old + 1 ≤ deque_capacity deals.old → IsOk result }
+    ensures items { deals.new.items ≡ deals.old.items }
+    ensures len { deque_len deals.new ≡ deque_len deals.old }
+    ensures capacity { deque_capacity deals.old ≤ deque_capacity deals.new }
+    ensures err { OnErr result (deque_capacity deals.new ≡ deque_capacity deals.old) }
+{
+    if deals.len() < deals.capacity() {
+        return Ok(());
+    }
+    let more = deals.len().max(FIRST_ROOM);
+    if deals.reserve_exact(more).is_ok() {
+        return Ok(());
+    }
+    deals.reserve_exact(1)?;
+    Ok(())
 }
 
 pub fn push_deal(deal: Deal, deals: &mut VecDeque<Deal>)

@@ -1,4 +1,4 @@
-ghost use Rattle.std.specs.Prelude.{◌≡◌, ℕ, true, false, ◌+◌, ◌≤◌, ◌<◌, ◌++◌, ◌∷◌, [], List, IsOk, IfOk, OnOk, filter, option_map, option_to_list, slice_get};
+ghost use Rattle.std.specs.Prelude.{◌≡◌, ℕ, true, false, ◌+◌, ◌≤◌, ◌<◌, ◌++◌, ◌∷◌, [], List, IsOk, IfOk, OnErr, OnOk, filter, option_map, option_to_list, slice_get};
 ghost use Rattle.std.specs.Option.{option_map_or};
 ghost use Rattle.price_core.specs.Moves.{moved_one_percent};
 ghost use Rattle.window_core.specs.Calls.{Call, Advance, Add, Cancel, Restart, moment_in, window};
@@ -8,7 +8,9 @@ ghost use Rattle.window_core.specs.WindowState.{Represents};
 
 use crate::bounds::PriceBounds;
 use crate::leaving::{FEW, few_move_from, many_move_from};
-use crate::queue::{first, keep_live, later, push_deal, remove, stays_ordered, total_of};
+use crate::queue::{
+    first, keep_live, later, make_room, push_deal, remove, stays_ordered, total_of,
+};
 use crate::tally::Tally;
 use price_core::{NoMemory, Price};
 use session_core::{FIVE_MINUTES, Moment, midnight};
@@ -79,18 +81,16 @@ impl Window {
         })
     }
 
-    /// Takes room for one more deal. An error leaves the window as it was.
+    /// Takes room for one more deal: room that is there is never refused. An error leaves the window as it was.
     pub fn reserve(&mut self) -> Result<(), NoMemory>
         ensures ok { OnOk result (1 ≤ self.new.spare) }
         ensures succeeds { 1 ≤ self.old.spare → IsOk result }
         ensures deals { self.new.deals ≡ self.old.deals }
         ensures spare { self.old.spare ≤ self.new.spare }
         ensures stands { (calls : List Call) → Represents self.old calls → Represents self.new calls }
+        ensures err { OnErr result (self.new ≡ self.old) }
     {
-        match self.items.reserve(1) {
-            Ok(()) => Ok(()),
-            Err(_) => Err(NoMemory),
-        }
+        make_room(&mut self.items)
     }
 
     /// Adds a deal, in room that was taken before.

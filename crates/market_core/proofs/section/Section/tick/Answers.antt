@@ -15,6 +15,7 @@ loop-index-init c =
       count = ap length same;
       within = omega (arith, first.ensures.end, c.len-count.ensures);
       since = first.ensures.since ∙ c.begin_tick.ensures.since ∙ ap (λ (t : ℕ). Some (record { from = t; market = c.args.market.now })) c.moment.ensures;
+      spare = omega (arith, first.ensures.spare, c.begin_tick.ensures.spare);
       room = omega arith;
       len = omega arith;
     }
@@ -37,6 +38,7 @@ loop-index-preserved c =
       count = ap length next.ensures.symbols ∙ counted ∙ now.invariant.count;
       within = omega (arith, next.ensures.end, counted, now.invariant.count, c.len-count.ensures, begun);
       since = next.ensures.since ∙ c.evaluate.ensures.since market now.invariant.since ∙ now.invariant.since;
+      spare = omega (arith, now.invariant.spare, c.evaluate.ensures.spare, next.ensures.spare);
       room = omega (arith, now.invariant.room, c.evaluate.ensures.room);
       len = omega (arith, now.invariant.len, c.evaluate.ensures.len, next.ensures.from);
     }

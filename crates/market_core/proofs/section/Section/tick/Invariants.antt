@@ -12,6 +12,7 @@ invariant-loop-index l = record {
   count : length l.self.symbols ≡ length l.fn.self.symbols;
   within : l.index ≤ l.count;
   since : l.self.since ≡ Some (record { from = moment_of l.x; market = l.market });
+  spare : l.fn.self.spare ≤ l.self.spare;
   room : vec_capacity l.fn.out ≤ vec_capacity l.out;
   len : vec_len l.out ≤ vec_len l.fn.out + most_of_symbol * l.index;
 }

@@ -7,5 +7,5 @@ pub returns : goal.returns
 returns c =
     record {
       nothing = subst (λ (held : SymbolState). IsPassed c.self.inside.due held) c.self.view_is
-          (passed c.self.inside.due (record { kept = c.self.inside.kept; deals = c.self.inside.deals.deals }) c.self.invariant);
+          (passed c.self.inside.due (record { kept = c.self.inside.kept; deals = c.self.inside.deals.deals; spare = c.self.inside.deals.spare }) c.self.invariant);
     }

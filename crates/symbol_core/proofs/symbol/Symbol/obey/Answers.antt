@@ -9,6 +9,6 @@ take_step-self-inside-requires-clause-waits c =
 
 pub returns-clause-ok : goal.returns-clause-ok
 returns-clause-ok c =
-    step-obeyed c.args.market.now c.args.x.now c.args.self.now c.self.inside.kept c.self.inside.deals.deals c.reserve_for.new.deals.deals
-    (record { kept = c.take_step-self-inside.new.k; deals = c.take_step-self-inside.new.deals.deals }) c.args.out.now c.args.out.now c.take_step-self-inside.new.out c.step_of-step.result
+    step-obeyed c.args.market.now c.args.x.now c.args.self.now c.self.inside.kept c.self.inside.deals.deals c.reserve_for.new.deals.deals c.self.inside.deals.spare
+    (record { kept = c.take_step-self-inside.new.k; deals = c.take_step-self-inside.new.deals.deals; spare = c.take_step-self-inside.new.deals.spare }) c.args.out.now c.args.out.now c.take_step-self-inside.new.out c.step_of-step.result
     c.self.view_is c.step_of-step.ensures c.reserve_for.ensures.deals refl c.requires.day c.requires.listed c.take_step-self-inside.ensures.steps

@@ -8,6 +8,7 @@ use Rattle.symbol_core.specs.declared.due.Due.{Due}
 use Rattle.symbol_core.specs.Evaluates.{Evaluates}
 use Rattle.symbol_core.specs.Idle.{IsDue}
 use Rattle.symbol_core.specs.Rests.{SymbolState}
+use Rattle.symbol_core.proofs.Evaluated.{evaluated-with}
 use Rattle.symbol_core.proofs.Unmoved.{due-live, evaluated-due, evaluated-live}
 use Rattle.symbol_core.proofs.symbol.Symbol.pass.Goals as goal
 
@@ -32,10 +33,13 @@ returns-in-Some-clause-nothing c = λ passed before.
     let until = subst (λ (t : ℕ). t < due.until) c.moment-t.ensures (c.holds.ensures.until c.if-holds.true) in
     let is = subst (λ (o : Option Due). IsDue o k deals) c.in-Some.is c.self.invariant in
     let gone : c.drop_old.new.deals.deals ≡ live (moment_of x) deals = c.drop_old.ensures.deals ∙ ap (λ (t : ℕ). live t deals) c.moment-t.ensures in
-    subst (λ (held : SymbolState). Evaluates market x held (record { kept = k; deals = c.drop_old.new.deals.deals }) before before) c.self.view_is
-    (subst (λ (ds : List Deal). Evaluates market x (record { kept = k; deals = deals }) (record { kept = k; deals = ds }) before before) (sym gone)
-    (evaluated-live market x (record { kept = k; deals = deals }) before tick
-    (evaluated-due market x (record { kept = k; deals = deals }) due before is tick from until (c.holds.ensures.market c.if-holds.true))))
+    let held : SymbolState = record { kept = k; deals = deals; spare = c.self.inside.deals.spare } in
+    let left = c.drop_old.new.deals.spare in
+    subst (λ (old : SymbolState). Evaluates market x old (record { kept = k; deals = c.drop_old.new.deals.deals; spare = left }) before before) c.self.view_is
+    (subst (λ (ds : List Deal). Evaluates market x held (record { kept = k; deals = ds; spare = left }) before before) (sym gone)
+    (evaluated-with market x held (record { kept = k; deals = live (moment_of x) deals; spare = 0 }) held.spare left before before
+    (evaluated-live market x held before tick
+    (evaluated-due market x held due before is tick from until (c.holds.ensures.market c.if-holds.true)))))
 
 pub returns-in-Some-clause-recent : goal.returns-in-Some-clause-recent
 returns-in-Some-clause-recent c = λ passed.

@@ -7,6 +7,7 @@ use Rattle.symbol_core.specs.declared.due.Due.{Due}
 use Rattle.symbol_core.specs.Evaluates.{Evaluates}
 use Rattle.symbol_core.specs.Idle.{IsDue}
 use Rattle.symbol_core.specs.Rests.{SymbolState}
+use Rattle.symbol_core.proofs.Evaluated.{evaluated-with}
 use Rattle.symbol_core.proofs.Quoted.{quoted, quoted-due, quoted-evaluated, settled-market}
 use Rattle.symbol_core.proofs.symbol.Symbol.pass_quote.Goals as goal
 
@@ -22,7 +23,7 @@ invariant_of-self c =
     let by = c.stays_settled.ensures in
     let yes = c.if-stays_settled.true in
     let settled = by.settled yes (settled-market k deals due c.args.market.now is (by.listed yes) same) in
-    let left : record { kept = c.take_quote.new.self; deals = c.drop_old.new.deals.deals } ≡ quoted (record { kept = k; deals = deals }) t quote = λ i. record { kept = c.take_quote.ensures i; deals = c.drop_old.ensures.deals i } in
+    let left : record { kept = c.take_quote.new.self; deals = c.drop_old.new.deals.deals; spare = 0 } ≡ quoted (record { kept = k; deals = deals; spare = 0 }) t quote = λ i. record { kept = c.take_quote.ensures i; deals = c.drop_old.ensures.deals i; spare = 0 } in
     subst (λ (held : SymbolState). IsDue (Some (record due { from = t })) held.kept held.deals) (sym left)
     (quoted-due k deals due t quote c.args.market.now is (c.holds.ensures.from c.if-holds.true) same (by.run yes) settled)
 
@@ -41,12 +42,16 @@ returns-in-Some-due-clause-nothing c = λ passed before.
     let by = c.stays_settled.ensures in
     let yes = c.if-stays_settled.true in
     let settled = by.settled yes (settled-market k deals due market is (by.listed yes) same) in
-    let left : record { kept = c.take_quote.new.self; deals = c.drop_old.new.deals.deals } ≡ quoted (record { kept = k; deals = deals }) (moment_of x) quote =
-    (λ i. record { kept = c.take_quote.ensures i; deals = c.drop_old.ensures.deals i }) ∙ ap (λ (t : ℕ). quoted (record { kept = k; deals = deals }) t quote) c.moment-t.ensures in
-    subst (λ (held : SymbolState). Evaluates market x held (record { kept = c.take_quote.new.self; deals = c.drop_old.new.deals.deals }) before before) c.self.view_is
-    (subst (λ (held : SymbolState). Evaluates market x (record { kept = k; deals = deals }) held before before) (sym left)
+    let held : SymbolState = record { kept = k; deals = deals; spare = 0 } in
+    let new : SymbolState = record { kept = c.take_quote.new.self; deals = c.drop_old.new.deals.deals; spare = 0 } in
+    let left : new ≡ quoted held (moment_of x) quote =
+    (λ i. record { kept = c.take_quote.ensures i; deals = c.drop_old.ensures.deals i; spare = 0 }) ∙ ap (λ (t : ℕ). quoted held t quote) c.moment-t.ensures in
+    let room = c.drop_old.new.deals.spare in
+    subst (λ (old : SymbolState). Evaluates market x old (record new { spare = room }) before before) c.self.view_is
+    (evaluated-with market x held new c.self.inside.deals.spare room before before
+    (subst (λ (is : SymbolState). Evaluates market x held is before before) (sym left)
     (quoted-evaluated market x k deals due quote before is (by.listed yes) from until same (by.run yes) settled
-    (sym c.quoted_by.ensures ∙ c.in-Some.is)))
+    (sym c.quoted_by.ensures ∙ c.in-Some.is))))
 
 pub returns-in-Some-due-clause-recent : goal.returns-in-Some-due-clause-recent
 returns-in-Some-due-clause-recent c = λ passed.

@@ -1,0 +1,16 @@
+use Rattle.std.proofs.Common.{ℕ, List, ◌∷◌, [], length, length-append, ap, ◌∙◌, arith}
+use Rattle.std.specs.Prelude.{slice_index}
+use Rattle.market_core.proofs.Room.{index-more}
+use Rattle.market_core.proofs.section.make_places.Goals as goal
+
+pub loop-place-preserved : goal.loop-place-preserved
+loop-place-preserved c =
+    let alarms = c.loop-place.alarms in
+    let pushed = (c.in_ok-push.ensures).ok in
+    record {
+      more = omega (arith, ap length pushed, length-append alarms (0 ∷ []), c.loop-place.invariant.more);
+      same = λ place. ap (λ (xs : List ℕ). slice_index xs place) pushed ∙ index-more alarms place ∙ c.loop-place.invariant.same place;
+    }
+
+pub returns-in_err-push-clause-none : goal.returns-in_err-push-clause-none
+returns-in_err-push-clause-none c = λ none. absurd (omega (arith, none, c.loop-place-test.true))
