@@ -41,7 +41,7 @@ module _ {start : Start} {answered all : List (List ℕ)} {number : ℕ} {outcom
   sends_all = sends_longer _ (added start answered waits.waiting) _ (sym (expected-more start answered waits.waiting) ∙ ap (expected start) waits.whole)
 
   -- memory is short behind the answered ones
-  pub starved_behind : (now : Outside) → (start.workers ≡ 1 → TakesNext start answered waits.waiting) → now.sent ≡ append_known start.sent (expected start answered) → Starved start all now
+  pub starved_behind : (now : Outside) → TakesNext start answered waits.waiting → now.sent ≡ append_known start.sent (expected start answered) → Starved start all now
   starved_behind now short sent = record { answered = answered; waiting = waits.waiting; frames = sym waits.whole; short = short; sent = sent }
 
 -- The first frame of those that wait is answered.
@@ -91,5 +91,5 @@ module _ {start : Start} {answered all : List (List ℕ)} {number : ℕ} {outcom
         moments = sends_on run text (added start now first.1) (ap (λ (t : List ℕ). t ++ added start now first.1) text_is ∙ sym (expected-more start now first.1) ∙ ap (expected start) whole) appends.moments;
         starved = λ is.
             let at = short is in
-            starved_behind answers.waits new (λ one. record { body = first.0; later = first.1; first = first.2; x = at.x; accepted = sym first.3 ∙ at.is; takes = at.takes (answers.evaluates.workers ∙ one) }) at.sent;
+            starved_behind answers.waits new (record { body = first.0; later = first.1; first = first.2; x = at.x; accepted = sym first.3 ∙ at.is; takes = λ one. at.takes (answers.evaluates.workers ∙ one) }) at.sent;
       }

@@ -51,8 +51,8 @@ runs_on {result = result} {start = start} {prefix = prefix} begins first second 
         answered = short.answered;
         waiting = short.waiting ++ more;
         frames = ap bodies_of (sym begins.whole) ∙ bodies_of-append prefix begins.more ∙ ap (λ (b : List (List ℕ)). b ++ more) short.frames ∙ append_assoc short.answered short.waiting more;
-        short = λ one.
-            let next = short.short one in
+        short =
+            let next = short.short in
             record { body = next.body; later = next.later ++ more; first = ap (λ (b : List (List ℕ)). b ++ more) next.first; x = next.x; accepted = next.accepted; takes = next.takes };
         sent = short.sent;
       };

@@ -51,22 +51,23 @@ pub record Answered (holds : List Record → Outside → Type 0) (start : Start)
   pub sent : now.sent ≡ append_known start.sent (expected start (bodies_of (take count input)))
   pub held : holds (held_after start (bodies_of (take count input))) now
 
--- The first of these frames, behind the answered ones, brings a Listing or a Trade that is accepted.
+-- The first of these frames, behind the answered ones, brings a record that is accepted, and that takes memory where there is
+-- one worker.
 pub record TakesNext (start : Start) (answered waiting : List (List ℕ)) : Type 0 where
   pub body : List ℕ
   pub later : List (List ℕ)
   pub first : waiting ≡ body ∷ later
   pub x : Record
   pub accepted : judged start.capacity (held_after start answered) body ≡ Ok x
-  pub takes : TakesMemory x
+  pub takes : start.workers ≡ 1 → TakesMemory x
 
--- All that is expected for some of the first frames, and no more, was sent; where there is one worker, the frame behind them
--- brings a Listing or a Trade that is accepted.
+-- All that is expected for some of the first frames, and no more, was sent; the frame behind them brings a record that is
+-- accepted, and where there is one worker, one that takes memory.
 pub record Starved (start : Start) (bodies : List (List ℕ)) (now : Outside) : Type 0 where
   pub answered : List (List ℕ)
   pub waiting : List (List ℕ)
   pub frames : bodies ≡ answered ++ waiting
-  pub short : start.workers ≡ 1 → TakesNext start answered waiting
+  pub short : TakesNext start answered waiting
   pub sent : now.sent ≡ append_known start.sent (expected start answered)
 
 -- what is expected for the whole frames of these bytes

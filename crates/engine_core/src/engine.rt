@@ -132,30 +132,25 @@ impl Engine {
     }
 
     /// Evaluates the oldest of the accepted records that wait ahead, which are at most 65,536, by all workers: `evaluate` then
-    /// takes one after the other. One worker evaluates nothing ahead. After an error the engine is of no further use.
-    pub fn prepare<Rt: Threads + Sync, G: Gate>(
-        &mut self,
-        rt: &Rt,
-        gate: &G,
-        xs: &Vec<Record>,
-    ) -> Result<(), NoMemory>
+    /// takes one after the other. One worker evaluates nothing ahead. Where there is no memory for it, `evaluate` tells so.
+    pub fn prepare<Rt: Threads + Sync, G: Gate>(&mut self, rt: &Rt, gate: &G, xs: &Vec<Record>)
         requires few { length xs.now.items ≤ 65536 }
         ensures represents { (capacity : ℕ) (accepted evaluated : List Record) → Represents self.old capacity accepted evaluated → IsIdle self.old.evaluator
-            → AreAdmissible capacity evaluated xs.now.items → OnOk result (Represents self.new capacity accepted evaluated) }
-        ensures ahead { IsIdle self.old.evaluator → OnOk result (IsAhead self.new.evaluator xs.now.items) }
-        ensures alone { workers_of self.old.evaluator ≡ 1 → IsOk result }
+            → AreAdmissible capacity evaluated xs.now.items → Represents self.new capacity accepted evaluated }
+        ensures ahead { IsIdle self.old.evaluator → IsAhead self.new.evaluator xs.now.items }
+        ensures alone { workers_of self.old.evaluator ≡ 1 → self.new ≡ self.old }
         ensures rest { self.new ≡ record self.old { evaluator = self.new.evaluator } }
         ensures workers { workers_of self.new.evaluator ≡ workers_of self.old.evaluator }
         ensures roomy { IsRoomy self.old → IsRoomy self.new }
     {
-        if xs.is_empty() {
-            return Ok(());
+        if !xs.is_empty() {
+            self.evaluator.prepare(rt, gate, xs);
         }
-        self.evaluator.prepare(rt, gate, xs)
     }
 
     /// Evaluates the oldest of the accepted records that wait, and keeps its messages. Where there is one worker, it takes
-    /// memory at a Listing and a Trade alone. After an error the engine is of no further use.
+    /// memory at a Listing and a Trade alone. Several workers may have found none ahead. After an error the engine is of no
+    /// further use.
     pub fn evaluate(&mut self, x: &Record) -> Result<(), NoMemory>
         requires room { self.old.published + most_messages < 2 ^ 64 }
         requires count { self.old.evaluated + 1 < 2 ^ 64 }

@@ -10,7 +10,6 @@ ghost use Rattle.rulebook.specs.Admission.{verdict};
 ghost use Rattle.rulebook.specs.Sent.{spelled, numbered, refused, accepted, reply, with_record};
 ghost use Rattle.rulebook.specs.Book.{newest_messages};
 ghost use Rattle.market_core.specs.MarketState.{most_messages};
-ghost use Rattle.shard_core.specs.Block.{AreAdmissible};
 ghost use Rattle.stream_core.specs.Pending.{Expects, SendsPrefix};
 ghost use Rattle.engine_core.specs.EngineState.{Represents, IsRoomy};
 ghost use Rattle.engine_core.specs.Answering.{IsShort, Appends};
@@ -22,11 +21,9 @@ use crate::engine::Engine;
 use crate::round::Outcome;
 use host_core::{Fault, Host};
 use std::alloc::Global;
-use std::thread::Threads;
 use stream_core::Outbox;
 use wire_in::{Record, Refusal};
 use wire_out::{Frame, Stamped};
-use yard_core::Gate;
 
 /// Appends messages, numbered on from those before them.
 pub fn append_messages<H: Host>(
@@ -91,40 +88,6 @@ fn give_up<H: Host>(outbox: &mut Outbox, host: &mut H) -> Fault
     match outbox.flush(host) {
         Ok(()) => Fault::Memory,
         Err(fault) => fault,
-    }
-}
-
-/// Evaluates accepted records ahead. Where memory is short, what waits is sent before that is told.
-pub fn prepare<Rt: Threads + Sync, H: Host, G: Gate>(
-    rt: &Rt,
-    engine: &mut Engine,
-    outbox: &mut Outbox,
-    host: &mut H,
-    gate: &G,
-    xs: &Vec<Record>,
-) -> Result<(), Fault>
-    requires few { length xs.now.items ≤ 65536 }
-    ensures represents { (capacity : ℕ) (accepted evaluated : List Record) → Represents engine.old capacity accepted evaluated → IsIdle engine.old.evaluator
-        → AreAdmissible capacity evaluated xs.now.items → OnOk result (Represents engine.new capacity accepted evaluated) }
-    ensures ahead { IsIdle engine.old.evaluator → OnOk result (IsAhead engine.new.evaluator xs.now.items) }
-    ensures alone { workers_of engine.old.evaluator ≡ 1 → result ≢ Err Fault.Memory }
-    ensures rest { engine.new ≡ record engine.old { evaluator = engine.new.evaluator } }
-    ensures workers { workers_of engine.new.evaluator ≡ workers_of engine.old.evaluator }
-    ensures roomy { IsRoomy engine.old → IsRoomy engine.new }
-    ensures pending { (begin : Option (List ℕ)) (text : List ℕ) → Expects begin (H.outside host.old).sent outbox.old text
-        → OnOk result (Expects begin (H.outside host.new).sent outbox.new text) }
-    ensures moments { (begin : Option (List ℕ)) (text : List ℕ) → Expects begin (H.outside host.old).sent outbox.old text
-        → Elapses (H.outside host.old) (H.outside host.new) (SendsPrefix begin text (H.outside host.old)) }
-    ensures sent { (begin : Option (List ℕ)) (text : List ℕ) → Expects begin (H.outside host.old).sent outbox.old text
-        → result ≡ Err Fault.Memory → (H.outside host.new).sent ≡ append_known begin text }
-    ensures keeps { OnlySends (H.outside host.old) (H.outside host.new) }
-    ensures causes { Causes result (H.outside host.old) (H.outside host.new) }
-    ensures unread { result ≢ Err Fault.Read }
-    ensures unkept { result ≢ Err Fault.Disk }
-{
-    match engine.prepare(rt, gate, xs) {
-        Ok(()) => Ok(()),
-        Err(_) => Err(give_up(outbox, host)),
     }
 }
 

@@ -12,17 +12,16 @@ ghost use Rattle.wire_in.specs.Spelling.{InRange};
 ghost use Rattle.journal_core.specs.Layout.{with_batch};
 ghost use Rattle.rulebook.specs.Sent.{with_record};
 ghost use Rattle.market_core.specs.AdmissionState.{refusal_of};
-ghost use Rattle.stream_core.specs.Pending.{SendsPrefix};
 ghost use Rattle.engine_core.specs.EngineState.{Represents};
 ghost use Rattle.engine_core.specs.Rounds.{Outcome, records_in};
-ghost use Rattle.engine_core.specs.Sessions.{Start, Starved, expected};
+ghost use Rattle.engine_core.specs.Sessions.{Start};
 ghost use Rattle.engine_core.specs.Answering.{Answers, Replies};
 ghost use Rattle.engine_core.specs.Unwritten.{WritesNothing};
 ghost use Rattle.engine_core.specs.Serving.{Serves, Runs, IsSound, IsReady, Keeps, OnlyAnswers};
 
 use crate::engine::{Engine, judge};
 use crate::keeper::Keeper;
-use crate::reply::{answer, prepare};
+use crate::reply::answer;
 use crate::round::{Outcome, ROUND_MAX, Round};
 use host_core::{Fault, Host};
 use std::thread::Threads;
@@ -139,34 +138,14 @@ fn answer_each<H: Host>(
 }
 
 /// Evaluates the accepted records of the frames that wait ahead.
-fn prepare_round<Rt: Threads + Sync, H: Host, G: Gate>(
-    rt: &Rt,
-    session: &mut Session,
-    host: &mut H,
-    gate: &G,
-) -> Result<(), Fault>
-    ensures answers { (start : Start) (before all : List (List ℕ)) → Answers start before all session.old.answered session.old.round.outcomes [] session.old.engine session.old.outbox (H.outside host.old).sent
-        → OnOk result (Answers start before all session.new.answered session.new.round.outcomes (records_in session.new.round.outcomes) session.new.engine session.new.outbox (H.outside host.new).sent) }
-    ensures moments { (start : Start) (before all : List (List ℕ)) → Answers start before all session.old.answered session.old.round.outcomes [] session.old.engine session.old.outbox (H.outside host.old).sent
-        → Elapses (H.outside host.old) (H.outside host.new) (SendsPrefix start.sent (expected start all) (H.outside host.old)) }
-    ensures rest { session.new ≡ record session.old { engine = session.new.engine; outbox = session.new.outbox } }
+fn prepare_round<Rt: Threads + Sync, G: Gate>(rt: &Rt, session: &mut Session, gate: &G)
+    ensures answers { (start : Start) (before all : List (List ℕ)) (sent : Option (List ℕ)) → Answers start before all session.old.answered session.old.round.outcomes [] session.old.engine session.old.outbox sent
+        → Answers start before all session.new.answered session.new.round.outcomes (records_in session.new.round.outcomes) session.new.engine session.new.outbox sent }
+    ensures rest { session.new ≡ record session.old { engine = session.new.engine } }
     ensures admission { session.new.engine.admission ≡ session.old.engine.admission }
     ensures sound { IsSound session.old.engine session.old.round.outcomes session.old.answered → IsSound session.new.engine session.new.round.outcomes session.new.answered }
-    ensures keeps { OnlySends (H.outside host.old) (H.outside host.new) }
-    ensures causes { Causes result (H.outside host.old) (H.outside host.new) }
-    ensures unread { result ≢ Err Fault.Read }
-    ensures unkept { result ≢ Err Fault.Disk }
-    ensures starved { (start : Start) (before all : List (List ℕ)) → Answers start before all session.old.answered session.old.round.outcomes [] session.old.engine session.old.outbox (H.outside host.old).sent
-        → result ≡ Err Fault.Memory → Starved start all (H.outside host.new) }
 {
-    prepare(
-        rt,
-        &mut session.engine,
-        &mut session.outbox,
-        host,
-        gate,
-        session.round.accepted(),
-    )
+    session.engine.prepare(rt, gate, session.round.accepted());
 }
 
 /// Evaluates the frames that wait, whose accepted records are kept, and answers them.
@@ -193,7 +172,7 @@ fn answer_round<Rt: Threads + Sync, H: Host, G: Gate>(
     ensures unread { result ≢ Err Fault.Read }
     ensures unkept { result ≢ Err Fault.Disk }
 {
-    prepare_round(rt, session, host, gate)?;
+    prepare_round(rt, session, gate);
     answer_each(
         &mut session.engine,
         &mut session.outbox,

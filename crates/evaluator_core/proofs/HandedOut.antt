@@ -8,7 +8,7 @@ use Rattle.rulebook.specs.Book.{newest_messages}
 use Rattle.shard_core.specs.declared.tagged.Tagged.{Tagged}
 use Rattle.shard_core.specs.Block as blocks
 use Rattle.shard_core.specs.Block.{ShardsState, followed, given_from, tagged}
-use Rattle.evaluator_core.specs.AheadState.{RepresentsAhead}
+use Rattle.evaluator_core.specs.AheadState.{IsAheadOf}
 use Rattle.evaluator_core.specs.Leading.{leading}
 
 pub leading-same : (index : ℕ) (message : Tagged) (later : List Tagged) → message.input ≡ index → leading index (message ∷ later) ≡ suc (leading index later)
@@ -84,11 +84,11 @@ next_ahead index xs x later few is = ap (λ (n : ℕ). drop n xs) (next_index in
 -- the messages of the oldest record that is ahead are handed out from an index of the list on
 pub record HandsOn (count : ℕ) (part : List Tagged) (shards : ShardsState) (index at : ℕ) (records : List Record) (given : List Tagged) (x : Record) (applied later : List Record) : Type 0 where
   pub said : map (λ (message : Tagged). message.stamped) (take count part) ≡ newest_messages (x ∷ applied)
-  pub stands : RepresentsAhead (record { shards = shards; index = (index + 1) % 4294967296; ahead = drop ((index + 1) % 4294967296) records; left = drop (at + count) given }) (x ∷ applied)
+  pub stands : IsAheadOf (record { shards = shards; index = (index + 1) % 4294967296; ahead = drop ((index + 1) % 4294967296) records; left = drop (at + count) given }) (x ∷ applied)
 
 pub hands_on : (count at index : ℕ) (shards : ShardsState) (records : List Record) (slice given : List Tagged) (x : Record) (applied later : List Record) → length records ≤ 65536
     → slice ≡ given → count ≡ leading index (take (length slice - at) (drop at slice)) → drop index records ≡ x ∷ later
-    → RepresentsAhead (record { shards = shards; index = index; ahead = drop index records; left = drop at given }) applied
+    → IsAheadOf (record { shards = shards; index = index; ahead = drop index records; left = drop at given }) applied
     → HandsOn count (take (length slice - at) (drop at slice)) shards index at records given x applied later
 hands_on count at index shards records slice given x applied later few same is oldest block =
     let part = take (length slice - at) (drop at slice) in

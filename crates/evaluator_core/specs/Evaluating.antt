@@ -1,10 +1,10 @@
 -- One market, evaluated record by record or ahead.
-use Rattle.std.specs.Prelude.{◌≡◌, ℕ, List, [], length}
+use Rattle.std.specs.Prelude.{ℕ, List, [], length}
 use Rattle.wire_in.specs.declared.record.Record.{Record}
 use Rattle.market_core.specs.MarketState as markets
 use Rattle.evaluator_core.specs.declared.evaluator.Evaluator.{Evaluator}
 use Rattle.evaluator_core.specs.declared.evaluator.Evaluator.TheVariants.{One, Many}
-use Rattle.evaluator_core.specs.AheadState.{RepresentsAhead}
+use Rattle.evaluator_core.specs.AheadState.{RepresentsAhead, HasAhead}
 
 -- it stands for the list of evaluated records, the newest first
 abbrev pub Represents : Evaluator → List Record → Type 0
@@ -14,7 +14,7 @@ Represents (Many block) evaluated = RepresentsAhead block evaluated
 -- these records, the oldest first, and no others are evaluated ahead; one worker evaluates none ahead
 abbrev pub IsAhead : Evaluator → List Record → Type 0
 IsAhead (One market) records = Unit {0}
-IsAhead (Many block) records = block.ahead ≡ records
+IsAhead (Many block) records = HasAhead block records
 
 -- no record is evaluated ahead
 abbrev pub IsIdle : Evaluator → Type 0

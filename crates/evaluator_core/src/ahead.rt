@@ -6,7 +6,7 @@ ghost use Rattle.rulebook.specs.Book.{newest_messages};
 ghost use Rattle.market_core.specs.MarketState.{most_messages};
 ghost use Rattle.market_core.specs.MarketState as markets;
 ghost use Rattle.shard_core.specs.Block.{AreAdmissible};
-ghost use Rattle.evaluator_core.specs.AheadState.{RepresentsAhead};
+ghost use Rattle.evaluator_core.specs.AheadState.{RepresentsAhead, HasAhead};
 ghost use Rattle.evaluator_core.specs.Leading.{leading};
 
 use market_core::{MOST_MESSAGES, Market};
@@ -20,8 +20,9 @@ use wire_in::Record;
 use wire_out::Stamped;
 use yard_core::Gate;
 
-/// A market in several parts, and what a block of records gave that wasn't handed out yet. What the records of the block
-/// were is for contracts alone.
+/// A market in several parts, and what a block of records gave that wasn't handed out yet. Where a block found no memory,
+/// the parts don't work any more, and nothing is given from then on. What the records of the block were is for contracts
+/// alone.
 #[derive(Drop)]
 pub struct Ahead {
     shards: Shards,
@@ -70,7 +71,7 @@ impl Ahead {
     pub(crate) fn new(alloc: Global, workers: u32) -> Result<Ahead, NoMemory>
         requires workers { (1 < workers) × (workers ≤ 64) }
         ensures represents { IfOk result (λ block. RepresentsAhead block []) }
-        ensures idle { IfOk result (λ block. block.ahead ≡ []) }
+        ensures idle { IfOk result (λ block. HasAhead block []) }
         ensures parts { IfOk result (λ block. length block.shards.parts ≡ workers) }
     {
         Ok(Ahead {
@@ -100,47 +101,53 @@ impl Ahead {
         false
     }
 
-    /// Makes one market of the parts, where no record is evaluated ahead. After it nothing is evaluated here.
+    /// Makes one market of the parts, where no record is evaluated ahead. After it nothing is evaluated here. It fails where
+    /// memory is wanting, and where a block found none.
     pub(crate) fn unite(&mut self, alloc: Global) -> Result<Market, NoMemory>
-        ensures represents { (evaluated : List Record) → RepresentsAhead self.old evaluated → self.old.ahead ≡ []
+        ensures represents { (evaluated : List Record) → RepresentsAhead self.old evaluated → HasAhead self.old []
             → IfOk result (λ market. markets.Represents market evaluated) }
-        ensures several { 1 < length self.old.shards.parts }
-    {
-        self.shards.unite(alloc)
-    }
-
-    /// Evaluates a block of records ahead, when those of the block before were handed out. It fails where memory is wanting,
-    /// and after such an error it fails always.
-    pub(crate) fn prepare<Rt: Threads + Sync, G: Gate>(
-        &mut self,
-        rt: &Rt,
-        gate: &G,
-        xs: &Vec<Record>,
-    ) -> Result<(), NoMemory>
-        requires few { length xs.now.items ≤ 65536 }
-        ensures represents { (capacity : ℕ) (evaluated : List Record) → RepresentsAhead self.old evaluated → self.old.ahead ≡ [] → AreAdmissible capacity evaluated xs.now.items
-            → OnOk result (RepresentsAhead self.new evaluated) }
-        ensures ahead { OnOk result (self.new.ahead ≡ xs.now.items) }
-        ensures parts { length self.new.shards.parts ≡ length self.old.shards.parts }
         ensures several { 1 < length self.old.shards.parts }
     {
         if !self.shards.working() {
             return Err(NoMemory);
         }
+        self.shards.unite(alloc)
+    }
+
+    /// Evaluates a block of records ahead, when those of the block before were handed out. Where it finds no memory, that is
+    /// told when the first of them is asked for. After that it does nothing.
+    pub(crate) fn prepare<Rt: Threads + Sync, G: Gate>(
+        &mut self,
+        rt: &Rt,
+        gate: &G,
+        xs: &Vec<Record>,
+    )
+        requires few { length xs.now.items ≤ 65536 }
+        ensures represents { (capacity : ℕ) (evaluated : List Record) → RepresentsAhead self.old evaluated → HasAhead self.old [] → AreAdmissible capacity evaluated xs.now.items
+            → RepresentsAhead self.new evaluated }
+        ensures ahead { HasAhead self.new xs.now.items }
+        ensures parts { length self.new.shards.parts ≡ length self.old.shards.parts }
+        ensures several { 1 < length self.old.shards.parts }
+    {
+        if !self.shards.working() {
+            return;
+        }
         self.given.clear();
         self.at = 0;
         self.index = 0;
         self.records = Snapshot::of(xs);
-        self.shards.block(rt, xs, gate, &mut self.given)
+        // Where it fails, nothing works from then on.
+        let _ = self.shards.block(rt, xs, gate, &mut self.given);
     }
 
-    /// Hands out the messages of the oldest record that is evaluated ahead.
+    /// Hands out the messages of the oldest record that is evaluated ahead. It fails where its block, or one before, found
+    /// no memory.
     pub(crate) fn apply(&mut self, out: &mut Vec<Stamped>) -> Result<(), NoMemory>
-        ensures given { (x : Record) (applied later : List Record) → RepresentsAhead self.old applied → self.old.ahead ≡ x ∷ later
+        ensures given { (x : Record) (applied later : List Record) → RepresentsAhead self.old applied → HasAhead self.old (x ∷ later)
             → OnOk result (out.new.items ≡ out.old.items ++ newest_messages (x ∷ applied)) }
-        ensures stands { (x : Record) (applied later : List Record) → RepresentsAhead self.old applied → self.old.ahead ≡ x ∷ later
+        ensures stands { (x : Record) (applied later : List Record) → RepresentsAhead self.old applied → HasAhead self.old (x ∷ later)
             → OnOk result (RepresentsAhead self.new (x ∷ applied)) }
-        ensures ahead { (x : Record) (later : List Record) → self.old.ahead ≡ x ∷ later → OnOk result (self.new.ahead ≡ later) }
+        ensures ahead { (x : Record) (later : List Record) → HasAhead self.old (x ∷ later) → OnOk result (HasAhead self.new later) }
         ensures few { vec_len out.new ≤ vec_len out.old + most_messages }
         ensures keeps_room { vec_capacity out.old ≤ vec_capacity out.new }
         ensures parts { self.new.shards ≡ self.old.shards }
@@ -148,8 +155,8 @@ impl Ahead {
     {
         let left = &self.given[self.at..];
         let count = count_of(left, self.index);
-        // No record gives so many.
-        if count > MOST_MESSAGES {
+        // The parts don't work after a block that found no memory, and no record gives so many messages.
+        if !self.shards.working() || count > MOST_MESSAGES {
             return Err(NoMemory);
         }
         out.reserve(count)?;

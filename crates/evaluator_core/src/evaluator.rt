@@ -62,8 +62,8 @@ impl Evaluator {
         }
     }
 
-    /// Goes on by one worker, where no record is evaluated ahead. An error is want of memory, and what is left then is of no
-    /// further use.
+    /// Goes on by one worker, where no record is evaluated ahead. An error is want of memory, also for a block before, and
+    /// what is left then is of no further use.
     pub fn unite(&mut self, alloc: Global) -> Result<(), NoMemory>
         ensures represents { (evaluated : List Record) → Represents self.old evaluated → IsIdle self.old → OnOk result (Represents self.new evaluated) }
         ensures idle { OnOk result (IsIdle self.new) }
@@ -79,29 +79,25 @@ impl Evaluator {
 
     /// Evaluates a block of records ahead, by as many workers as there are, each of which passes the gate before it works:
     /// they are admissible one after the other, and each record of the block before was applied. One worker does
-    /// nothing here. At most 65,536 records. An error is want of memory; of several workers each later block fails then.
-    pub fn prepare<Rt: Threads + Sync, G: Gate>(
-        &mut self,
-        rt: &Rt,
-        gate: &G,
-        xs: &Vec<Record>,
-    ) -> Result<(), NoMemory>
+    /// nothing here. At most 65,536 records. Where several workers find no memory, each record that is then applied fails.
+    pub fn prepare<Rt: Threads + Sync, G: Gate>(&mut self, rt: &Rt, gate: &G, xs: &Vec<Record>)
         requires few { length xs.now.items ≤ 65536 }
         ensures represents { (capacity : ℕ) (evaluated : List Record) → Represents self.old evaluated → IsIdle self.old → AreAdmissible capacity evaluated xs.now.items
-            → OnOk result (Represents self.new evaluated) }
-        ensures ahead { IsIdle self.old → OnOk result (IsAhead self.new xs.now.items) }
-        ensures alone { workers_of self.old ≡ 1 → IsOk result × (self.new ≡ self.old) }
+            → Represents self.new evaluated }
+        ensures ahead { IsIdle self.old → IsAhead self.new xs.now.items }
+        ensures alone { workers_of self.old ≡ 1 → self.new ≡ self.old }
         ensures workers { workers_of self.new ≡ workers_of self.old }
     {
         match self {
-            Evaluator::One(_) => Ok(()),
+            Evaluator::One(_) => {}
             Evaluator::Many(block) => block.prepare(rt, gate, xs),
         }
     }
 
     /// Applies a record that is admissible after the applied ones, and of several workers the oldest that is evaluated
     /// ahead: it appends the messages of its step. One worker takes no memory where the record is neither a Listing
-    /// nor a Trade and the list has room for two messages and 16 for each name; several ones may take room in the list.
+    /// nor a Trade and the list has room for two messages and 16 for each name; several ones may take room in the list,
+    /// and fail where they found no memory for a block.
     pub fn apply(&mut self, x: &Record, out: &mut Vec<Stamped>) -> Result<(), NoMemory>
         ensures given { (capacity : ℕ) (applied later : List Record) → Represents self.old applied → IsAhead self.old (x.now ∷ later) → verdict capacity applied x.now ≡ None
             → OnOk result (out.new.items ≡ out.old.items ++ newest_messages (x.now ∷ applied)) }

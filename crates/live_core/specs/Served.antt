@@ -37,8 +37,8 @@ pub record Served (unbegun : Type 0) (workers : ℕ) (from : Option ℕ) (batch 
   pub part : (begin : Begin) (input : List ℕ) → begin.from ≡ from → Begins begin input old → SentPrefix old.sent new.sent (expected (start_of begin) (bodies_of (take most input)))
   -- whenever the input was read, all that is expected for the whole frames read before had been sent
   pub prompt : (begin : Begin) (input : List ℕ) → begin.from ≡ from → Begins begin input old → Prompt (start_of begin) input old.asks new.asks
-  -- memory is short only before the first call of the host, at a Listing or a Trade of the journal, or at one of the input,
-  -- with all sent that is expected before it
+  -- memory is short only before the first call of the host, at a record of the journal or behind the last, or at a record of the
+  -- input that is accepted, with all sent that is expected before it; where there is one worker, it is one that takes memory
   pub starved : (begin : Begin) (input : List ℕ) → begin.from ≡ from → Begins begin input old → status ≡ NoMemory
       → unbegun ⊎ StarvedAtRecord workers from begin.held old.sent new.sent ⊎ Starved (start_of begin) (bodies_of (take most input)) new
   -- where no header stands it is told, unless the disk fails or memory is short, and nothing is read, sent or written

@@ -1,5 +1,5 @@
 -- A journal that is read batch by batch.
-use Rattle.std.proofs.Common.{◌≡◌, ◌≢◌, inl, inr, ℕ, ◌+◌, ◌-◌, ◌<◌, List, [], ◌∷◌, ◌++◌, length, get_or, take, drop, None, refl, sym, ap, subst, ◌∙◌, append_assoc, arith, rules}
+use Rattle.std.proofs.Common.{◌≡◌, ◌≢◌, ◌⊎◌, inl, inr, ℕ, ◌+◌, ◌-◌, ◌<◌, List, [], ◌∷◌, ◌++◌, length, get_or, take, drop, None, refl, sym, ap, subst, ◌∙◌, append_assoc, arith, rules}
 use Rattle.std.specs.Prelude.{Option, Some, Result, Ok, Err, IfErr, reverse}
 use Rattle.std.specs.Result.{IsErrAnd}
 use Rattle.std.specs.Io.KnownBytes.{append_known}
@@ -66,6 +66,18 @@ limited {accepted = accepted} {evaluated = evaluated} limit next is r =
 pub in_parts : (records first second : List Record) → with_batch records (first ++ second) ≡ reverse second ++ with_batch records first
 in_parts records first second = ap (λ r. r ++ records) (reverse-append first second) ∙ append_assoc (reverse second) (reverse first) records
 
+-- a record in front of others is the oldest of them, or another is
+takes_more : {workers : ℕ} (x : Record) (records : List Record) → (workers ≡ 1 → ⊥) → TakesFirst workers (x ∷ records)
+takes_more x [] several = record { x = x; later = []; parts = refl; takes = λ one. absurd (several one) }
+takes_more x (y ∷ records) several =
+    let first = takes_more y records several in
+    record { x = first.x; later = x ∷ first.later; parts = ap (λ (r : List Record). x ∷ r) first.parts; takes = first.takes }
+
+-- memory was short for going on by one worker, also where the list has more records
+short_behind : {workers : ℕ} (more behind : List Record) → workers ≢ 1 → behind ≡ [] → TakesFirst workers (more ++ behind) ⊎ ((workers ≢ 1) × (more ++ behind ≡ []))
+short_behind [] behind several none = inr (several, none)
+short_behind (x ∷ more) behind several none = inl (takes_more x (more ++ behind) several)
+
 -- want of memory among some records is want of memory among more
 pub starved_further : {workers : ℕ} {from : Option ℕ} {records all : List Record} {begin now : Option (List ℕ)} → IsPart records all → StarvedAtRecord workers from records begin now
     → StarvedAtRecord workers from all begin now
@@ -73,9 +85,10 @@ starved_further part hungry = record {
   before = hungry.before;
   behind = part.more ++ hungry.behind;
   parts = sym part.whole ∙ ap (λ (r : List Record). part.more ++ r) hungry.parts ∙ sym (append_assoc part.more hungry.behind hungry.before);
-  short = λ one.
-      let first = hungry.short one in
-      record { x = first.x; later = part.more ++ first.later; parts = ap (λ (r : List Record). part.more ++ r) first.parts ∙ sym (append_assoc part.more first.later (first.x ∷ [])); takes = first.takes };
+  short = elim hungry.short [
+    | inl first ↦ inl (record { x = first.x; later = part.more ++ first.later; parts = ap (λ (r : List Record). part.more ++ r) first.parts ∙ sym (append_assoc part.more first.later (first.x ∷ [])); takes = first.takes })
+    | inr alone ↦ short_behind part.more hungry.behind alone.0 alone.1
+  ];
   sent = hungry.sent;
 }
 
@@ -105,22 +118,21 @@ module _ {from : Option ℕ} {capacity : ℕ} {accepted waiting prepared : List 
       → Elapses now new (SendsPrefix begin (again from accepted) now)
   sends_pending run = sends_part from (record { more = reverse waiting; whole = r.whole }) (run begin (again from r.held) r.pending_is)
 
-  -- memory is short before the first of them, or for it
-  pub starved_now : {workers : ℕ} {sent : Option (List ℕ)} → (workers ≡ 1 → TakesFirst (reverse waiting)) → sent ≡ append_known begin (again from r.held) → StarvedAtRecord workers from accepted begin sent
-  starved_now short sent = record { before = r.held; behind = reverse waiting; parts = sym r.whole; short = short; sent = sent }
+  -- memory is short for the first of them
+  pub starved_now : {workers : ℕ} {sent : Option (List ℕ)} → TakesFirst workers (reverse waiting) → sent ≡ append_known begin (again from r.held) → StarvedAtRecord workers from accepted begin sent
+  starved_now first sent = record { before = r.held; behind = reverse waiting; parts = sym r.whole; short = inl first; sent = sent }
 
   -- they are evaluated ahead, and what is pending stays so
-  pub resumes_ahead : {items list : List Record} → items ≡ waiting → list ≡ items → (next : Engine) (unsent : List ℕ) (new : Outside)
+  pub resumes_ahead : {items list : List Record} → items ≡ waiting → list ≡ items → (next : Engine)
       → (Represents engine capacity accepted r.held → IsAhead engine.evaluator prepared → AreAdmissible capacity r.held items → Represents next capacity accepted r.held)
-      → (IsAhead engine.evaluator prepared → IsAhead next.evaluator items) → (Expects begin now.sent outbox (again from r.held) → Expects begin new.sent unsent (again from r.held))
-      → Resumes from capacity accepted list list begin next unsent new
-  resumes_ahead {items} {list} same is next unsent new represents ahead pending =
-      subst (λ (xs : List Record). Resumes from capacity accepted xs xs begin next unsent new) (sym (is ∙ same)) (record {
+      → (IsAhead engine.evaluator prepared → IsAhead next.evaluator items) → Resumes from capacity accepted list list begin next outbox now
+  resumes_ahead {items} {list} same is next represents ahead =
+      subst (λ (xs : List Record). Resumes from capacity accepted xs xs begin next outbox now) (sym (is ∙ same)) (record {
         held = r.held;
         whole = r.whole;
         admits = record { engine_is = represents r.admits.engine_is r.ahead (subst (AreAdmissible capacity r.held) (sym same) passes); lawful = r.admits.lawful };
         ahead = subst (IsAhead next.evaluator) same (ahead r.ahead);
-        pending_is = pending r.pending_is;
+        pending_is = r.pending_is;
       })
 
 -- The journal was read to its end, and is greeted for.
@@ -161,7 +173,7 @@ pub starves_alone : (from : Option ℕ) {begin : Option (List ℕ)} {disk : List
     → (workers ≡ 1 → ⊥) → now.sent ≡ append_known begin (again from (records_of r.batches)) → StarvesAgain workers from begin disk now
 starves_alone from r now several sent all covers =
     starved_further (covers _ _ _ _ _ r.read.leads (record { more = []; whole = refl }) r.admits.lawful)
-    (record { before = records_of r.batches; behind = []; parts = refl; short = λ one. absurd (several one); sent = sent })
+    (record { before = records_of r.batches; behind = []; parts = refl; short = inr (several, refl); sent = sent })
 
 -- an engine that goes on by one worker is read into
 pub reads_alone : {scan : ScanState} {engine : Engine} {known : Option (List ℕ)} (next : Engine) → next ≡ record engine { evaluator = next.evaluator; messages = next.messages }

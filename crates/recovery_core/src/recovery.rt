@@ -16,7 +16,7 @@ ghost use Rattle.recovery_core.specs.Starved.{StarvedAtRecord};
 ghost use Rattle.recovery_core.specs.Recoveries.{again, IsSmall, Admits, Refuses, Resumes};
 
 use crate::waiting::Waiting;
-use engine_core::{Engine, ROUND_MAX, append_messages, evaluate, prepare, unite};
+use engine_core::{Engine, ROUND_MAX, append_messages, evaluate, unite};
 use host_core::{Fault, Host, Status};
 use journal_core::{BATCH_MAX, Batch, Scan};
 use std::alloc::Global;
@@ -230,7 +230,7 @@ impl Recovery {
             return Ok(());
         }
         let waiting = self.waiting.list();
-        prepare(rt, &mut self.engine, &mut self.outbox, host, gate, waiting)?;
+        self.engine.prepare(rt, gate, waiting);
         resume_all(&mut self.engine, &mut self.outbox, host, from, waiting)?;
         self.waiting.clear();
         Ok(())

@@ -118,7 +118,7 @@ impl Rehearsal {
         ensures capacity { vec_capacity self.old.block ≤ vec_capacity self.new.block }
         ensures most { self.new.most ≡ self.old.most }
     {
-        self.engine.prepare(rt, gate, &self.block)?;
+        self.engine.prepare(rt, gate, &self.block);
         evaluate_each(&mut self.engine, &mut self.tally, &self.block)?;
         self.block.clear();
         Ok(())

@@ -56,8 +56,8 @@ pub record Replayed (unbegun : Type 0) (workers most : ℕ) (status : Status) (o
   pub part : (input : List ℕ) → old.input ≡ Some input → SentPrefix old.sent new.sent (replay_text (take most input))
   -- whenever the input was read, all that is expected for the whole frames read before had been sent
   pub prompt : (input : List ℕ) → old.input ≡ Some input → Prompt (replay_start workers old.sent) input old.asks new.asks
-  -- memory is short only before the first call of the host, or at a frame, with all sent that is expected for the frames before
-  -- it; where there is one worker, that frame brings a Listing or a Trade
+  -- memory is short only before the first call of the host, or at a record that is accepted, with all sent that is expected for
+  -- the frames before it; where there is one worker, it is one that takes memory
   pub starved : (input : List ℕ) → old.input ≡ Some input → status ≡ NoMemory → unbegun ⊎ Starved (replay_start workers old.sent) (bodies_of (take most input)) new
   -- no more bytes than asked for are read, whatever the answer
   pub bytes : ReadsAtMost most old.input new.input

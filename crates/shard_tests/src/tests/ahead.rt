@@ -58,7 +58,7 @@ fn give<R: Abort + Threads + Sync>(
     said: &mut Vec<Stamped>,
 ) -> Result<(), Fail> {
     assert!(rt; block.len() <= 65_536);
-    evaluator.prepare(rt, &OpenGate, block)?;
+    evaluator.prepare(rt, &OpenGate, block);
     for x in block {
         evaluator.apply(x, said)?;
     }

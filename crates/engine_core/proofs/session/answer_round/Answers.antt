@@ -1,24 +1,18 @@
-use Rattle.std.proofs.Common.{◌≡◌, [], sym, ap, rules}
-use Rattle.std.proofs.lemmas.List.{append-nil}
-use Rattle.stream_core.proofs.Sending.{sends_on}
+use Rattle.std.proofs.Common.{◌≡◌, [], ap, sym, rules}
 use Rattle.engine_core.specs.Rounds.{RoundState}
 use Rattle.engine_core.proofs.session.answer_round.Goals as goal
 
-pub returns-in_err-prepare_round-clause-replies : goal.returns-in_err-prepare_round-clause-replies
-returns-in_err-prepare_round-clause-replies g c start before all same answers =
-    record { answers = search rules; moments = c.prepare_round.ensures.moments start before all answers; starved = λ is. c.prepare_round.ensures.starved start before all answers (search rules) }
-
 pub returns-in_err-answer_each-clause-replies : goal.returns-in_err-answer_each-clause-replies
 returns-in_err-answer_each-clause-replies g c start before all same answers =
-    let each = c.answer_each.ensures.replies start _ all same (rw (sym c.outcomes.ensures.outcomes) at (c.in_ok-prepare_round.ensures.answers start before all answers)) in
-    record { answers = search rules; moments = sends_on (c.prepare_round.ensures.moments start before all answers) _ [] (append-nil _) each.moments; starved = λ is. each.starved (search rules) }
+    let each = c.answer_each.ensures.replies start _ all same (rw (sym c.outcomes.ensures.outcomes) at (c.prepare_round.ensures.answers start before all _ answers)) in
+    record { answers = search rules; moments = each.moments; starved = λ is. each.starved (search rules) }
 
 pub returns-clause-replies : goal.returns-clause-replies
 returns-clause-replies g c start before all same answers =
-    let each = c.in_ok-answer_each.ensures.replies start _ all same (rw (sym c.outcomes.ensures.outcomes) at (c.in_ok-prepare_round.ensures.answers start before all answers)) in
+    let each = c.in_ok-answer_each.ensures.replies start _ all same (rw (sym c.outcomes.ensures.outcomes) at (c.prepare_round.ensures.answers start before all _ answers)) in
     let none : c.clear.new.self.outcomes ≡ [] = ap (λ (r : RoundState). r.outcomes) c.clear.ensures in
     record {
       answers = rw (none, c.len.ensures.len) (rw c.outcomes.ensures.outcomes at each.answers);
-      moments = sends_on (c.prepare_round.ensures.moments start before all answers) _ [] (append-nil _) each.moments;
+      moments = each.moments;
       starved = λ is. absurd cc;
     }

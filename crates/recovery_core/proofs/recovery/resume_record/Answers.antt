@@ -16,7 +16,7 @@ pub returns-in_err-evaluate-clause-starved : goal.returns-in_err-evaluate-clause
 returns-in_err-evaluate-clause-starved g c = λ capacity accepted later begin r is.
     let x = c.args.x.now in
     let short = c.evaluate.ensures.starved begin (again c.args.from r.held) c.requires.roomy r.pending_is (search rules) in
-    starved_now r (λ one. record { x = x; later = reverse later; parts = reverse-append (x ∷ []) later; takes = takes_of x short one }) short.sent
+    starved_now r (record { x = x; later = reverse later; parts = reverse-append (x ∷ []) later; takes = takes_of x short }) short.sent
 
 pub returns-clause-resumes : goal.returns-clause-resumes
 returns-clause-resumes g c = λ capacity accepted later begin r.

@@ -1,4 +1,4 @@
-use Rattle.std.proofs.Common.{◌≡◌, ◌∷◌, ◌++◌, ◌+◌, [], true, refl, length, take, sym, ◌∙◌, arith}
+use Rattle.std.proofs.Common.{◌≡◌, ◌+◌, true, refl, length, take, sym, ◌∙◌, arith}
 use Rattle.wire_in.specs.Cutting.{bodies_of, is_frame}
 use Rattle.engine_core.proofs.Rounds.{whole_on}
 use Rattle.engine_core.proofs.session.Session.advance.Goals as goal

@@ -8,5 +8,5 @@ use Rattle.rehearse_core.proofs.rehearsal.Rehearsal.settle.Goals as goal
 pub returns-clause-rehearses : goal.returns-clause-rehearses
 returns-clause-rehearses g c = λ all left was.
     c.in_ok-evaluate_each.ensures.rehearses all left
-    (rw c.deref.ensures.value (block_ahead was c.prepare.new.self (c.in_ok-prepare.ensures.represents capacity (accepted_by was) was.evaluated was.represents was.ahead was.admissible)
-    (c.in_ok-prepare.ensures.ahead was.ahead) (ap (λ (e : Engine). e.evaluated) c.prepare.ensures.rest)))
+    (rw c.deref.ensures.value (block_ahead was c.prepare.new.self (c.prepare.ensures.represents capacity (accepted_by was) was.evaluated was.represents was.ahead was.admissible)
+    (c.prepare.ensures.ahead was.ahead) (ap (λ (e : Engine). e.evaluated) c.prepare.ensures.rest)))
