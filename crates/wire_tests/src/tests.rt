@@ -1,3 +1,4 @@
+mod bases;
 mod bytes;
 mod published;
 mod records;
