@@ -11,12 +11,11 @@ ghost use Rattle.market_core.specs.AdmissionState.{refusal_of};
 ghost use Rattle.market_core.specs.Kinds.{TakesMemory};
 ghost use Rattle.market_core.specs.MarketState.{most_messages};
 ghost use Rattle.shard_core.specs.Block.{AreAdmissible};
-ghost use Rattle.evaluator_core.specs.Evaluating.{workers_of, names_of, IsAhead, IsIdle};
-ghost use Rattle.engine_core.specs.EngineState.{HasRoomFor};
+ghost use Rattle.evaluator_core.specs.Evaluating.{workers_of, HasRoomFor, IsAhead, IsIdle};
 
 use crate::round::Outcome;
 use evaluator_core::Evaluator;
-use market_core::{Admission, most_messages_of};
+use market_core::{Admission, MOST_MESSAGES};
 use price_core::NoMemory;
 use std::alloc::Global;
 use std::thread::Threads;
@@ -49,25 +48,10 @@ pub fn judge(admission: &Admission, outcome: &mut Outcome)
     }
 }
 
-/// Empties a list of messages, and at a Listing takes room for those of one stock more.
-fn make_room(messages: &mut Vec<Stamped>, evaluator: &Evaluator, x: &Record) -> Result<(), NoMemory>
-    ensures items { OnOk result (messages.new.items ≡ []) }
-    ensures kept { vec_capacity messages.old ≤ vec_capacity messages.new }
-    ensures room { OnOk result (HasRoomFor x.now (names_of evaluator.now) (vec_capacity messages.new)) }
-    ensures starved { OnErr result (TakesMemory x.now) }
-{
-    messages.clear();
-    let Record::Listing { .. } = x else {
-        return Ok(());
-    };
-    messages.reserve(most_messages_of(evaluator.names() + 1))?;
-    Ok(())
-}
-
 impl Engine {
     ghost use Rattle.engine_core.specs.EngineState.{Represents, IsRoomy};
 
-    /// An engine of no records, under a capacity of records, with 1 to 64 workers.
+    /// An engine of no records, under a capacity of records, with 1 to 64 workers. It takes room for the messages of any record.
     pub fn new(alloc: Global, capacity: u64, workers: u32) -> Result<Engine, NoMemory>
         requires workers { (1 ≤ workers) × (workers ≤ 64) }
         ensures represents { IfOk result (λ engine. Represents engine capacity [] []) }
@@ -80,7 +64,7 @@ impl Engine {
     {
         let admission = Admission::new(alloc, capacity)?;
         let evaluator = Evaluator::new(alloc, workers)?;
-        let messages = Vec::with_capacity(alloc, most_messages_of(evaluator.names()))?;
+        let messages = Vec::with_capacity(alloc, MOST_MESSAGES)?;
         Ok(Engine {
             admission,
             evaluator,
@@ -110,7 +94,7 @@ impl Engine {
         self.admission.admit(x).unwrap();
     }
 
-    /// Goes on by one worker, where no record is evaluated ahead: from then on memory is taken at a Listing and a Trade alone.
+    /// Goes on by one worker, where no record is evaluated ahead: from then on memory is taken at a Trade alone.
     /// After an error, which is want of memory, the engine is of no further use. One worker goes on as it is.
     pub fn unite(&mut self, alloc: Global) -> Result<(), NoMemory>
         ensures represents { (capacity : ℕ) (accepted evaluated : List Record) → Represents self.old capacity accepted evaluated → IsIdle self.old.evaluator
@@ -118,17 +102,10 @@ impl Engine {
         ensures idle { IsIdle self.old.evaluator → OnOk result (IsIdle self.new.evaluator) }
         ensures workers { OnOk result (workers_of self.new.evaluator ≡ 1) }
         ensures roomy { IsRoomy self.old → OnOk result (IsRoomy self.new) }
-        ensures rest { self.new ≡ record self.old { evaluator = self.new.evaluator; messages = self.new.messages } }
+        ensures rest { self.new ≡ record self.old { evaluator = self.new.evaluator } }
         ensures alone { workers_of self.old.evaluator ≡ 1 → IsOk result }
     {
-        if self.evaluator.is_alone() {
-            return Ok(());
-        }
-        self.evaluator.unite(alloc)?;
-        self.messages.clear();
-        self.messages
-            .reserve(most_messages_of(self.evaluator.names()))?;
-        Ok(())
+        self.evaluator.unite(alloc)
     }
 
     /// Evaluates the oldest of the accepted records that wait ahead, which are at most 65,536, by all workers: `evaluate` then
@@ -149,8 +126,8 @@ impl Engine {
     }
 
     /// Evaluates the oldest of the accepted records that wait, and keeps its messages. Where there is one worker, it takes
-    /// memory at a Listing and a Trade alone. Several workers may have found none ahead. After an error the engine is of no
-    /// further use.
+    /// memory at a Trade alone, and none where the stock of the trade has room for it. Several workers may have found none
+    /// ahead. After an error the engine is of no further use.
     pub fn evaluate(&mut self, x: &Record) -> Result<(), NoMemory>
         requires room { self.old.published + most_messages < 2 ^ 64 }
         requires count { self.old.evaluated + 1 < 2 ^ 64 }
@@ -166,8 +143,9 @@ impl Engine {
         ensures few { OnOk result (vec_len self.new.messages ≤ most_messages) }
         ensures roomy { IsRoomy self.old → OnOk result (IsRoomy self.new) }
         ensures starved { IsRoomy self.old → workers_of self.old.evaluator ≡ 1 → OnErr result (TakesMemory x.now) }
+        ensures never_refused { IsRoomy self.old → HasRoomFor self.old.evaluator x.now → IsOk result }
     {
-        make_room(&mut self.messages, &self.evaluator, x)?;
+        self.messages.clear();
         self.evaluator.apply(x, &mut self.messages)?;
         self.evaluated += 1;
         self.published += self.messages.len() as u64;

@@ -103,7 +103,7 @@ pub fn unite<H: Host>(
     ensures idle { IsIdle engine.old.evaluator → OnOk result (IsIdle engine.new.evaluator) }
     ensures workers { OnOk result (workers_of engine.new.evaluator ≡ 1) }
     ensures alone { workers_of engine.old.evaluator ≡ 1 → result ≢ Err Fault.Memory }
-    ensures rest { engine.new ≡ record engine.old { evaluator = engine.new.evaluator; messages = engine.new.messages } }
+    ensures rest { engine.new ≡ record engine.old { evaluator = engine.new.evaluator } }
     ensures roomy { IsRoomy engine.old → OnOk result (IsRoomy engine.new) }
     ensures pending { (begin : Option (List ℕ)) (text : List ℕ) → Expects begin (H.outside host.old).sent outbox.old text
         → OnOk result (Expects begin (H.outside host.new).sent outbox.new text) }

@@ -2,6 +2,7 @@
 use Rattle.std.specs.Prelude.{ℕ, List, [], length}
 use Rattle.wire_in.specs.declared.record.Record.{Record}
 use Rattle.market_core.specs.MarketState as markets
+use Rattle.market_core.specs.Room as rooms
 use Rattle.evaluator_core.specs.declared.evaluator.Evaluator.{Evaluator}
 use Rattle.evaluator_core.specs.declared.evaluator.Evaluator.TheVariants.{One, Many}
 use Rattle.evaluator_core.specs.AheadState.{RepresentsAhead, HasAhead}
@@ -29,3 +30,8 @@ workers_of (Many block) = length block.shards.parts
 abbrev pub names_of : Evaluator → ℕ
 names_of (One market) = length market.directory
 names_of (Many block) = length block.shards.lead.directory
+
+-- one worker has room for what is kept of a record; of several none is known
+abbrev pub HasRoomFor : Evaluator → Record → Type 0
+HasRoomFor (One market) x = rooms.HasRoomFor market.symbols x
+HasRoomFor (Many block) x = ⊥

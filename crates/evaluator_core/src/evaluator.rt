@@ -24,7 +24,7 @@ pub enum Evaluator {
 }
 
 impl Evaluator {
-    ghost use Rattle.evaluator_core.specs.Evaluating.{IsAhead, IsIdle, Represents, names_of, workers_of};
+    ghost use Rattle.evaluator_core.specs.Evaluating.{HasRoomFor, IsAhead, IsIdle, Represents, names_of, workers_of};
 
     /// A market of no records, for so many workers, from 1 to 64.
     pub fn new(alloc: Global, workers: u32) -> Result<Evaluator, NoMemory>
@@ -95,9 +95,9 @@ impl Evaluator {
     }
 
     /// Applies a record that is admissible after the applied ones, and of several workers the oldest that is evaluated
-    /// ahead: it appends the messages of its step. One worker takes no memory where the record is neither a Listing
-    /// nor a Trade and the list has room for two messages and 16 for each name; several ones may take room in the list,
-    /// and fail where they found no memory for a block.
+    /// ahead: it appends the messages of its step. One worker takes no memory where the list has room for the most messages
+    /// of a record, but at a Trade whose stock has no room for its deal; several ones may take room in the list, and fail
+    /// where they found no memory for a block.
     pub fn apply(&mut self, x: &Record, out: &mut Vec<Stamped>) -> Result<(), NoMemory>
         ensures given { (capacity : ℕ) (applied later : List Record) → Represents self.old applied → IsAhead self.old (x.now ∷ later) → verdict capacity applied x.now ≡ None
             → OnOk result (out.new.items ≡ out.old.items ++ newest_messages (x.now ∷ applied)) }
@@ -107,6 +107,8 @@ impl Evaluator {
         ensures few { vec_len out.new ≤ vec_len out.old + most_messages }
         ensures room { workers_of self.old ≡ 1 → name_of x.now ≡ None → is_trade x.now ≡ false
             → vec_len out.old + most_of_names (names_of self.old) ≤ vec_capacity out.old → IsOk result }
+        ensures room_for_most { workers_of self.old ≡ 1 → is_trade x.now ≡ false → vec_len out.old + most_messages ≤ vec_capacity out.old → IsOk result }
+        ensures never_refused { HasRoomFor self.old x.now → vec_len out.old + most_messages ≤ vec_capacity out.old → IsOk result }
         ensures keeps_room { vec_capacity out.old ≤ vec_capacity out.new }
         ensures names { workers_of self.old ≡ 1 → name_of x.now ≡ None → names_of self.new ≡ names_of self.old }
         ensures one_more { workers_of self.old ≡ 1 → names_of self.new ≤ names_of self.old + 1 }

@@ -62,7 +62,7 @@ pub record Served (unbegun : Type 0) (workers : ℕ) (from : Option ℕ) (batch 
   -- and whenever it is stopped, it leaves an image as before
   pub damage_moments : (capacity at : ℕ) (before : List Record) (disk : List ℕ) → old.disk ≡ Some disk → IsDamagedAt capacity at before disk
       → Elapses old new (SendsPrefix old.sent (spelled (sent_again from before)) old)
-  -- and memory is short only before the first call of the host, or at a Listing or a Trade before the damage
+  -- and memory is short only before the first call of the host, or at a record before the damage, as above
   pub damage_starved : (capacity at : ℕ) (before : List Record) (disk : List ℕ) → old.disk ≡ Some disk → IsDamagedAt capacity at before disk → status ≡ NoMemory
       → unbegun ⊎ StarvedAtRecord workers from before old.sent new.sent
   -- where there is no journal or a damaged one, nothing is written, and nothing of the input is read

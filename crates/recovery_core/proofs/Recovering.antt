@@ -176,7 +176,7 @@ starves_alone from r now several sent all covers =
     (record { before = records_of r.batches; behind = []; parts = refl; short = inr (several, refl); sent = sent })
 
 -- an engine that goes on by one worker is read into
-pub reads_alone : {scan : ScanState} {engine : Engine} {known : Option (List ℕ)} (next : Engine) → next ≡ record engine { evaluator = next.evaluator; messages = next.messages }
+pub reads_alone : {scan : ScanState} {engine : Engine} {known : Option (List ℕ)} (next : Engine) → next ≡ record engine { evaluator = next.evaluator }
     → (IsRoomy engine → IsRoomy next) → IsReading scan engine 0 known → IsReading scan next 0 known
 reads_alone {scan} {engine} {known} next is roomy r = record {
   of_disk = r.of_disk;

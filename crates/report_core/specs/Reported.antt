@@ -60,7 +60,7 @@ pub record Reported (unbegun : Type 0) (status : Status) (old new : Outside) : T
   -- whenever the run is stopped, and at its end, a prefix of them was sent, and what the disk may be left with is as before
   pub moments : (capacity : ℕ) (held : List Record) → IsHeld capacity held old → Elapses old new (SendsPrefix old.sent (report_of capacity held) old)
   pub part : (capacity : ℕ) (held : List Record) → IsHeld capacity held old → SentPrefix old.sent new.sent (report_of capacity held)
-  -- memory is short only before the first call of the host, or at a Listing or a Trade of the journal, and nothing was sent
+  -- memory is short only before the first call of the host, or at a Trade of the journal, and nothing was sent
   pub short : (capacity : ℕ) (held : List Record) → IsHeld capacity held old → status ≡ NoMemory → unbegun ⊎ StarvedAtRecord 1 None held old.sent new.sent
   pub starved : (capacity : ℕ) (held : List Record) → IsHeld capacity held old → status ≡ NoMemory → new.sent ≡ old.sent
   -- where no header stands it is told, unless the disk fails or memory is short, and nothing is sent

@@ -5,7 +5,7 @@ use Rattle.engine_core.proofs.engine.Engine.evaluate.Goals as goal
 
 pub returns-clause-represents : goal.returns-clause-represents
 returns-clause-represents c = λ capacity accepted evaluated later s ahead passed.
-    let gave = c.in_ok-apply.ensures.given capacity evaluated later s.evaluator ahead passed ∙ ap (λ before. before ++ newest_messages (c.args.x.now ∷ evaluated)) c.in_ok-make_room.ensures.items in
+    let gave = c.in_ok-apply.ensures.given capacity evaluated later s.evaluator ahead passed ∙ ap (λ before. before ++ newest_messages (c.args.x.now ∷ evaluated)) c.clear.ensures.items in
     record {
       within = s.within;
       admission = s.admission;
@@ -16,4 +16,4 @@ returns-clause-represents c = λ capacity accepted evaluated later s ahead passe
 
 pub returns-clause-messages : goal.returns-clause-messages
 returns-clause-messages c = λ capacity accepted evaluated later s ahead passed.
-    c.in_ok-apply.ensures.given capacity evaluated later s.evaluator ahead passed ∙ ap (λ before. before ++ newest_messages (c.args.x.now ∷ evaluated)) c.in_ok-make_room.ensures.items
+    c.in_ok-apply.ensures.given capacity evaluated later s.evaluator ahead passed ∙ ap (λ before. before ++ newest_messages (c.args.x.now ∷ evaluated)) c.clear.ensures.items
