@@ -1,10 +1,10 @@
 -- Bounds stay bounds where a moment is set or added, and where a bound is made exact.
-use Rattle.std.proofs.Common.{◌≡◌, ℕ, Bool, true, false, ◌+◌, ◌-◌, ◌*◌, ◌<◌, ◌≤◌, ◌^◌, List, [], ◌∷◌, ◌++◌, length, take, drop, min, eqb, slice_index, refl, ap, ◌∙◌, arith, ltb, length-append, length-drop}
+use Rattle.std.proofs.Common.{◌≡◌, ℕ, zero, suc, Bool, true, false, ◌+◌, ◌-◌, ◌*◌, ◌<◌, ◌≤◌, ◌^◌, List, [], ◌∷◌, ◌++◌, length, replicate, take, drop, min, eqb, slice_index, refl, ap, ◌∙◌, arith, ltb, length-append, length-drop}
 use Rattle.std.specs.Prelude.{◌/◌, slice_set}
 use Rattle.std.proofs.Math.ListN.{get_or-append}
 use Rattle.std.proofs.Math.Seq.{get_or-append_seam}
 use Rattle.std.proofs.lemmas.Bool.Decides.{nat_tests}
-use Rattle.std.proofs.lemmas.List.{get_or-drop, get_or-set_other, get_or-set_same, get_or-take, length-set, length-take}
+use Rattle.std.proofs.lemmas.List.{get_or-drop, get_or-set_other, get_or-set_same, get_or-take, length-replicate, length-set, length-take}
 use Rattle.alarms.specs.Bounds.{AreBounds, AreLevels, AtMostEach, IsLeast}
 use Rattle.alarms.specs.Due.{NoneDue}
 
@@ -229,3 +229,64 @@ least-eight first least numbers within many is =
     let taken : length (take 8 (rest_of first numbers)) ≡ min 8 (length (rest_of first numbers)) = length-take 8 (rest_of first numbers) in
     of_part first least (take 8 (rest_of first numbers)) numbers within (omega arith)
     (λ k lt. get_or-take 8 (rest_of first numbers) k 0 (omega arith) ∙ rest-at first k numbers (omega arith)) is
+
+-- the first numbers, so many, are 0
+
+abbrev pub cleared : ℕ → List ℕ → List ℕ
+cleared count numbers = replicate count 0 ++ drop count numbers
+
+pub cleared-length : (count : ℕ) (numbers : List ℕ) → count ≤ length numbers → length (cleared count numbers) ≡ length numbers
+cleared-length count numbers within =
+    let both = length-append (replicate count 0) (drop count numbers) in
+    let first : length (replicate {A = ℕ} count 0) ≡ count = length-replicate count 0 in
+    let rest = length-drop count numbers in
+    omega arith
+
+cleared-none : (count place : ℕ) → slice_index (replicate count 0 ++ []) place ≡ 0
+cleared-none zero place = refl
+cleared-none (suc count) zero = refl
+cleared-none (suc count) (suc place) = cleared-none count place
+
+cleared-lower : (count place : ℕ) (numbers : List ℕ) → slice_index (cleared count numbers) place ≤ slice_index numbers place
+cleared-lower zero place numbers = omega arith
+cleared-lower (suc count) zero numbers = omega arith
+cleared-lower (suc count) (suc place) [] = omega (arith, cleared-none count place)
+cleared-lower (suc count) (suc place) (n ∷ numbers) = cleared-lower count place numbers
+
+cleared-first : (count place : ℕ) (numbers : List ℕ) → place < count → slice_index (cleared count numbers) place ≡ 0
+cleared-first zero place numbers lt = absurd (omega (arith, lt))
+cleared-first (suc count) zero numbers lt = refl
+cleared-first (suc count) (suc place) [] lt = cleared-none count place
+cleared-first (suc count) (suc place) (n ∷ numbers) lt = cleared-first count place numbers (omega (arith, lt))
+
+cleared-behind : (count place : ℕ) (numbers : List ℕ) → count ≤ place → slice_index (cleared count numbers) place ≡ slice_index numbers place
+cleared-behind zero place numbers le = refl
+cleared-behind (suc count) zero numbers le = absurd (omega (arith, le))
+cleared-behind (suc count) (suc place) [] le = cleared-none count place
+cleared-behind (suc count) (suc place) (n ∷ numbers) le = cleared-behind count place numbers (omega (arith, le))
+
+-- the bounds of blocks of which a place is made 0 are made 0 too
+pub cleared_both : (bounds moments : List ℕ) (blocks count : ℕ) → AreBounds bounds moments → count ≤ length moments → count ≤ 8 * blocks → 8 * blocks < count + 8
+    → AreBounds (cleared blocks bounds) (cleared count moments)
+cleared_both bounds moments blocks count are within enough few = record {
+  enough = omega (arith, same, own, are.enough);
+  few = omega (arith, same, own, are.few);
+  below = λ place lt. by place (omega (arith, same, lt)) (ltb place count) refl;
+} where
+  same : length (cleared count moments) ≡ length moments
+  same = cleared-length count moments within
+
+  own : length (cleared blocks bounds) ≡ length bounds
+  own = cleared-length blocks bounds (omega (arith, are.enough, within, few))
+
+  by : (place : ℕ) → place < length moments → (b : Bool) → ltb place count ≡ b → slice_index (cleared blocks bounds) (place / 8) ≤ slice_index (cleared count moments) place
+  by place lt true before =
+      let less : place < count = grind (arith, nat_tests) in
+      let none = cleared-first blocks (place / 8) bounds (omega arith) in
+      omega arith
+  by place lt false behind =
+      let after : count ≤ place = grind (arith, nat_tests) in
+      let kept = cleared-behind count place moments after in
+      let lower = cleared-lower blocks (place / 8) bounds in
+      let low = are.below place lt in
+      omega arith

@@ -1,4 +1,4 @@
-ghost use Rattle.std.specs.Prelude.{ℕ, List, ◌≡◌, ◌+◌, ◌*◌, ◌<◌, ◌≤◌, ◌++◌, ◌∷◌, [], None, IfOk, IfSome, OnOk, OnErr, length, replicate, slice_get, slice_index, slice_set, vec_len, vec_capacity};
+ghost use Rattle.std.specs.Prelude.{ℕ, List, ◌≡◌, ◌+◌, ◌*◌, ◌<◌, ◌≤◌, ◌++◌, ◌∷◌, [], None, IfOk, IfSome, OnOk, OnErr, drop, length, replicate, slice_get, slice_index, slice_set, vec_len, vec_capacity};
 ghost use Rattle.alarms.specs.Bounds.{AreBounds, AreLevels, IsLeast};
 ghost use Rattle.alarms.specs.Due.{IsFirstDue, NoneDue};
 
@@ -207,6 +207,14 @@ fn bound_both(bounds: &mut Vec<u64>, groups: &mut Vec<u64>, place: usize, moment
     }
 }
 
+/// Makes the first numbers, so many, 0.
+fn clear_first(numbers: &mut [u64], count: usize)
+    requires { count ≤ length numbers.old }
+    ensures { numbers.new ≡ replicate count 0 ++ drop count numbers.old }
+{
+    numbers[..count].fill(0);
+}
+
 impl Alarms {
     /// No places. It takes no memory yet.
     pub fn new(alloc: Global) -> Alarms
@@ -261,13 +269,14 @@ impl Alarms {
         }
     }
 
-    /// Sets the moment of each place.
-    pub fn fill(&mut self, moment: u64)
-        ensures { self.new ≡ replicate (length self.old) moment }
+    /// Makes the first places, so many, due at every moment.
+    pub fn make_due(&mut self, count: usize)
+        requires { count ≤ length self.old }
+        ensures { self.new ≡ replicate count 0 ++ drop count self.old }
     {
-        self.moments.fill(moment);
-        self.bounds.fill(moment);
-        self.groups.fill(moment);
+        clear_first(&mut self.moments, count);
+        clear_first(&mut self.bounds, count.div_ceil(PLACES));
+        clear_first(&mut self.groups, count.div_ceil(GROUP));
     }
 
     /// The first place from one on whose moment is not after t; None exactly where there is none.

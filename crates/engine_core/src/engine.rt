@@ -11,7 +11,7 @@ ghost use Rattle.market_core.specs.AdmissionState.{refusal_of};
 ghost use Rattle.market_core.specs.Kinds.{TakesMemory};
 ghost use Rattle.market_core.specs.MarketState.{most_messages};
 ghost use Rattle.shard_core.specs.Block.{AreAdmissible};
-ghost use Rattle.evaluator_core.specs.Evaluating.{workers_of, HasRoomFor, IsAhead, IsIdle};
+ghost use Rattle.evaluator_core.specs.Evaluating.{workers_of, HasRoomFor, IsAhead, IsIdle, IsWorking};
 
 use crate::round::Outcome;
 use evaluator_core::Evaluator;
@@ -57,6 +57,7 @@ impl Engine {
         ensures represents { IfOk result (λ engine. Represents engine capacity [] []) }
         ensures roomy { IfOk result IsRoomy }
         ensures idle { IfOk result (λ engine. IsIdle engine.evaluator) }
+        ensures working { IfOk result (λ engine. IsWorking engine.evaluator) }
         ensures workers { IfOk result (λ engine. workers_of engine.evaluator ≡ workers) }
         ensures none { IfOk result (λ engine. engine.admission.count ≡ 0) }
         ensures evaluated { IfOk result (λ engine. engine.evaluated ≡ 0) }
@@ -94,8 +95,9 @@ impl Engine {
         self.admission.admit(x).unwrap();
     }
 
-    /// Goes on by one worker, where no record is evaluated ahead: from then on memory is taken at a Trade alone.
-    /// After an error, which is want of memory, the engine is of no further use. One worker goes on as it is.
+    /// Goes on by one worker, where no record is evaluated ahead: from then on memory is taken at a Trade alone. It takes none
+    /// itself. An error tells that several workers found none before, and then the engine is of no further use. One worker goes on
+    /// as it is.
     pub fn unite(&mut self, alloc: Global) -> Result<(), NoMemory>
         ensures represents { (capacity : ℕ) (accepted evaluated : List Record) → Represents self.old capacity accepted evaluated → IsIdle self.old.evaluator
             → OnOk result (Represents self.new capacity accepted evaluated) }
@@ -104,6 +106,9 @@ impl Engine {
         ensures roomy { IsRoomy self.old → OnOk result (IsRoomy self.new) }
         ensures rest { self.new ≡ record self.old { evaluator = self.new.evaluator } }
         ensures alone { workers_of self.old.evaluator ≡ 1 → IsOk result }
+        ensures working { OnOk result (IsWorking self.new.evaluator) }
+        ensures succeeds { (capacity : ℕ) (accepted evaluated : List Record) → Represents self.old capacity accepted evaluated → IsIdle self.old.evaluator
+            → IsWorking self.old.evaluator → IsOk result }
     {
         self.evaluator.unite(alloc)
     }
@@ -116,6 +121,7 @@ impl Engine {
             → AreAdmissible capacity evaluated xs.now.items → Represents self.new capacity accepted evaluated }
         ensures ahead { IsIdle self.old.evaluator → IsAhead self.new.evaluator xs.now.items }
         ensures alone { workers_of self.old.evaluator ≡ 1 → self.new ≡ self.old }
+        ensures none { xs.now.items ≡ [] → self.new ≡ self.old }
         ensures rest { self.new ≡ record self.old { evaluator = self.new.evaluator } }
         ensures workers { workers_of self.new.evaluator ≡ workers_of self.old.evaluator }
         ensures roomy { IsRoomy self.old → IsRoomy self.new }
@@ -136,6 +142,7 @@ impl Engine {
         ensures messages { (capacity : ℕ) (accepted evaluated later : List Record) → Represents self.old capacity accepted evaluated → IsAhead self.old.evaluator (x.now ∷ later)
             → verdict capacity evaluated x.now ≡ None → OnOk result (self.new.messages.items ≡ newest_messages (x.now ∷ evaluated)) }
         ensures ahead { (later : List Record) → IsAhead self.old.evaluator (x.now ∷ later) → OnOk result (IsAhead self.new.evaluator later) }
+        ensures working { OnOk result (IsWorking self.new.evaluator) }
         ensures workers { workers_of self.new.evaluator ≡ workers_of self.old.evaluator }
         ensures admission { self.new.admission ≡ self.old.admission }
         ensures evaluated { OnOk result (self.new.evaluated ≡ self.old.evaluated + 1) }

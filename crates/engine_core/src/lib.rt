@@ -12,6 +12,6 @@ mod session;
 pub use engine::{Engine, judge};
 pub use input::serve_input;
 pub use keeper::Keeper;
-pub use reply::{append_messages, evaluate, unite};
+pub use reply::{append_messages, evaluate};
 pub use round::{Outcome, ROUND_MAX, Round};
 pub use session::Session;

@@ -13,14 +13,13 @@ ghost use Rattle.market_core.specs.MarketState.{most_messages};
 ghost use Rattle.stream_core.specs.Pending.{Expects, SendsPrefix};
 ghost use Rattle.engine_core.specs.EngineState.{Represents, IsRoomy};
 ghost use Rattle.engine_core.specs.Answering.{IsShort, Appends};
-ghost use Rattle.evaluator_core.specs.Evaluating.{workers_of, IsAhead, IsIdle};
+ghost use Rattle.evaluator_core.specs.Evaluating.{workers_of, IsAhead, IsWorking};
 ghost use Rattle.engine_core.specs.Rounds.{Outcome, IsAdmissible, records_in};
 ghost use Rattle.engine_core.specs.Sessions.{with_acknowledgements};
 
 use crate::engine::Engine;
 use crate::round::Outcome;
 use host_core::{Fault, Host};
-use std::alloc::Global;
 use stream_core::Outbox;
 use wire_in::{Record, Refusal};
 use wire_out::{Frame, Stamped};
@@ -91,37 +90,6 @@ fn give_up<H: Host>(outbox: &mut Outbox, host: &mut H) -> Fault
     }
 }
 
-/// Goes on by one worker. Where memory is short, what waits is sent before that is told.
-pub fn unite<H: Host>(
-    alloc: Global,
-    engine: &mut Engine,
-    outbox: &mut Outbox,
-    host: &mut H,
-) -> Result<(), Fault>
-    ensures represents { (capacity : ℕ) (accepted evaluated : List Record) → Represents engine.old capacity accepted evaluated → IsIdle engine.old.evaluator
-        → OnOk result (Represents engine.new capacity accepted evaluated) }
-    ensures idle { IsIdle engine.old.evaluator → OnOk result (IsIdle engine.new.evaluator) }
-    ensures workers { OnOk result (workers_of engine.new.evaluator ≡ 1) }
-    ensures alone { workers_of engine.old.evaluator ≡ 1 → result ≢ Err Fault.Memory }
-    ensures rest { engine.new ≡ record engine.old { evaluator = engine.new.evaluator } }
-    ensures roomy { IsRoomy engine.old → OnOk result (IsRoomy engine.new) }
-    ensures pending { (begin : Option (List ℕ)) (text : List ℕ) → Expects begin (H.outside host.old).sent outbox.old text
-        → OnOk result (Expects begin (H.outside host.new).sent outbox.new text) }
-    ensures moments { (begin : Option (List ℕ)) (text : List ℕ) → Expects begin (H.outside host.old).sent outbox.old text
-        → Elapses (H.outside host.old) (H.outside host.new) (SendsPrefix begin text (H.outside host.old)) }
-    ensures sent { (begin : Option (List ℕ)) (text : List ℕ) → Expects begin (H.outside host.old).sent outbox.old text
-        → result ≡ Err Fault.Memory → (H.outside host.new).sent ≡ append_known begin text }
-    ensures keeps { OnlySends (H.outside host.old) (H.outside host.new) }
-    ensures causes { Causes result (H.outside host.old) (H.outside host.new) }
-    ensures unread { result ≢ Err Fault.Read }
-    ensures unkept { result ≢ Err Fault.Disk }
-{
-    match engine.unite(alloc) {
-        Ok(()) => Ok(()),
-        Err(_) => Err(give_up(outbox, host)),
-    }
-}
-
 /// Evaluates a record. Where memory is short, what waits is sent before that is told.
 pub fn evaluate<H: Host>(
     engine: &mut Engine,
@@ -136,6 +104,7 @@ pub fn evaluate<H: Host>(
     ensures messages { (capacity : ℕ) (accepted evaluated later : List Record) → Represents engine.old capacity accepted evaluated → IsAhead engine.old.evaluator (x.now ∷ later) → verdict capacity evaluated x.now ≡ None
         → OnOk result (engine.new.messages.items ≡ newest_messages (x.now ∷ evaluated)) }
     ensures ahead { (later : List Record) → IsAhead engine.old.evaluator (x.now ∷ later) → OnOk result (IsAhead engine.new.evaluator later) }
+    ensures working { OnOk result (IsWorking engine.new.evaluator) }
     ensures workers { workers_of engine.new.evaluator ≡ workers_of engine.old.evaluator }
     ensures admission { engine.new.admission ≡ engine.old.admission }
     ensures evaluated { OnOk result (engine.new.evaluated ≡ engine.old.evaluated + 1) }

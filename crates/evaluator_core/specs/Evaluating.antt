@@ -1,5 +1,5 @@
 -- One market, evaluated record by record or ahead.
-use Rattle.std.specs.Prelude.{ℕ, List, [], length}
+use Rattle.std.specs.Prelude.{◌≡◌, ℕ, List, [], true, length}
 use Rattle.wire_in.specs.declared.record.Record.{Record}
 use Rattle.market_core.specs.MarketState as markets
 use Rattle.market_core.specs.Room as rooms
@@ -20,6 +20,11 @@ IsAhead (Many block) records = HasAhead block records
 -- no record is evaluated ahead
 abbrev pub IsIdle : Evaluator → Type 0
 IsIdle evaluator = IsAhead evaluator []
+
+-- no block of several workers found no memory
+abbrev pub IsWorking : Evaluator → Type 0
+IsWorking (One market) = Unit {0}
+IsWorking (Many block) = block.shards.working ≡ true
 
 -- by how many workers it is evaluated
 abbrev pub workers_of : Evaluator → ℕ

@@ -1,5 +1,5 @@
 // A market that evaluates a block of records ahead, and hands out their messages record by record.
-ghost use Rattle.std.specs.Prelude.{◌≡◌, ◌==◌, ◌+◌, ◌<◌, ◌≤◌, ◌++◌, ◌∷◌, ℕ, [], false, List, IfOk, OnOk, length, map, vec_len, vec_capacity};
+ghost use Rattle.std.specs.Prelude.{◌≡◌, ◌==◌, ◌+◌, ◌<◌, ◌≤◌, ◌++◌, ◌∷◌, ℕ, [], false, true, List, IfOk, IsOk, OnOk, length, map, vec_len, vec_capacity};
 ghost use Rattle.wire_in.specs.declared.record.Record.{Record};
 ghost use Rattle.rulebook.specs.Admission.{most_names};
 ghost use Rattle.rulebook.specs.Book.{newest_messages};
@@ -21,8 +21,8 @@ use wire_out::Stamped;
 use yard_core::Gate;
 
 /// A market in several parts, and what a block of records gave that wasn't handed out yet. Where a block found no memory,
-/// the parts don't work any more, and nothing is given from then on. What the records of the block were is for contracts
-/// alone.
+/// the parts don't work any more, and nothing is given from then on. While they work, the room of one market is kept, so that
+/// it takes no memory to go on by one worker. What the records of the block were is for contracts alone.
 #[derive(Drop)]
 pub struct Ahead {
     shards: Shards,
@@ -30,17 +30,18 @@ pub struct Ahead {
     at: usize,
     index: u32,
     records: Snapshot<Vec<Record>>,
+    room: Option<Market>,
 }
 
 impl Model for Ahead {
-    ghost use Rattle.std.specs.Prelude.{◌<◌, ◌≤◌, drop, length};
+    ghost use Rattle.std.specs.Prelude.{◌≡◌, ◌<◌, ◌≤◌, [], true, IsSomeAnd, drop, length};
     ghost use Rattle.evaluator_core.specs.AheadState.{AheadState};
 
     ghost Value = { AheadState };
 
     ghost view = { λ block. record { shards = block.shards; index = block.index; ahead = drop block.index block.records.value.items; left = drop block.at block.given.items } };
 
-    ghost invariant = { λ block. (1 < length block.shards.parts) × (block.at ≤ length block.given.items) × (length block.records.value.items ≤ 65536) };
+    ghost invariant = { λ block. (1 < length block.shards.parts) × (block.at ≤ length block.given.items) × (length block.records.value.items ≤ 65536) × (block.shards.working ≡ true → IsSomeAnd block.room (λ market. market.symbols ≡ [])) };
 }
 
 /// How many of the first messages are of the record at an index.
@@ -72,6 +73,7 @@ impl Ahead {
         requires workers { (1 < workers) × (workers ≤ 64) }
         ensures represents { IfOk result (λ block. RepresentsAhead block []) }
         ensures idle { IfOk result (λ block. HasAhead block []) }
+        ensures working { IfOk result (λ block. block.shards.working ≡ true) }
         ensures parts { IfOk result (λ block. length block.shards.parts ≡ workers) }
     {
         Ok(Ahead {
@@ -80,6 +82,7 @@ impl Ahead {
             at: 0,
             index: 0,
             records: Snapshot::of(&Vec::new(alloc)),
+            room: Some(Market::new(alloc)?),
         })
     }
 
@@ -101,17 +104,19 @@ impl Ahead {
         false
     }
 
-    /// Makes one market of the parts, where no record is evaluated ahead. After it nothing is evaluated here. It fails where
-    /// memory is wanting, and where a block found none.
+    /// Makes one market of the parts, where no record is evaluated ahead. After it nothing is evaluated here. It takes no memory,
+    /// and fails where a block found none.
     pub(crate) fn unite(&mut self, alloc: Global) -> Result<Market, NoMemory>
         ensures represents { (evaluated : List Record) → RepresentsAhead self.old evaluated → HasAhead self.old []
             → IfOk result (λ market. markets.Represents market evaluated) }
+        ensures succeeds { (evaluated : List Record) → RepresentsAhead self.old evaluated → HasAhead self.old [] → self.old.shards.working ≡ true → IsOk result }
         ensures several { 1 < length self.old.shards.parts }
     {
         if !self.shards.working() {
             return Err(NoMemory);
         }
-        self.shards.unite(alloc)
+        let room = self.room.take().ok_or(NoMemory)?;
+        self.shards.unite(alloc, room)
     }
 
     /// Evaluates a block of records ahead, when those of the block before were handed out. Where it finds no memory, that is
@@ -148,6 +153,7 @@ impl Ahead {
         ensures stands { (x : Record) (applied later : List Record) → RepresentsAhead self.old applied → HasAhead self.old (x ∷ later)
             → OnOk result (RepresentsAhead self.new (x ∷ applied)) }
         ensures ahead { (x : Record) (later : List Record) → HasAhead self.old (x ∷ later) → OnOk result (HasAhead self.new later) }
+        ensures working { OnOk result (self.new.shards.working ≡ true) }
         ensures few { vec_len out.new ≤ vec_len out.old + most_messages }
         ensures keeps_room { vec_capacity out.old ≤ vec_capacity out.new }
         ensures parts { self.new.shards ≡ self.old.shards }

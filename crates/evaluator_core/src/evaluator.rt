@@ -24,13 +24,14 @@ pub enum Evaluator {
 }
 
 impl Evaluator {
-    ghost use Rattle.evaluator_core.specs.Evaluating.{HasRoomFor, IsAhead, IsIdle, Represents, names_of, workers_of};
+    ghost use Rattle.evaluator_core.specs.Evaluating.{HasRoomFor, IsAhead, IsIdle, IsWorking, Represents, names_of, workers_of};
 
     /// A market of no records, for so many workers, from 1 to 64.
     pub fn new(alloc: Global, workers: u32) -> Result<Evaluator, NoMemory>
         requires workers { (0 < workers) × (workers ≤ 64) }
         ensures represents { IfOk result (λ evaluator. Represents evaluator []) }
         ensures idle { IfOk result IsIdle }
+        ensures working { IfOk result IsWorking }
         ensures workers { IfOk result (λ evaluator. workers_of evaluator ≡ workers) }
     {
         if workers == 1 {
@@ -62,12 +63,14 @@ impl Evaluator {
         }
     }
 
-    /// Goes on by one worker, where no record is evaluated ahead. An error is want of memory, also for a block before, and
-    /// what is left then is of no further use.
+    /// Goes on by one worker, where no record is evaluated ahead. It takes no memory. An error tells that a block before found
+    /// none, and what is left then is of no further use.
     pub fn unite(&mut self, alloc: Global) -> Result<(), NoMemory>
         ensures represents { (evaluated : List Record) → Represents self.old evaluated → IsIdle self.old → OnOk result (Represents self.new evaluated) }
         ensures idle { OnOk result (IsIdle self.new) }
+        ensures working { OnOk result (IsWorking self.new) }
         ensures alone { OnOk result (workers_of self.new ≡ 1) }
+        ensures succeeds { (evaluated : List Record) → Represents self.old evaluated → IsIdle self.old → IsWorking self.old → IsOk result }
         ensures unchanged { workers_of self.old ≡ 1 → IsOk result × (self.new ≡ self.old) }
     {
         if let Evaluator::Many(block) = self {
@@ -104,6 +107,7 @@ impl Evaluator {
         ensures stands { (capacity : ℕ) (applied later : List Record) → Represents self.old applied → IsAhead self.old (x.now ∷ later) → verdict capacity applied x.now ≡ None
             → OnOk result (Represents self.new (x.now ∷ applied)) }
         ensures ahead { (later : List Record) → IsAhead self.old (x.now ∷ later) → OnOk result (IsAhead self.new later) }
+        ensures working { OnOk result (IsWorking self.new) }
         ensures few { vec_len out.new ≤ vec_len out.old + most_messages }
         ensures room { workers_of self.old ≡ 1 → name_of x.now ≡ None → is_trade x.now ≡ false
             → vec_len out.old + most_of_names (names_of self.old) ≤ vec_capacity out.old → IsOk result }

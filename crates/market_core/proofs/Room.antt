@@ -1,7 +1,7 @@
 -- Room that is there.
-use Rattle.std.proofs.Common.{◌≡◌, ℕ, zero, suc, ◌<◌, ◌≤◌, Bool, true, false, List, [], ◌∷◌, ◌++◌, length, get_or, Option, Result, Err, refl, sym, ap, subst, ◌∙◌, true≢false}
+use Rattle.std.proofs.Common.{◌≡◌, ℕ, ◌<◌, ◌≤◌, Bool, true, false, List, length, get_or, Option, Result, Err, refl, sym, ap, subst, ◌∙◌, true≢false, arith}
 use Rattle.std.specs.Prelude.{IfSome, IsOk, is_ok, slice_index}
-use Rattle.std.proofs.lemmas.Option.{slice_get-get_or}
+use Rattle.std.proofs.lemmas.Option.{slice_get-get_or, slice_get_within}
 use Rattle.wire_in.specs.declared.record.Record.{Record}
 use Rattle.symbol_core.specs.Rests.{SymbolState}
 use Rattle.market_core.specs.declared.since.Since.{Since}
@@ -24,14 +24,8 @@ refused r e is ok = true≢false (sym ok ∙ ap is_ok is)
 pub room_of : (symbols : List SymbolState) (index : ℕ) (d : SymbolState) → index < length symbols → HasRoomAt symbols index → 1 ≤ (get_or symbols index d).spare
 room_of symbols index d within room = subst (λ (o : Option SymbolState). IfSome o (λ held. 1 ≤ held.spare)) (slice_get-get_or symbols index d within) room
 
--- places that are always due come behind the others
-
-pub index-more : (xs : List ℕ) (place : ℕ) → slice_index (xs ++ 0 ∷ []) place ≡ slice_index xs place
-index-more [] zero = refl
-index-more [] (suc place) = refl
-index-more (x ∷ xs) zero = refl
-index-more (x ∷ xs) (suc place) = index-more xs place
-
-pub each-same : (since : Option Since) (before after : List ℕ) (stocks : List SymbolState) → ((place : ℕ) → slice_index after place ≡ slice_index before place)
-    → EachIdles since before stocks → EachIdles since after stocks
-each-same since before after stocks same each = λ place held e. subst (λ (alarm : ℕ). IdlesUntil since alarm held) (sym (same place)) (each place held e)
+-- places come behind the others
+pub each-same : (since : Option Since) (before after : List ℕ) (stocks : List SymbolState) → length stocks ≤ length before
+    → ((place : ℕ) → place < length before → slice_index after place ≡ slice_index before place) → EachIdles since before stocks → EachIdles since after stocks
+each-same since before after stocks there same each =
+    λ place held e. subst (λ (alarm : ℕ). IdlesUntil since alarm held) (sym (same place (omega (arith, slice_get_within stocks place held e, there)))) (each place held e)

@@ -1,6 +1,6 @@
 -- Stocks that a tick brings nothing are left as they are, and are evaluated all the same.
 use Rattle.std.proofs.Common.{◌≡◌, ◌≢◌, ℕ, Bool, true, false, zero, suc, ◌+◌, ◌-◌, ◌<◌, ◌≤◌, List, [], ◌∷◌, ◌++◌, length, Option, Some, None, Result, Ok, Err, refl, sym, ap, subst, ◌∙◌, add-one, arith}
-use Rattle.std.specs.Prelude.{OnOk, nat_le, replicate, slice_get, slice_index, slice_set}
+use Rattle.std.specs.Prelude.{OnOk, drop, nat_le, replicate, slice_get, slice_index, slice_set}
 use Rattle.std.proofs.lemmas.Bool.Decides.{nat_tests}
 use Rattle.std.proofs.lemmas.List.{append-nil, get_or-set_other, get_or-set_same}
 use Rattle.std.proofs.lemmas.Option.{slice_get_within}
@@ -33,12 +33,16 @@ pub idles-always : (since : Option Since) (alarm : ℕ) (held : SymbolState) →
 idles-always None alarm held none = tt
 idles-always (Some s) alarm held none = λ x tick from until said. absurd (omega arith)
 
-pub each-always : (since : Option Since) (alarms : List ℕ) (stocks : List SymbolState) (n : ℕ) → alarms ≡ replicate n 0 → EachIdles since alarms stocks
-each-always since alarms stocks n filled = λ place held e. idles-always since (slice_index alarms place) held (ap (λ (xs : List ℕ). slice_index xs place) filled ∙ index-none n place) where
-  index-none : (n place : ℕ) → slice_index (replicate n 0) place ≡ 0
-  index-none zero place = refl
-  index-none (suc n) zero = refl
-  index-none (suc n) (suc place) = index-none n place
+pub each-always : (since : Option Since) (before alarms : List ℕ) (stocks : List SymbolState) (n : ℕ) → alarms ≡ replicate n 0 ++ drop n before → length stocks ≤ n → EachIdles since alarms stocks
+each-always since before alarms stocks n due within =
+    λ place held e.
+    idles-always since (slice_index alarms place) held
+    (ap (λ (xs : List ℕ). slice_index xs place) due ∙ index-due n place (drop n before) (omega (arith, slice_get_within stocks place held e, within)))
+  where
+    index-due : (n place : ℕ) (later : List ℕ) → place < n → slice_index (replicate n 0 ++ later) place ≡ 0
+    index-due zero place later lt = absurd (omega (arith, lt))
+    index-due (suc n) zero later lt = refl
+    index-due (suc n) (suc place) later lt = index-due n place later (omega (arith, lt))
 
 pub each-pass : (before after : Option Since) (alarms : List ℕ) (stocks : List SymbolState) → ((alarm : ℕ) (held : SymbolState) → IdlesUntil before alarm held → IdlesUntil after alarm held)
     → EachIdles before alarms stocks → EachIdles after alarms stocks

@@ -80,6 +80,7 @@ impl Market {
     pub fn of(alloc: Global, lead: Lead, section: Section) -> Result<Option<Market>, NoMemory>
         ensures some { IfOk result (λ found. IfSome found (λ market. market ≡ record { directory = lead.directory; today = lead.today; symbols = section.symbols })) }
         ensures none { IfOk result (λ found. IsNone found ↔ (length section.symbols ≢ length lead.directory)) }
+        ensures succeeds { most_names ≤ length section.symbols + section.spare → IsOk result }
     {
         let names = lead.names() as usize;
         if section.len() != names {
@@ -92,6 +93,15 @@ impl Market {
             lead,
             section,
         }))
+    }
+
+    /// Its names and its day, and its stocks, with the room for those of all names that may still come.
+    pub fn into_parts(self) -> (Lead, Section)
+        ensures lead { result.0 ≡ lead_of self }
+        ensures symbols { result.1.symbols ≡ self.symbols }
+        ensures room { most_names ≤ length self.symbols + result.1.spare }
+    {
+        (self.lead, self.section)
     }
 
     /// How many names were ever listed.

@@ -5,7 +5,7 @@ ghost use Rattle.symbol_core.specs.Evaluates.{most_of_symbol};
 ghost use Rattle.market_core.specs.Kinds.{is_trade};
 ghost use Rattle.market_core.specs.Room.{HasRoomAt};
 
-use crate::since::{ALWAYS_DUE, Since, alarm_of, pass, renew};
+use crate::since::{ALWAYS_DUE, NEVER_DUE, Since, alarm_of, pass, renew};
 use crate::symbols::{evaluate, evaluate_each};
 use alarms::Alarms;
 use price_core::NoMemory;
@@ -52,15 +52,15 @@ fn first_due(alarms: &mut Alarms, from: usize, end: usize, t: Moment) -> usize
     }
 }
 
-/// Makes so many more places, which are due. An error leaves those that were made.
+/// Makes so many more places, which are never due. An error leaves those that were made.
 fn make_places(alarms: &mut Alarms, count: usize) -> Result<(), NoMemory>
     ensures more { OnOk result (length alarms.old + count ≤ length alarms.new) }
     ensures kept { length alarms.old ≤ length alarms.new }
-    ensures same { (place : ℕ) → slice_index alarms.new place ≡ slice_index alarms.old place }
+    ensures same { (place : ℕ) → place < length alarms.old → slice_index alarms.new place ≡ slice_index alarms.old place }
     ensures none { count ≡ 0 → IsOk result }
 {
     for _place in 0..count {
-        alarms.push(ALWAYS_DUE)?;
+        alarms.push(NEVER_DUE)?;
     }
     Ok(())
 }
@@ -70,6 +70,8 @@ fn append_symbols(symbols: &mut Vec<Symbol>, later: &mut Vec<Symbol>) -> Result<
     ensures all { OnOk result (symbols.new.items ≡ symbols.old.items ++ later.old.items) }
     ensures none { OnOk result (later.new.items ≡ []) }
     ensures err { OnErr result ((symbols.new.items ≡ symbols.old.items) × (later.new.items ≡ later.old.items)) }
+    ensures succeeds { vec_len symbols.old + vec_len later.old ≤ vec_capacity symbols.old → IsOk result }
+    ensures room { vec_capacity symbols.old ≤ vec_capacity symbols.new }
     ensures count { vec_len symbols.new ≤ vec_len symbols.old + vec_len later.old }
     ensures shorter { vec_len later.new ≤ vec_len later.old }
 {
@@ -132,17 +134,19 @@ impl Section {
         push_symbol(&mut self.symbols, symbol);
     }
 
-    /// Moves the stocks of a section behind these. Alarms are forgotten: the next tick finds each stock due. An error leaves
-    /// the stocks of both as they were.
+    /// Moves the stocks of a section behind these, where there is room for them without memory. Alarms are forgotten: the next
+    /// tick finds each stock due. An error leaves the stocks of both as they were.
     pub fn append(&mut self, later: &mut Section) -> Result<(), NoMemory>
         ensures all { OnOk result (self.new.symbols ≡ self.old.symbols ++ later.old.symbols) }
         ensures none { OnOk result (later.new.symbols ≡ []) }
         ensures fewer { length later.new.symbols ≤ length later.old.symbols }
         ensures err { OnErr result ((self.new.symbols ≡ self.old.symbols) × (later.new.symbols ≡ later.old.symbols)) }
+        ensures succeeds { length later.old.symbols ≤ self.old.spare → IsOk result }
+        ensures spare { OnOk result (self.old.spare ≤ self.new.spare + length later.old.symbols) }
     {
+        self.reserve(later.symbols.len())?;
         self.since = None;
         later.since = None;
-        make_places(&mut self.alarms, later.symbols.len())?;
         append_symbols(&mut self.symbols, &mut later.symbols)?;
         Ok(())
     }
@@ -216,7 +220,7 @@ impl Section {
             from: t,
             market: *market,
         };
-        renew(&mut self.alarms, &self.since, &now);
+        renew(&mut self.alarms, self.symbols.len(), &self.since, &now);
         self.since = Some(now);
     }
 

@@ -1,5 +1,5 @@
 // From when on, and over which market, alarms of stocks hold.
-ghost use Rattle.std.specs.Prelude.{◌≡◌, ℕ, true, Some, List, length};
+ghost use Rattle.std.specs.Prelude.{◌≡◌, ◌≤◌, ℕ, true, Some, List, length};
 ghost use Rattle.symbol_core.specs.Rests.{SymbolState};
 ghost use Rattle.market_core.specs.Sections.{EachIdles, Idles, IdlesUntil};
 
@@ -16,6 +16,9 @@ pub struct Since {
 
 /// The alarm of a stock of which nothing is known: each tick may bring it something.
 pub(crate) const ALWAYS_DUE: u64 = 0;
+
+/// The alarm of a place without a stock.
+pub(crate) const NEVER_DUE: u64 = u64::MAX;
 
 /// Whether what holds from a moment on over a market holds since another.
 fn includes(from: Moment, market: &MarketView, since: &Since) -> bool
@@ -34,15 +37,16 @@ fn still_holds(since: &Option<Since>, now: &Since) -> bool
     }
 }
 
-/// Keeps alarms where they hold from now on, and makes each place due where they don't.
-pub(crate) fn renew(alarms: &mut Alarms, since: &Option<Since>, now: &Since)
-    ensures idles { (symbols : List SymbolState) → EachIdles since.now alarms.old symbols → EachIdles (Some now.now) alarms.new symbols }
+/// Keeps alarms where they hold from now on, and makes the places of so many stocks due where they don't.
+pub(crate) fn renew(alarms: &mut Alarms, count: usize, since: &Option<Since>, now: &Since)
+    requires { count ≤ length alarms.old }
+    ensures idles { (symbols : List SymbolState) → length symbols ≤ count → EachIdles since.now alarms.old symbols → EachIdles (Some now.now) alarms.new symbols }
     ensures len { length alarms.new ≡ length alarms.old }
 {
     if still_holds(since, now) {
         return;
     }
-    alarms.fill(ALWAYS_DUE);
+    alarms.make_due(count);
 }
 
 /// Lets time pass: what holds from one moment on holds from a later one on.

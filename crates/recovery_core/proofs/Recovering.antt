@@ -1,5 +1,5 @@
 -- A journal that is read batch by batch.
-use Rattle.std.proofs.Common.{◌≡◌, ◌≢◌, ◌⊎◌, inl, inr, ℕ, ◌+◌, ◌-◌, ◌<◌, List, [], ◌∷◌, ◌++◌, length, get_or, take, drop, None, refl, sym, ap, subst, ◌∙◌, append_assoc, arith, rules}
+use Rattle.std.proofs.Common.{◌≡◌, ◌≢◌, inl, inr, ℕ, ◌+◌, ◌-◌, ◌<◌, List, [], ◌∷◌, ◌++◌, length, get_or, take, drop, None, refl, sym, ap, subst, ◌∙◌, append_assoc, arith, rules}
 use Rattle.std.specs.Prelude.{Option, Some, Result, Ok, Err, IfErr, reverse}
 use Rattle.std.specs.Result.{IsErrAnd}
 use Rattle.std.specs.Io.KnownBytes.{append_known}
@@ -27,7 +27,7 @@ use Rattle.rulebook.specs.Admission.{IsLawful}
 use Rattle.wire_out.specs.Spelling.{spelling}
 use Rattle.rulebook.specs.Sent.{hello, spelled}
 use Rattle.shard_core.specs.Block.{AreAdmissible}
-use Rattle.evaluator_core.specs.Evaluating.{IsAhead, IsIdle}
+use Rattle.evaluator_core.specs.Evaluating.{IsAhead, IsIdle, IsWorking}
 use Rattle.stream_core.specs.Pending.{Expects, SendsPrefix}
 use Rattle.stream_core.proofs.Pending.{expects_still}
 use Rattle.stream_core.proofs.Sending.{waits, sends_on, sends_longer}
@@ -66,18 +66,6 @@ limited {accepted = accepted} {evaluated = evaluated} limit next is r =
 pub in_parts : (records first second : List Record) → with_batch records (first ++ second) ≡ reverse second ++ with_batch records first
 in_parts records first second = ap (λ r. r ++ records) (reverse-append first second) ∙ append_assoc (reverse second) (reverse first) records
 
--- a record in front of others is the oldest of them, or another is
-takes_more : {workers : ℕ} (x : Record) (records : List Record) → (workers ≡ 1 → ⊥) → TakesFirst workers (x ∷ records)
-takes_more x [] several = record { x = x; later = []; parts = refl; takes = λ one. absurd (several one) }
-takes_more x (y ∷ records) several =
-    let first = takes_more y records several in
-    record { x = first.x; later = x ∷ first.later; parts = ap (λ (r : List Record). x ∷ r) first.parts; takes = first.takes }
-
--- memory was short for going on by one worker, also where the list has more records
-short_behind : {workers : ℕ} (more behind : List Record) → workers ≢ 1 → behind ≡ [] → TakesFirst workers (more ++ behind) ⊎ ((workers ≢ 1) × (more ++ behind ≡ []))
-short_behind [] behind several none = inr (several, none)
-short_behind (x ∷ more) behind several none = inl (takes_more x (more ++ behind) several)
-
 -- want of memory among some records is want of memory among more
 pub starved_further : {workers : ℕ} {from : Option ℕ} {records all : List Record} {begin now : Option (List ℕ)} → IsPart records all → StarvedAtRecord workers from records begin now
     → StarvedAtRecord workers from all begin now
@@ -85,10 +73,12 @@ starved_further part hungry = record {
   before = hungry.before;
   behind = part.more ++ hungry.behind;
   parts = sym part.whole ∙ ap (λ (r : List Record). part.more ++ r) hungry.parts ∙ sym (append_assoc part.more hungry.behind hungry.before);
-  short = elim hungry.short [
-    | inl first ↦ inl (record { x = first.x; later = part.more ++ first.later; parts = ap (λ (r : List Record). part.more ++ r) first.parts ∙ sym (append_assoc part.more first.later (first.x ∷ [])); takes = first.takes })
-    | inr alone ↦ short_behind part.more hungry.behind alone.0 alone.1
-  ];
+  short = record {
+    x = hungry.short.x;
+    later = part.more ++ hungry.short.later;
+    parts = ap (λ (r : List Record). part.more ++ r) hungry.short.parts ∙ sym (append_assoc part.more hungry.short.later (hungry.short.x ∷ []));
+    takes = hungry.short.takes;
+  };
   sent = hungry.sent;
 }
 
@@ -120,7 +110,7 @@ module _ {from : Option ℕ} {capacity : ℕ} {accepted waiting prepared : List 
 
   -- memory is short for the first of them
   pub starved_now : {workers : ℕ} {sent : Option (List ℕ)} → TakesFirst workers (reverse waiting) → sent ≡ append_known begin (again from r.held) → StarvedAtRecord workers from accepted begin sent
-  starved_now first sent = record { before = r.held; behind = reverse waiting; parts = sym r.whole; short = inl first; sent = sent }
+  starved_now first sent = record { before = r.held; behind = reverse waiting; parts = sym r.whole; short = first; sent = sent }
 
   -- they are evaluated ahead, and what is pending stays so
   pub resumes_ahead : {items list : List Record} → items ≡ waiting → list ≡ items → (next : Engine)
@@ -141,21 +131,6 @@ module _ (from : Option ℕ) {begin : Option (List ℕ)} {disk : List ℕ} {reco
   sends_greeting run all covers =
       sends_part from (covers _ _ _ _ _ r.read.leads (record { more = []; whole = refl }) r.admits.lawful) (run begin (again from (records_of r.batches)) r.pending_is)
 
-  -- it goes on by one worker
-  pub alone : OnlySends old new → (engine : Engine) (outbox : List ℕ)
-      → ((capacity : ℕ) (accepted evaluated : List Record) → Represents recovery.engine capacity accepted evaluated → IsIdle recovery.engine.evaluator → Represents engine capacity accepted evaluated)
-      → (IsIdle recovery.engine.evaluator → IsIdle engine.evaluator)
-      → ((begin : Option (List ℕ)) (text : List ℕ) → Expects begin old.sent recovery.outbox text → Expects begin new.sent outbox text)
-      → Recovers (again from) begin disk (record recovery { engine = engine; outbox = outbox }) new
-  alone sends engine outbox represents idle expects = record {
-    rests = sends_rests sends r.rests;
-    batches = r.batches;
-    read = r.read;
-    admits = record { engine_is = represents _ _ _ r.admits.engine_is r.idle; lawful = r.admits.lawful };
-    idle = idle r.idle;
-    pending_is = expects begin _ r.pending_is;
-  }
-
   pub greeted : OnlySends old new → (outbox : List ℕ)
       → ((capacity : ℕ) (held : List Record) (begin : Option (List ℕ)) (text : List ℕ) → Represents recovery.engine capacity held held → Expects begin old.sent recovery.outbox text
       → Expects begin new.sent outbox (text ++ spelling (hello held))) → Recovers (opening from) begin disk (record recovery { outbox = outbox }) new
@@ -165,15 +140,23 @@ module _ (from : Option ℕ) {begin : Option (List ℕ)} {disk : List ℕ} {reco
     read = r.read;
     admits = r.admits;
     idle = r.idle;
+    working = r.working;
     pending_is = expects recovery.scan.capacity _ begin _ r.admits.engine_is r.pending_is;
   }
 
--- memory is short for going on by one worker, which it isn't where there is one
-pub starves_alone : (from : Option ℕ) {begin : Option (List ℕ)} {disk : List ℕ} {recovery : Recovery} {old : Outside} (r : Recovers (again from) begin disk recovery old) (now : Outside) {workers : ℕ}
-    → (workers ≡ 1 → ⊥) → now.sent ≡ append_known begin (again from (records_of r.batches)) → StarvesAgain workers from begin disk now
-starves_alone from r now several sent all covers =
-    starved_further (covers _ _ _ _ _ r.read.leads (record { more = []; whole = refl }) r.admits.lawful)
-    (record { before = records_of r.batches; behind = []; parts = refl; short = inr (several, refl); sent = sent })
+-- it goes on by one worker
+pub alone : (from : Option ℕ) {begin : Option (List ℕ)} {disk : List ℕ} {recovery : Recovery} {now : Outside} → Recovers (again from) begin disk recovery now → (engine : Engine)
+    → ((capacity : ℕ) (accepted evaluated : List Record) → Represents recovery.engine capacity accepted evaluated → IsIdle recovery.engine.evaluator → Represents engine capacity accepted evaluated)
+    → (IsIdle recovery.engine.evaluator → IsIdle engine.evaluator) → IsWorking engine.evaluator → Recovers (again from) begin disk (record recovery { engine = engine }) now
+alone from r engine represents idle working = record {
+  rests = r.rests;
+  batches = r.batches;
+  read = r.read;
+  admits = record { engine_is = represents _ _ _ r.admits.engine_is r.idle; lawful = r.admits.lawful };
+  idle = idle r.idle;
+  working = working;
+  pending_is = r.pending_is;
+}
 
 -- an engine that goes on by one worker is read into
 pub reads_alone : {scan : ScanState} {engine : Engine} {known : Option (List ℕ)} (next : Engine) → next ≡ record engine { evaluator = next.evaluator }
@@ -192,7 +175,7 @@ pub gathers_first : {from : Option ℕ} {begin : Option (List ℕ)} {disk : List
     → waiting ≡ record recovery.waiting { records = [] } → Gathers from begin disk (record recovery { waiting = waiting }) now
 gathers_first {from} {begin} {disk} {recovery} {now} r none =
     subst (λ (w : WaitingState). Gathers from begin disk (record recovery { waiting = w }) now) (sym none)
-    (record { rests = r.rests; batches = r.batches; read = r.read; resumes = record { held = records_of r.batches; whole = refl; admits = r.admits; ahead = r.idle; pending_is = r.pending_is } })
+    (record { rests = r.rests; batches = r.batches; read = r.read; resumes = record { held = records_of r.batches; whole = refl; admits = r.admits; ahead = r.idle; pending_is = r.pending_is }; working = r.working })
 
 -- nothing waits any more
 pub gathered : {from : Option ℕ} {begin : Option (List ℕ)} {disk : List ℕ} {recovery : Recovery} {now : Outside} → Gathers from begin disk recovery now
@@ -206,6 +189,7 @@ gathered {from} {begin} {recovery = recovery} {now = now} g none =
       read = g.read;
       admits = subst (λ (held : List Record). Admits recovery.scan.capacity (records_of g.batches) held recovery.engine) last.whole last.admits;
       idle = last.ahead;
+      working = g.working;
       pending_is = subst (λ (held : List Record). Expects begin now.sent recovery.outbox (again from held)) last.whole last.pending_is;
     }
 
@@ -227,11 +211,11 @@ module _ {from : Option ℕ} {begin : Option (List ℕ)} {disk : List ℕ} {reco
 
   -- all of them are evaluated
   pub resumed : (engine : Engine) (outbox : List ℕ) {after : WaitingState} {new : Outside} → after ≡ record recovery.waiting { records = [] } → Rests disk new
-      → Resumes from recovery.scan.capacity (records_of g.batches) [] [] begin engine outbox new
+      → Resumes from recovery.scan.capacity (records_of g.batches) [] [] begin engine outbox new → IsWorking engine.evaluator
       → Gathers from begin disk (record { scan = recovery.scan; engine = engine; outbox = outbox; waiting = after }) new
-  resumed engine outbox {new = new} none rests resumes =
+  resumed engine outbox {new = new} none rests resumes working =
       subst (λ (w : WaitingState). Gathers from begin disk (record { scan = recovery.scan; engine = engine; outbox = outbox; waiting = w }) new) (sym none)
-      (record { rests = rests; batches = g.batches; read = g.read; resumes = resumes })
+      (record { rests = rests; batches = g.batches; read = g.read; resumes = resumes; working = working })
 
   -- It is read on.
   module _ {new : Outside} (reads : OnlyReadsDisk now new) (scan : ScanState) (same : scan.capacity ≡ recovery.scan.capacity) where
@@ -249,6 +233,7 @@ module _ {from : Option ℕ} {begin : Option (List ℕ)} {disk : List ℕ} {reco
         ahead = subst (λ (e : Engine). IsIdle e.evaluator) (sym rest) g.resumes.ahead;
         pending_is = expects_still new.sent reads.sent g.resumes.pending_is;
       });
+      working = subst (λ (e : Engine). IsWorking e.evaluator) (sym rest) g.working;
     }
 
     -- to the end

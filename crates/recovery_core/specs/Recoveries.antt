@@ -9,7 +9,7 @@ use Rattle.journal_core.specs.Scan.{ScanState, HasRead, IsScanOf}
 use Rattle.rulebook.specs.Admission.{verdict, IsLawful}
 use Rattle.wire_out.specs.Spelling.{spelling}
 use Rattle.rulebook.specs.Sent.{hello, sent_again, spelled}
-use Rattle.evaluator_core.specs.Evaluating.{IsAhead, IsIdle}
+use Rattle.evaluator_core.specs.Evaluating.{IsAhead, IsIdle, IsWorking}
 use Rattle.engine_core.specs.declared.engine.Engine.{Engine}
 use Rattle.engine_core.specs.EngineState.{Represents, IsRoomy}
 use Rattle.stream_core.specs.Pending.{Expects, SendsPrefix}
@@ -79,21 +79,24 @@ pub record Rests (disk : List ℕ) (now : Outside) : Type 0 where
   pub known : now.disk ≡ Some disk
   pub settled : IsSettled now
 
--- some batches of a disk that rests were read, their records evaluated, and this text is expected for them
+-- some batches of a disk that rests were read, their records evaluated, for which there was memory, and this text is expected
+-- for them
 pub record Recovers (text : List Record → List ℕ) (begin : Option (List ℕ)) (disk : List ℕ) (recovery : Recovery) (now : Outside) : Type 0 where
   pub rests : Rests disk now
   pub batches : List (List Record)
   pub read : HasRead recovery.scan batches disk
   pub admits : Admits recovery.scan.capacity (records_of batches) (records_of batches) recovery.engine
   pub idle : IsIdle recovery.engine.evaluator
+  pub working : IsWorking recovery.engine.evaluator
   pub pending_is : Expects begin now.sent recovery.outbox (text (records_of batches))
 
--- some batches of a disk that rests were read, and of their records some wait
+-- some batches of a disk that rests were read, and of their records some wait; for the others there was memory
 pub record Gathers (from : Option ℕ) (begin : Option (List ℕ)) (disk : List ℕ) (recovery : Recovery) (now : Outside) : Type 0 where
   pub rests : Rests disk now
   pub batches : List (List Record)
   pub read : HasRead recovery.scan batches disk
   pub resumes : Resumes from recovery.scan.capacity (records_of batches) recovery.waiting.records [] begin recovery.engine recovery.outbox now
+  pub working : IsWorking recovery.engine.evaluator
 
 -- behind these records, the first of some more are lawful, up to one that may not follow
 pub record Refuses (capacity : ℕ) (accepted records : List Record) : Type 0 where

@@ -1,5 +1,5 @@
 -- Want of memory while a journal is read.
-use Rattle.std.specs.Prelude.{◌≡◌, ◌≢◌, ◌⊎◌, ℕ, List, [], ◌∷◌, ◌++◌, Option}
+use Rattle.std.specs.Prelude.{◌≡◌, ℕ, List, [], ◌∷◌, ◌++◌, Option}
 use Rattle.std.specs.Io.KnownBytes.{append_known}
 use Rattle.wire_in.specs.declared.record.Record.{Record}
 use Rattle.rulebook.specs.Sent.{sent_again, spelled}
@@ -13,11 +13,10 @@ pub record TakesFirst (workers : ℕ) (records : List Record) : Type 0 where
   pub takes : workers ≡ 1 → TakesMemory x
 
 -- Since the begin all messages were sent, and no more, that are asked for again of some of the first of these records, the
--- newest first. Memory was short at the record behind them, which takes memory where there is one worker, or several workers
--- found no memory to go on by one once all records of the journal were evaluated.
+-- newest first. Memory was short at the record behind them, which takes memory where there is one worker.
 pub record StarvedAtRecord (workers : ℕ) (from : Option ℕ) (records : List Record) (begin now : Option (List ℕ)) : Type 0 where
   pub before : List Record
   pub behind : List Record
   pub parts : records ≡ behind ++ before
-  pub short : TakesFirst workers behind ⊎ ((workers ≢ 1) × (behind ≡ []))
+  pub short : TakesFirst workers behind
   pub sent : now ≡ append_known begin (spelled (sent_again from before))

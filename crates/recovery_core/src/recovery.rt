@@ -9,14 +9,14 @@ ghost use Rattle.wire_in.specs.Spelling.{InRange};
 ghost use Rattle.journal_core.specs.Layout.{with_batch};
 ghost use Rattle.rulebook.specs.Sent.{spelled, numbered, hello, passed_over};
 ghost use Rattle.wire_out.specs.Spelling.{spelling};
-ghost use Rattle.evaluator_core.specs.Evaluating.{workers_of};
+ghost use Rattle.evaluator_core.specs.Evaluating.{workers_of, IsWorking};
 ghost use Rattle.engine_core.specs.EngineState as engines;
 ghost use Rattle.stream_core.specs.Pending.{Expects, SendsPrefix};
 ghost use Rattle.recovery_core.specs.Starved.{StarvedAtRecord};
 ghost use Rattle.recovery_core.specs.Recoveries.{again, IsSmall, Admits, Refuses, Resumes};
 
 use crate::waiting::Waiting;
-use engine_core::{Engine, ROUND_MAX, append_messages, evaluate, unite};
+use engine_core::{Engine, ROUND_MAX, append_messages, evaluate};
 use host_core::{Fault, Host, Status};
 use journal_core::{BATCH_MAX, Batch, Scan};
 use std::alloc::Global;
@@ -106,6 +106,7 @@ fn resume_record<H: Host>(
     ensures small { OnOk result (IsSmall engine.new) }
     ensures evaluated { OnOk result (engine.new.evaluated ≡ engine.old.evaluated + 1) }
     ensures roomy { OnOk result (engines.IsRoomy engine.new) }
+    ensures working { OnOk result (IsWorking engine.new.evaluator) }
     ensures workers { workers_of engine.new.evaluator ≡ workers_of engine.old.evaluator }
     ensures admission { engine.new.admission ≡ engine.old.admission }
     ensures keeps { OnlySends (H.outside host.old) (H.outside host.new) }
@@ -138,6 +139,7 @@ fn resume_all<H: Host>(
     ensures small { OnOk result (IsSmall engine.new) }
     ensures all { OnOk result (engine.new.admission.count ≡ engine.new.evaluated) }
     ensures roomy { OnOk result (engines.IsRoomy engine.new) }
+    ensures working { (records.now ≡ [] → IsWorking engine.old.evaluator) → OnOk result (IsWorking engine.new.evaluator) }
     ensures workers { workers_of engine.new.evaluator ≡ workers_of engine.old.evaluator }
     ensures admission { engine.new.admission ≡ engine.old.admission }
     ensures keeps { OnlySends (H.outside host.old) (H.outside host.new) }
@@ -272,27 +274,6 @@ impl Recovery {
         }
     }
 
-    /// Goes on by one worker, once a journal was read to its end. Where memory is short, what waits is sent before that is told.
-    fn go_on_alone<H: Host>(&mut self, alloc: Global, host: &mut H) -> Result<(), Fault>
-        requires reading { IsReading self.old.scan self.old.engine 0 (H.outside host.old).disk }
-        ensures recovers { (from : Option ℕ) (begin : Option (List ℕ)) (disk : List ℕ) → Recovers (again from) begin disk self.old (H.outside host.old)
-            → OnOk result (Recovers (again from) begin disk self.new (H.outside host.new)) }
-        ensures moments { (from : Option ℕ) (begin : Option (List ℕ)) (disk : List ℕ) → Recovers (again from) begin disk self.old (H.outside host.old)
-            → SendsAgain from begin disk (H.outside host.old) (H.outside host.new) }
-        ensures reading { OnOk result (IsReading self.new.scan self.new.engine 0 (H.outside host.new).disk) }
-        ensures alone { OnOk result (workers_of self.new.engine.evaluator ≡ 1) }
-        ensures none { OnOk result (NoFault (H.outside host.old) (H.outside host.new)) }
-        ensures scan { self.new.scan ≡ self.old.scan }
-        ensures keeps { OnlySends (H.outside host.old) (H.outside host.new) }
-        ensures causes { Causes result (H.outside host.old) (H.outside host.new) }
-        ensures unread { result ≢ Err Fault.Read }
-        ensures starved { (from : Option ℕ) (begin : Option (List ℕ)) (disk : List ℕ) → Recovers (again from) begin disk self.old (H.outside host.old)
-            → result ≡ Err Fault.Memory → StarvesAgain (workers_of self.old.engine.evaluator) from begin disk (H.outside host.new) }
-    {
-        unite(alloc, &mut self.engine, &mut self.outbox, host)?;
-        Ok(())
-    }
-
     /// Reads a journal to its end, evaluates its records, and appends what a session sends before its first frame is answered.
     /// From then on one worker evaluates.
     pub fn recover<Rt: Threads + Sync, H: Host, G: Gate>(
@@ -321,7 +302,10 @@ impl Recovery {
             status (H.outside host.old) (H.outside host.new)) }
     {
         self.read(rt, host, gate, from, batch)?;
-        self.go_on_alone(alloc, host)?;
+        // It takes no memory.
+        let Ok(()) = self.engine.unite(alloc) else {
+            return Err(Status::NoMemory);
+        };
         greet(&self.engine, &mut self.outbox, host)?;
         Ok(())
     }

@@ -1,5 +1,5 @@
 -- The stocks of several parts in one section, and dealt out to parts again.
-use Rattle.std.proofs.Common.{◌≡◌, ℕ, zero, suc, ◌+◌, ◌<◌, ◌≤◌, List, [], ◌∷◌, ◌++◌, length, take, drop, get_or, append_assoc, sym, ap, ◌∙◌, arith}
+use Rattle.std.proofs.Common.{◌≡◌, ℕ, zero, suc, ◌+◌, ◌<◌, ◌≤◌, List, [], ◌∷◌, ◌++◌, length, take, drop, get_or, append_assoc, length-append, sym, ap, ◌∙◌, arith}
 use Rattle.std.specs.Prelude.{slice_set}
 use Rattle.std.proofs.lemmas.List.{append-nil, drop-set, flat_map_more, take-append-drop, take_more}
 use Rattle.symbol_core.specs.Rests.{SymbolState}
@@ -7,11 +7,20 @@ use Rattle.market_core.specs.Sections.{SectionState}
 use Rattle.shard_core.proofs.Gathered.{stocks_of}
 
 -- one part more is gathered
-pub gathered_more : (olds : List SectionState) (k : ℕ) (part d : SectionState) (all : List SymbolState) → k < length olds → all ≡ stocks_of (take k olds) → part ≡ get_or olds k d
-    → all ++ part.symbols ≡ stocks_of (take (k + 1) olds)
-gathered_more olds k part d all lt is same =
-    ap (λ (xs : List SymbolState). xs ++ part.symbols) is ∙ ap (λ (s : SectionState). stocks_of (take k olds) ++ s.symbols) same
-    ∙ flat_map_more (λ (s : SectionState). s.symbols) [] (take k olds) (get_or olds k d) ∙ ap stocks_of (sym (take_more olds k d lt))
+pub gathered_more : (before : List SymbolState) (olds : List SectionState) (k : ℕ) (part d : SectionState) (all : List SymbolState) → k < length olds → all ≡ before ++ stocks_of (take k olds)
+    → part ≡ get_or olds k d → all ++ part.symbols ≡ before ++ stocks_of (take (k + 1) olds)
+gathered_more before olds k part d all lt is same =
+    ap (λ (xs : List SymbolState). xs ++ part.symbols) is ∙ append_assoc before (stocks_of (take k olds)) part.symbols
+    ∙ ap (λ (xs : List SymbolState). before ++ xs) (ap (λ (s : SectionState). stocks_of (take k olds) ++ s.symbols) same
+    ∙ flat_map_more (λ (s : SectionState). s.symbols) [] (take k olds) (get_or olds k d) ∙ ap stocks_of (sym (take_more olds k d lt)))
+
+-- the stocks of the first parts and of the next one are no more than all
+pub stocks_within : (olds : List SectionState) (k : ℕ) (d : SectionState) → k < length olds → length (stocks_of (take k olds)) + length (get_or olds k d).symbols ≤ length (stocks_of olds)
+stocks_within [] k d lt = absurd (omega (arith, lt))
+stocks_within (part ∷ olds) zero d lt = omega (arith, length-append part.symbols (stocks_of olds))
+stocks_within (part ∷ olds) (suc k) d lt =
+    let later = stocks_within olds k d (omega (arith, lt)) in
+    omega (arith, later, length-append part.symbols (stocks_of olds), length-append part.symbols (stocks_of (take k olds)))
 
 -- one part more is dealt what lies behind its end
 pub dealt_more : (parts : List SectionState) (k end : ℕ) (left : List SymbolState) (part : SectionState) → k < length parts → part.symbols ≡ drop end left

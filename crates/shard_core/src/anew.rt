@@ -1,5 +1,5 @@
 // Ranges of ids that are cut anew between blocks, by the records that the ids had.
-ghost use Rattle.std.specs.Prelude.{◌≡◌, ◌<◌, ◌≤◌, IfOk, OnOk, flat_map, length};
+ghost use Rattle.std.specs.Prelude.{◌≡◌, ◌+◌, ◌<◌, ◌≤◌, ◌++◌, IsOk, OnOk, flat_map, length};
 ghost use Rattle.rulebook.specs.Admission.{most_names};
 ghost use Rattle.shard_core.specs.Turns.{AreFew};
 
@@ -122,18 +122,20 @@ fn is_evener(anew: &[u32], ends: &[u32], loads: &[u32]) -> bool
     5 * greatest_of(anew, loads) < 4 * greatest_of(ends, loads)
 }
 
-/// All stocks of several parts, in their order. The parts are left with none.
-pub(crate) fn gather(alloc: Global, parts: &mut [Section]) -> Result<Section, NoMemory>
+/// Moves the stocks of several parts behind those of a section, in their order. The parts are left with none. It takes no
+/// memory where the section has room for them.
+pub(crate) fn gather(all: &mut Section, parts: &mut [Section]) -> Result<(), NoMemory>
     requires few { AreFew parts.old }
-    ensures all { IfOk result (λ all. all.symbols ≡ flat_map (λ part. part.symbols) parts.old) }
+    ensures all { OnOk result (all.new.symbols ≡ all.old.symbols ++ flat_map (λ part. part.symbols) parts.old) }
+    ensures succeeds { length (flat_map (λ part. part.symbols) parts.old) ≤ all.old.spare → IsOk result }
+    ensures spare { OnOk result (all.old.spare ≤ all.new.spare + length (flat_map (λ part. part.symbols) parts.old)) }
     ensures parts { length parts.new ≡ length parts.old }
     ensures few { AreFew parts.new }
 {
-    let mut all = Section::new(alloc)?;
     for k in 0..parts.len() {
         all.append(&mut parts[k])?;
     }
-    Ok(all)
+    Ok(())
 }
 
 /// Deals stocks out to parts in their order, to each of them up to its end.
@@ -166,7 +168,8 @@ fn cut_at(alloc: Global, parts: &mut [Section], ends: &[u32]) -> Result<(), NoMe
     ensures parts { length parts.new ≡ length parts.old }
     ensures few { AreFew parts.new }
 {
-    let all = gather(alloc, parts)?;
+    let mut all = Section::new(alloc)?;
+    gather(&mut all, parts)?;
     if all.len() > MOST_NAMES {
         return Err(NoMemory);
     }

@@ -1,4 +1,4 @@
-ghost use Rattle.std.specs.Prelude.{◌≡◌, ℕ, ◌+◌, ◌<◌, ◌≤◌, ◌++◌, [], true, List, IfOk, OnOk, OnErr, is_ok, length};
+ghost use Rattle.std.specs.Prelude.{◌≡◌, ℕ, ◌+◌, ◌<◌, ◌≤◌, ◌++◌, [], true, false, List, IfOk, IsOk, OnOk, OnErr, is_ok, length};
 ghost use Rattle.wire_in.specs.declared.record.Record.{Record};
 ghost use Rattle.rulebook.specs.Admission.{most_names};
 ghost use Rattle.shard_core.specs.Block.{AreAdmissible, Represents, followed, given, given_from, market_of};
@@ -118,17 +118,23 @@ impl Shards {
         self.working
     }
 
-    /// Makes one market of the parts. Nothing works from then on, also after an error, which is want of memory or that a block
-    /// has failed.
-    pub fn unite(&mut self, alloc: Global) -> Result<Market, NoMemory>
-        ensures one { IfOk result (λ market. market ≡ market_of self.old) }
+    /// Makes one market of the parts: their stocks lie behind those of another, whose room they take, and have the names and the
+    /// day of the parts. It takes no memory where that other has no stocks. Nothing works from then on, also after an error, which
+    /// is want of memory or that a block has failed.
+    pub fn unite(&mut self, alloc: Global, room: Market) -> Result<Market, NoMemory>
+        ensures one { IfOk result (λ market. market ≡ record (market_of self.old) { symbols = room.symbols ++ (market_of self.old).symbols }) }
+        ensures succeeds { (applied : List Record) → Represents self.old applied → self.old.working ≡ true → room.symbols ≡ [] → IsOk result }
+        ensures ended { self.new.working ≡ false }
         ensures parts { length self.new.parts ≡ length self.old.parts }
     {
+        // For the proof: it has the invariant, that there are no more names than may be listed.
+        let _names = self.lead.names();
         if !mem::replace(&mut self.working, false) {
             return Err(NoMemory);
         }
-        let symbols = gather(alloc, &mut self.parts)?;
-        let lead = mem::replace(&mut self.lead, Lead::new(alloc)?);
+        let (mut lead, mut symbols) = room.into_parts();
+        mem::swap(&mut self.lead, &mut lead);
+        gather(&mut symbols, &mut self.parts)?;
         Market::of(alloc, lead, symbols)?.ok_or(NoMemory)
     }
 

@@ -1,5 +1,5 @@
 use super::script::{Step, play};
-use Call::{Fill, First, Get, Length, Set};
+use Call::{First, Get, Length, MakeDue, Set};
 use alarms::Alarms;
 use std::process::Abort;
 
@@ -8,8 +8,8 @@ use std::process::Abort;
 enum Call {
     /// A place gets a moment.
     Set(usize, u64),
-    /// Each place gets a moment.
-    Fill(u64),
+    /// The first places, so many, become due at every moment.
+    MakeDue(usize),
     Length(usize),
     /// The moment of a place.
     Get(usize, Option<u64>),
@@ -27,9 +27,12 @@ impl Step<Alarms> for Call {
                 }
                 is_there
             }
-            Fill(moment) => {
-                alarms.fill(moment);
-                true
+            MakeDue(count) => {
+                let are_there = count <= alarms.len();
+                if are_there {
+                    alarms.make_due(count);
+                }
+                are_there
             }
             Length(want) => alarms.len() == want,
             Get(place, want) => alarms.get(place) == want,
@@ -124,7 +127,7 @@ fn no_place_without_a_moment_is_due(rt: HostRuntime) {
 }
 
 #[test]
-fn all_places_are_due_after_all_were_set(rt: HostRuntime) {
+fn all_places_are_due_after_all_were_made_due(rt: HostRuntime) {
     let mut alarms = all_at(&rt, 130, 7);
     play(
         &rt,
@@ -134,10 +137,27 @@ fn all_places_are_due_after_all_were_set(rt: HostRuntime) {
             First(8, 6, None),
             First(64, 6, None),
             First(128, 6, None),
-            Fill(0),
+            MakeDue(130),
         ],
     );
     for place in 0..130 {
         play(&rt, &mut alarms, &[First(place, 0, Some(place))]);
+    }
+}
+
+#[test]
+fn the_places_behind_those_that_were_made_due_keep_their_moments(rt: HostRuntime) {
+    for count in [1, 7, 8, 9, 63, 64, 65, 129] {
+        play(
+            &rt,
+            &mut all_at(&rt, 130, u64::MAX),
+            &[
+                MakeDue(count),
+                First(0, 0, Some(0)),
+                First(count - 1, 0, Some(count - 1)),
+                First(count, u64::MAX - 1, None),
+                Get(count, Some(u64::MAX)),
+            ],
+        );
     }
 }

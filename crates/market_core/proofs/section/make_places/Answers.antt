@@ -1,6 +1,6 @@
 use Rattle.std.proofs.Common.{ℕ, List, ◌∷◌, [], length, length-append, ap, ◌∙◌, arith}
 use Rattle.std.specs.Prelude.{slice_index}
-use Rattle.market_core.proofs.Room.{index-more}
+use Rattle.std.proofs.Math.ListN.{get_or-append}
 use Rattle.market_core.proofs.section.make_places.Goals as goal
 
 pub loop-place-preserved : goal.loop-place-preserved
@@ -8,8 +8,9 @@ loop-place-preserved c =
     let alarms = c.loop-place.alarms in
     let pushed = (c.in_ok-push.ensures).ok in
     record {
-      more = omega (arith, ap length pushed, length-append alarms (0 ∷ []), c.loop-place.invariant.more);
-      same = λ place. ap (λ (xs : List ℕ). slice_index xs place) pushed ∙ index-more alarms place ∙ c.loop-place.invariant.same place;
+      more = omega (arith, ap length pushed, length-append alarms (18446744073709551615 ∷ []), c.loop-place.invariant.more);
+      same = λ place lt.
+          ap (λ (xs : List ℕ). slice_index xs place) pushed ∙ get_or-append alarms (18446744073709551615 ∷ []) 0 place (omega (arith, lt, c.loop-place.invariant.more)) ∙ c.loop-place.invariant.same place lt;
     }
 
 pub returns-in_err-push-clause-none : goal.returns-in_err-push-clause-none

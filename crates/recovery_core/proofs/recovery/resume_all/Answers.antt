@@ -1,9 +1,11 @@
-use Rattle.std.proofs.Common.{ℕ, List, refl, subst, ◌∙◌, arith, rules}
-use Rattle.std.proofs.lemmas.List.{drop_all}
+use Rattle.std.proofs.Common.{◌≡◌, ◌≤◌, ℕ, zero, suc, List, [], length, refl, sym, subst, ◌∙◌, arith, rules}
+use Rattle.std.proofs.lemmas.List.{drop_all, nil_from_length}
 use Rattle.wire_in.specs.declared.record.Record.{Record}
 use Rattle.host_core.proofs.Chains.{sends_nothing, onward}
 use Rattle.host_core.proofs.Causes.{no_fault, faultless}
 use Rattle.stream_core.proofs.Sending.{sends_none}
+use Rattle.evaluator_core.specs.Evaluating.{IsWorking}
+use Rattle.engine_core.specs.declared.engine.Engine.{Engine}
 use Rattle.engine_core.proofs.Answering.{drop_one}
 use Rattle.recovery_core.specs.Recoveries.{Resumes}
 use Rattle.recovery_core.specs.Starved.{StarvedAtRecord}
@@ -16,6 +18,8 @@ loop-x-init g c = record {
   small = c.requires.small;
   count = omega (arith, c.requires.count);
   roomy = c.requires.roomy;
+  first = λ none. refl;
+  working = λ some. absurd (omega (arith, some));
   workers = refl;
   admission = refl;
   keeps = sends_nothing _;
@@ -33,6 +37,8 @@ loop-x-preserved g c =
       small = c.in_ok-resume_record.ensures.small;
       count = search rules;
       roomy = c.in_ok-resume_record.ensures.roomy;
+      first = λ none. absurd (omega (arith, none));
+      working = λ some. c.in_ok-resume_record.ensures.working;
       workers = c.resume_record.ensures.workers ∙ c.loop-x.invariant.workers;
       admission = c.resume_record.ensures.admission ∙ c.loop-x.invariant.admission;
       keeps = onward c.loop-x.invariant.keeps c.resume_record.ensures.keeps;
@@ -59,3 +65,13 @@ returns-clause-resumes g c = λ capacity accepted begin first.
 
 pub returns-clause-moments : goal.returns-clause-moments
 returns-clause-moments g c = λ capacity accepted begin first. (c.loop-x.invariant.advances capacity accepted begin first).1
+
+-- the engine works behind records, and where there were none, it is as it was
+works : (count : ℕ) (records : List Record) (engine now : Engine) → (count ≡ 0 → now ≡ engine) → (1 ≤ count → IsWorking now.evaluator) → (records ≡ [] → IsWorking engine.evaluator)
+    → length records ≤ count → IsWorking now.evaluator
+works zero records engine now first working before all = subst (λ (e : Engine). IsWorking e.evaluator) (sym (first refl)) (before (nil_from_length records (omega (arith, all))))
+works (suc count) records engine now first working before all = working (omega arith)
+
+pub returns-clause-working : goal.returns-clause-working
+returns-clause-working g c = λ before.
+    works c.loop-x.x-index c.args.records.now c.args.engine.now c.loop-x.engine c.loop-x.invariant.first c.loop-x.invariant.working before (omega (arith, c.loop-x-test.false))

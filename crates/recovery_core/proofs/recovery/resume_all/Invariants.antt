@@ -1,10 +1,10 @@
-use Rattle.std.proofs.Common.{◌≡◌, ◌+◌, ◌-◌, ℕ, List, length, drop}
+use Rattle.std.proofs.Common.{◌≡◌, ◌+◌, ◌-◌, ◌≤◌, ℕ, List, length, drop}
 use Rattle.std.specs.Prelude.{Option}
 use Rattle.host_core.specs.Outside.{Elapses}
 use Rattle.host_core.specs.Frames.{OnlySends}
 use Rattle.host_core.specs.Outside.{NoFault}
 use Rattle.wire_in.specs.declared.record.Record.{Record}
-use Rattle.evaluator_core.specs.Evaluating.{workers_of}
+use Rattle.evaluator_core.specs.Evaluating.{workers_of, IsWorking}
 use Rattle.engine_core.specs.EngineState.{IsRoomy}
 use Rattle.stream_core.specs.Pending.{SendsPrefix}
 use Rattle.recovery_core.specs.Recoveries.{again, IsSmall, Resumes}
@@ -18,6 +18,8 @@ invariant-loop-x g l = record {
   small : IsSmall l.engine;
   count : l.engine.admission.count ≡ l.engine.evaluated + (length l.records - l.x-index);
   roomy : IsRoomy l.engine;
+  first : l.x-index ≡ 0 → l.engine ≡ l.initial.engine;
+  working : 1 ≤ l.x-index → IsWorking l.engine.evaluator;
   workers : workers_of l.engine.evaluator ≡ workers_of l.initial.engine.evaluator;
   admission : l.engine.admission ≡ l.initial.engine.admission;
   keeps : OnlySends (g.H.Host.outside l.initial.host) (g.H.Host.outside l.host);

@@ -1,6 +1,6 @@
 use Rattle.std.proofs.Common.{[], sym, subst, rules}
 use Rattle.host_core.proofs.Chains.{reads_nothing}
-use Rattle.evaluator_core.specs.Evaluating.{IsIdle}
+use Rattle.evaluator_core.specs.Evaluating.{IsIdle, IsWorking}
 use Rattle.engine_core.specs.declared.engine.Engine.{Engine}
 use Rattle.engine_core.specs.EngineState.{Represents}
 use Rattle.recovery_core.specs.Recoveries.{IsReading}
@@ -30,6 +30,7 @@ returns-clause-recovers g c = λ from disk known. record {
     lawful = tt;
   };
   idle = subst (λ (e : Engine). IsIdle e.evaluator) (sym c.limit-2.ensures) (c.in-Ok.ensures).idle;
+  working = subst (λ (e : Engine). IsWorking e.evaluator) (sym c.limit-2.ensures) (c.in-Ok.ensures).working;
   pending_is = nothing_again from (g.H.Host.outside c.begin.new.host).sent c.args.outbox c.requires.outbox;
 }
 

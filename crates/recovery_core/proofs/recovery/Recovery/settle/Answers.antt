@@ -1,5 +1,7 @@
-use Rattle.std.proofs.Common.{rules}
+use Rattle.std.proofs.Common.{sym, subst, ◌∙◌, rules}
 use Rattle.host_core.proofs.Chains.{reads_nothing}
+use Rattle.evaluator_core.specs.Evaluating.{IsWorking}
+use Rattle.engine_core.specs.declared.engine.Engine.{Engine}
 use Rattle.recovery_core.proofs.Recovering.{sends_rests, sends_all, sends_nothing_read, starves, resumes_ahead, resumed}
 use Rattle.recovery_core.proofs.recovery.Recovery.settle.Goals as goal
 
@@ -20,6 +22,7 @@ pub returns-clause-settles : goal.returns-clause-settles
 returns-clause-settles g c = λ begin disk first.
     let ahead = resumes_ahead first.resumes c.list-waiting.ensures.records c.deref.ensures.value c.prepare.new.self (c.prepare.ensures.represents _ _ _) c.prepare.ensures.ahead in
     resumed first c.resume_all.new.engine c.resume_all.new.outbox c.clear.ensures (sends_rests c.resume_all.ensures.keeps first.rests) (c.in_ok-resume_all.ensures.resumes _ _ begin ahead)
+    (c.in_ok-resume_all.ensures.working (λ none. subst (λ (e : Engine). IsWorking e.evaluator) (sym (c.prepare.ensures.none (sym c.deref.ensures.value ∙ none))) first.working))
 
 pub returns-clause-moments : goal.returns-clause-moments
 returns-clause-moments g c = λ begin disk first.

@@ -18,8 +18,8 @@ invariant_of-self-2 c =
     let many : length news ≡ parts.len = omega (arith, c.gather.ensures.parts, ap length c.deref_mut.ensures.value, parts.ok.0) in
     as_many (length c.self.inside.told.items) parts.items news _ (with_items_is parts news many) (omega (arith, many, parts.ok.0)) c.self.invariant.0 c.self.invariant.1 c.self.invariant.2 c.gather.ensures.few
 
-pub invariant_of-self-in_err-of : goal.invariant_of-self-in_err-of
-invariant_of-self-in_err-of c =
+pub invariant_of-self-in_err-gather : goal.invariant_of-self-in_err-gather
+invariant_of-self-in_err-gather c =
     let parts = c.self.inside.parts in
     let news = c.gather.new.parts in
     let many : length news ≡ parts.len = omega (arith, c.gather.ensures.parts, ap length c.deref_mut.ensures.value, parts.ok.0) in
