@@ -5,7 +5,7 @@ ghost use Rattle.symbol_core.specs.Evaluates.{most_of_symbol};
 ghost use Rattle.market_core.specs.Kinds.{is_trade};
 ghost use Rattle.market_core.specs.Room.{HasRoomAt};
 
-use crate::since::{ALWAYS_DUE, NEVER_DUE, Since, alarm_of, pass, renew};
+use crate::since::{ALWAYS_DUE, Since, alarm_of, pass, renew};
 use crate::symbols::{evaluate, evaluate_each};
 use alarms::Alarms;
 use price_core::NoMemory;
@@ -52,7 +52,7 @@ fn first_due(alarms: &mut Alarms, from: usize, end: usize, t: Moment) -> usize
     }
 }
 
-/// Makes so many more places, which are never due. An error leaves those that were made.
+/// Makes so many more places, which are due. An error leaves those that were made.
 fn make_places(alarms: &mut Alarms, count: usize) -> Result<(), NoMemory>
     ensures more { OnOk result (length alarms.old + count ≤ length alarms.new) }
     ensures kept { length alarms.old ≤ length alarms.new }
@@ -60,7 +60,7 @@ fn make_places(alarms: &mut Alarms, count: usize) -> Result<(), NoMemory>
     ensures none { count ≡ 0 → IsOk result }
 {
     for _place in 0..count {
-        alarms.push(NEVER_DUE)?;
+        alarms.push(ALWAYS_DUE)?;
     }
     Ok(())
 }
