@@ -1,4 +1,4 @@
-//! Tests of the rules of a single stock and of the market-wide circuit breakers.
+//! Tests of the rules of a single stock, of the market-wide circuit breakers, of the reopening cross and of the laws of frames.
 #![tactic(auto)]
 
 #[cfg(test)]

@@ -1,5 +1,6 @@
 mod audit;
 mod breaker;
+mod cross;
 mod eligible;
 mod limit;
 mod pause;
