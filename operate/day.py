@@ -60,7 +60,8 @@ class Day:
         try:
             piece = os.read(self.descriptor, BLOCK)
         except OSError as error:
-            piece, self.broken = b"", Stop(READ_FAULT, "the input could not be read (%s)" % error.strerror)
+            piece, self.broken = b"", Stop(READ_FAULT, "the input could not be read (%s): look at the reader, then start "
+                                             "again" % error.strerror)
         self.is_over = not piece
         found, end = cut(self.rest + piece)
         self.rest = (self.rest + piece)[end:]

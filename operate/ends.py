@@ -1,5 +1,5 @@
 """The ends of the programs: their exit codes, what each asks for, and the lines that are told."""
-import sys
+import os
 
 DONE, USAGE, TRUNCATED, READ_FAULT, SEND_FAULT, DISK_FAULT, SESSION_FULL = 0, 2, 3, 4, 5, 6, 7
 DAMAGED, NO_JOURNAL, NO_MEMORY, BAD_TEXT, MISMATCH, FULL = 8, 9, 10, 11, 12, 13
@@ -31,7 +31,8 @@ class Ended(Exception):
 
 
 def tell(line):
+    """Tells a line on standard error, where that takes it."""
     try:
-        print("operate/run: " + line, file=sys.stderr, flush=True)
+        os.write(2, ("operate/run: %s\n" % line).encode(errors="replace"))
     except OSError:
         pass

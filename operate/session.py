@@ -113,8 +113,11 @@ class Session:
         return True
 
     def hand_on(self):
-        """Puts frames of the input into the window, and closes serve's input once all that will come has been sent."""
+        """Puts frames of the input into the window, and closes serve's input once all that will come has been sent. Where it is
+        closed already, serve has ended, or will."""
         desk = self.desk
+        if self.child.stdin.closed:
+            return
         if self.is_greeted and not desk.is_ending():
             some = [desk.day.frames.popleft() for _ in range(min(len(desk.day.frames), WINDOW - len(desk.waiting)))]
             desk.waiting.extend(some)
