@@ -9,7 +9,7 @@ ASKS = {
     USAGE: "the program is of another version, or a value of an option is out of its range: mend the command line",
     DISK_FAULT: "look at the disk of the journal: full, gone, or without permission; then start again",
     DAMAGED: "keep the journal as it is, and see docs/OPERATING.md, \"A damaged journal\"",
-    NO_JOURNAL: "mend the path, or make an empty journal by `halts JOURNAL format`, which wipes what stands at that path",
+    NO_JOURNAL: "mend the path, or make an empty journal by `halts JOURNAL format`",
     NO_MEMORY: "give the machine memory, then start again; nothing that was acknowledged is lost",
 }
 

@@ -1,4 +1,5 @@
-// The steps of a history: each record is evaluated with the whole history before it.
+//! The steps of a history: each record is evaluated with the whole history before it.
+
 ghost use Rattle.std.specs.Prelude.{◌≡◌, ◌≤◌, ◌∷◌, [], IfOk, if◌then◌else◌, filter, length, option_to_list};
 ghost use Rattle.std.specs.Option.{option_map_or};
 ghost use Rattle.wire_out.specs.declared.message.Message.TheVariants.{Short};

@@ -1,4 +1,5 @@
-// What the rules of one symbol read.
+//! What the rules of one symbol read.
+
 ghost use Rattle.std.specs.Prelude.{◌≡◌, option_to_list, [], ◌∷◌, IfOk};
 ghost use Rattle.std.specs.Option.{option_map_or};
 ghost use Rattle.rulebook.specs.Rules.{phase_now, becomes};

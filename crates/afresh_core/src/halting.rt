@@ -1,4 +1,5 @@
-// The rules of the close, of halts and of trading pauses (NYSE Rule 7.12; LULD Plan, Section VII; after Nasdaq Rule 4120).
+//! The rules of the close, of halts and of trading pauses (NYSE Rule 7.12; LULD Plan, Section VII; after Nasdaq Rule 4120).
+
 ghost use Rattle.std.specs.Prelude.{◌≡◌, [], ◌∷◌, ◌<◌, IfOk, IfSome, option_to_list};
 ghost use Rattle.std.specs.Option.{option_map_or};
 ghost use Rattle.session_core.specs.Times.{is_closed, in_last_10_minutes};

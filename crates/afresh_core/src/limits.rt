@@ -1,4 +1,5 @@
-// The rules of limit states and straddle states (LULD Plan, Sections VI(B) and VII(A)).
+//! The rules of limit states and straddle states (LULD Plan, Sections VI(B) and VII(A)).
+
 ghost use Rattle.std.specs.Prelude.{◌≡◌, [], false, IfOk, option_to_list};
 ghost use Rattle.std.specs.Option.{option_map_or};
 ghost use Rattle.limit_core.specs.Limits.{is_at_lower, is_at_upper, straddles};

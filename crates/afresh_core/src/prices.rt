@@ -1,4 +1,5 @@
-// The rules of the reference price and the price bands (LULD Plan, Section V).
+//! The rules of the reference price and the price bands (LULD Plan, Section V).
+
 ghost use Rattle.std.specs.Prelude.{◌≡◌, [], IfOk, if◌then◌else◌, option_map, option_to_list};
 ghost use Rattle.std.specs.Option.{option_map_or};
 ghost use Rattle.refprice_core.specs.Prices as prices;

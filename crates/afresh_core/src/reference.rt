@@ -1,4 +1,5 @@
-// The messages of a list of records, each step evaluated afresh from the whole history before it.
+//! The messages of a list of records, each step evaluated afresh from the whole history before it.
+
 ghost use Rattle.std.specs.Prelude.{◌≡◌, ◌↔◌, IfOk, IsTrue, reverse};
 ghost use Rattle.rulebook.specs.Admission.{IsLawful};
 ghost use Rattle.rulebook.specs.Book.{messages_of};

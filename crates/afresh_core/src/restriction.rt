@@ -1,4 +1,5 @@
-// The short sale restriction (17 CFR 242.201), by a search of the history from its newest event.
+//! The short sale restriction (17 CFR 242.201), by a search of the history from its newest event.
+
 ghost use Rattle.std.specs.Prelude.{◌≡◌, option_to_list};
 ghost use Rattle.rulebook.specs.History.{records};
 ghost use Rattle.rulebook.specs.Rules.{triggers, triggered_in, has_triggered, restrict, before_day, is_carried};

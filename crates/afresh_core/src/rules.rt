@@ -1,4 +1,5 @@
-// The rules of one symbol, in the order in which each step tries them.
+//! The rules of one symbol, in the order in which each step tries them.
+
 ghost use Rattle.std.specs.Prelude.{◌≡◌, ◌∷◌, [], IfOk, map, if◌then◌else◌};
 ghost use Rattle.std.specs.Option.{option_map_or};
 ghost use Rattle.pause_core.specs.Phases.{is_done};

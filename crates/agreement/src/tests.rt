@@ -1,3 +1,5 @@
+//! The kept evaluation against the plain one.
+
 mod draw;
 mod drawn;
 mod drifts;

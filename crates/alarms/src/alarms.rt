@@ -1,3 +1,5 @@
+//! Moments of many places, searched for those that are due.
+
 ghost use Rattle.std.specs.Prelude.{ℕ, List, ◌≡◌, ◌+◌, ◌*◌, ◌<◌, ◌≤◌, ◌++◌, ◌∷◌, [], None, IfOk, IfSome, OnOk, OnErr, drop, length, replicate, slice_get, slice_index, slice_set, vec_len, vec_capacity};
 ghost use Rattle.alarms.specs.Bounds.{AreBounds, AreLevels, IsLeast};
 ghost use Rattle.alarms.specs.Due.{IsFirstDue, NoneDue};

@@ -1,3 +1,5 @@
+//! The market-wide circuit breakers of a day (NYSE Rule 7.12).
+
 ghost use Rattle.std.specs.Prelude.{◌≡◌, ◌∷◌, [], List, is_some};
 ghost use Rattle.breaker_core.specs.Levels.{ends, declares};
 ghost use Rattle.breaker_core.specs.Days.{Call, Time, Tick, answers, halt_in, declared_after};

@@ -1,3 +1,5 @@
+//! The levels of a decline of the index (NYSE Rule 7.12).
+
 ghost use Rattle.std.specs.Prelude.{◌≡◌};
 ghost use Rattle.breaker_core.specs.Levels.{percent_of, is_brief, is_over, ends, level_reached, may_declare, declares};
 

@@ -1,3 +1,5 @@
+//! The rows of a table of cases.
+
 ghost use Rattle.std.specs.Prelude.{◌≡◌};
 
 /// A row of a table: it matches the keys whose bits under the mask equal the value, and gives its answer for them.

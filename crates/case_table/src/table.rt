@@ -1,3 +1,5 @@
+//! A table of cases, and the row that applies first.
+
 ghost use Rattle.std.specs.Prelude.{◌≡◌, ◌<◌, ◌≤◌, ◌↔◌, IsSome, IfSome, IsTrue, Some, find};
 ghost use Rattle.case_table.specs.Rows.{answer_of, has_one_row, is_table, matches};
 

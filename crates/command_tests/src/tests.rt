@@ -1,4 +1,5 @@
-// The whole program: words, an input and a disk in memory, and what is sent.
+//! The whole program: words, an input and a disk in memory, and what is sent.
+
 mod batches;
 mod bytes;
 mod ends;

@@ -1,4 +1,5 @@
-// A worked day, as its two files say it.
+//! A worked day, as its two files say it.
+
 use crate::text::DayError;
 use host_core::Status;
 use price_core::NoMemory;

@@ -1,4 +1,5 @@
-// The days of a folder.
+//! The days of a folder.
+
 use crate::day::Day;
 use crate::stated;
 use crate::text::{DayError, first_difference};

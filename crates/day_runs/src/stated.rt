@@ -1,4 +1,5 @@
-// What a day's second file says of each way to run it.
+//! What a day's second file says of each way to run it.
+
 use crate::text::{DayError, is_ack, is_greeting, is_message, is_refusal, push_line};
 use price_core::NoMemory;
 use std::alloc::Global;

@@ -1,4 +1,5 @@
-// Lines, and where two texts differ.
+//! Lines, and where two texts differ.
+
 use price_core::NoMemory;
 use std::alloc::{AllocError, AllocFailed};
 use std::io;

@@ -1,4 +1,5 @@
-// The ways to run a day.
+//! The ways to run a day.
+
 use crate::day::Day;
 use crate::stated;
 use crate::text::DayError;

@@ -1,3 +1,5 @@
+//! The conditions of a trade.
+
 ghost use Rattle.std.specs.Prelude.{◌≡◌, ◌<◌};
 
 use case_table::{Case, Cases, cases};

@@ -1,3 +1,5 @@
+//! Which trades count for the reference price (LULD Plan, Section I).
+
 ghost use Rattle.std.specs.Prelude.{◌≡◌, ◌<◌};
 ghost use Rattle.eligible_core.specs.Conditions.{eligible, is_opening_trade, has_barring_bit, is_set};
 

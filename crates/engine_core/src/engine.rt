@@ -1,9 +1,12 @@
 //! Admission and the evaluator, kept from record to record.
 
-ghost use Rattle.std.specs.Prelude.{◌≡◌, ◌+◌, ◌*◌, ◌<◌, ◌≤◌, ◌^◌, ◌∷◌, [], ℕ, List, None, IfOk, IfErr, IsOk, OnOk, OnErr, length, vec_len, vec_capacity};
+ghost use Rattle.std.specs.Prelude.{◌≡◌, ◌+◌, ◌*◌, ◌<◌, ◌≤◌, ◌^◌, ◌∷◌, [], true, ℕ, List, None, Some, IfOk, IfErr, IsOk, OnOk, OnErr, length, vec_len, vec_capacity};
 ghost use Rattle.wire_in.specs.declared.record.Record.{Record};
+ghost use Rattle.wire_in.specs.Bases.{IsInRange};
+ghost use Rattle.wire_in.specs.Records.{is_day};
 ghost use Rattle.wire_in.specs.Spelling.{InRange};
-ghost use Rattle.rulebook.specs.Admission.{verdict};
+ghost use Rattle.rulebook.specs.Admission.{IsLawful, verdict};
+ghost use Rattle.rulebook.specs.Base.{base_of, stand_in};
 ghost use Rattle.rulebook.specs.Sent.{admitted};
 ghost use Rattle.rulebook.specs.Book.{newest_messages};
 ghost use Rattle.market_core.specs.AdmissionState as admissions;
@@ -19,7 +22,7 @@ use market_core::{Admission, MOST_MESSAGES};
 use price_core::NoMemory;
 use std::alloc::Global;
 use std::thread::Threads;
-use wire_in::Record;
+use wire_in::{Base, Record};
 use wire_out::Stamped;
 use yard_core::Gate;
 
@@ -49,7 +52,7 @@ pub fn judge(admission: &Admission, outcome: &mut Outcome)
 }
 
 impl Engine {
-    ghost use Rattle.engine_core.specs.EngineState.{Represents, IsRoomy};
+    ghost use Rattle.engine_core.specs.EngineState.{Represents, Stands, IsRoomy};
 
     /// An engine of no records, under a capacity of records, with 1 to 64 workers. It takes room for the messages of any record.
     pub fn new(alloc: Global, capacity: u64, workers: u32) -> Result<Engine, NoMemory>
@@ -75,6 +78,49 @@ impl Engine {
         })
     }
 
+    /// The engine of whatever records have a base, under a capacity of records, with 1 to 64 workers. It takes room for the
+    /// messages of any record.
+    pub fn restore(
+        alloc: Global,
+        capacity: u64,
+        workers: u32,
+        base: &Base,
+    ) -> Result<Engine, NoMemory>
+        requires workers { (1 ≤ workers) × (workers ≤ 64) }
+        requires range { IsInRange base.now }
+        ensures represents { IfOk result (λ engine. (limit : ℕ) (held : List Record) → base_of held ≡ Some base.now → IsLawful limit held
+            → Represents engine capacity held held) }
+        ensures stand_in { IfOk result (λ engine. Stands engine capacity (stand_in base.now) (stand_in base.now)) }
+        ensures roomy { IfOk result IsRoomy }
+        ensures idle { IfOk result (λ engine. IsIdle engine.evaluator) }
+        ensures working { IfOk result (λ engine. IsWorking engine.evaluator) }
+        ensures workers { IfOk result (λ engine. workers_of engine.evaluator ≡ workers) }
+        ensures count { IfOk result (λ engine. engine.admission.count ≡ base.now.records) }
+        ensures evaluated { IfOk result (λ engine. engine.evaluated ≡ base.now.records) }
+        ensures published { IfOk result (λ engine. engine.published ≡ base.now.messages) }
+    {
+        let admission = Admission::restore(alloc, capacity, base)?;
+        let evaluator = Evaluator::restore(alloc, workers, base)?;
+        let messages = Vec::with_capacity(alloc, MOST_MESSAGES)?;
+        Ok(Engine {
+            admission,
+            evaluator,
+            messages,
+            evaluated: base.records,
+            published: base.messages,
+        })
+    }
+
+    /// The base of the records, which were all evaluated, and of which this day is the last one. By one worker.
+    pub fn base(&self, alloc: Global, day: &Record) -> Result<Base, NoMemory>
+        requires alone { workers_of self.now.evaluator ≡ 1 }
+        ensures { IfOk result (λ base. (capacity : ℕ) (earlier : List Record) → is_day day.now ≡ true
+            → Represents self.now capacity (day.now ∷ earlier) (day.now ∷ earlier) → base_of (day.now ∷ earlier) ≡ Some base) }
+    {
+        self.evaluator
+            .base(alloc, self.evaluated, self.published, day)
+    }
+
     /// Puts another capacity of records in.
     pub fn limit(&mut self, capacity: u64)
         ensures { self.new ≡ record self.old { admission = record self.old.admission { capacity = capacity } } }
@@ -88,6 +134,8 @@ impl Engine {
         requires { refusal_of self.old.admission x.now ≡ None }
         ensures represents { (capacity : ℕ) (accepted evaluated : List Record) → Represents self.old capacity accepted evaluated
             → Represents self.new capacity (x.now ∷ accepted) evaluated }
+        ensures stands { (capacity : ℕ) (accepted evaluated : List Record) → Stands self.old capacity accepted evaluated
+            → Stands self.new capacity (x.now ∷ accepted) evaluated }
         ensures rest { self.new ≡ record self.old { admission = self.new.admission } }
         ensures count { self.new.admission.count ≡ self.old.admission.count + 1 }
         ensures capacity { self.new.admission.capacity ≡ self.old.admission.capacity }
@@ -119,6 +167,8 @@ impl Engine {
         requires few { length xs.now.items ≤ 65536 }
         ensures represents { (capacity : ℕ) (accepted evaluated : List Record) → Represents self.old capacity accepted evaluated → IsIdle self.old.evaluator
             → AreAdmissible capacity evaluated xs.now.items → Represents self.new capacity accepted evaluated }
+        ensures stands { (capacity limit : ℕ) (accepted evaluated : List Record) → Stands self.old capacity accepted evaluated → IsIdle self.old.evaluator
+            → AreAdmissible limit evaluated xs.now.items → Stands self.new capacity accepted evaluated }
         ensures ahead { IsIdle self.old.evaluator → IsAhead self.new.evaluator xs.now.items }
         ensures alone { workers_of self.old.evaluator ≡ 1 → self.new ≡ self.old }
         ensures none { xs.now.items ≡ [] → self.new ≡ self.old }
@@ -139,8 +189,10 @@ impl Engine {
         requires count { self.old.evaluated + 1 < 2 ^ 64 }
         ensures represents { (capacity : ℕ) (accepted evaluated later : List Record) → Represents self.old capacity accepted evaluated → IsAhead self.old.evaluator (x.now ∷ later)
             → verdict capacity evaluated x.now ≡ None → OnOk result (Represents self.new capacity accepted (x.now ∷ evaluated)) }
-        ensures messages { (capacity : ℕ) (accepted evaluated later : List Record) → Represents self.old capacity accepted evaluated → IsAhead self.old.evaluator (x.now ∷ later)
-            → verdict capacity evaluated x.now ≡ None → OnOk result (self.new.messages.items ≡ newest_messages (x.now ∷ evaluated)) }
+        ensures stands { (capacity limit : ℕ) (accepted evaluated later : List Record) → Stands self.old capacity accepted evaluated → IsAhead self.old.evaluator (x.now ∷ later)
+            → verdict limit evaluated x.now ≡ None → OnOk result (Stands self.new capacity accepted (x.now ∷ evaluated)) }
+        ensures messages { (capacity limit : ℕ) (accepted evaluated later : List Record) → Stands self.old capacity accepted evaluated → IsAhead self.old.evaluator (x.now ∷ later)
+            → verdict limit evaluated x.now ≡ None → OnOk result (self.new.messages.items ≡ newest_messages (x.now ∷ evaluated)) }
         ensures ahead { (later : List Record) → IsAhead self.old.evaluator (x.now ∷ later) → OnOk result (IsAhead self.new.evaluator later) }
         ensures working { OnOk result (IsWorking self.new.evaluator) }
         ensures workers { workers_of self.new.evaluator ≡ workers_of self.old.evaluator }

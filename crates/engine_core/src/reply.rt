@@ -11,7 +11,7 @@ ghost use Rattle.rulebook.specs.Sent.{spelled, numbered, refused, accepted, repl
 ghost use Rattle.rulebook.specs.Book.{newest_messages};
 ghost use Rattle.market_core.specs.MarketState.{most_messages};
 ghost use Rattle.stream_core.specs.Pending.{Expects, SendsPrefix};
-ghost use Rattle.engine_core.specs.EngineState.{Represents, IsRoomy};
+ghost use Rattle.engine_core.specs.EngineState.{Represents, Stands, IsRoomy};
 ghost use Rattle.engine_core.specs.Answering.{IsShort, Appends};
 ghost use Rattle.evaluator_core.specs.Evaluating.{workers_of, IsAhead, IsWorking};
 ghost use Rattle.engine_core.specs.Rounds.{Outcome, IsAdmissible, records_in};
@@ -101,7 +101,9 @@ pub fn evaluate<H: Host>(
     requires count { engine.old.evaluated + 1 < 2 ^ 64 }
     ensures represents { (capacity : ℕ) (accepted evaluated later : List Record) → Represents engine.old capacity accepted evaluated → IsAhead engine.old.evaluator (x.now ∷ later) → verdict capacity evaluated x.now ≡ None
         → OnOk result (Represents engine.new capacity accepted (x.now ∷ evaluated)) }
-    ensures messages { (capacity : ℕ) (accepted evaluated later : List Record) → Represents engine.old capacity accepted evaluated → IsAhead engine.old.evaluator (x.now ∷ later) → verdict capacity evaluated x.now ≡ None
+    ensures stands { (capacity limit : ℕ) (accepted evaluated later : List Record) → Stands engine.old capacity accepted evaluated → IsAhead engine.old.evaluator (x.now ∷ later) → verdict limit evaluated x.now ≡ None
+        → OnOk result (Stands engine.new capacity accepted (x.now ∷ evaluated)) }
+    ensures messages { (capacity limit : ℕ) (accepted evaluated later : List Record) → Stands engine.old capacity accepted evaluated → IsAhead engine.old.evaluator (x.now ∷ later) → verdict limit evaluated x.now ≡ None
         → OnOk result (engine.new.messages.items ≡ newest_messages (x.now ∷ evaluated)) }
     ensures ahead { (later : List Record) → IsAhead engine.old.evaluator (x.now ∷ later) → OnOk result (IsAhead engine.new.evaluator later) }
     ensures working { OnOk result (IsWorking engine.new.evaluator) }

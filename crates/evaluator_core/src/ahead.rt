@@ -1,7 +1,10 @@
-// A market that evaluates a block of records ahead, and hands out their messages record by record.
-ghost use Rattle.std.specs.Prelude.{◌≡◌, ◌==◌, ◌+◌, ◌<◌, ◌≤◌, ◌++◌, ◌∷◌, ℕ, [], false, true, List, IfOk, IsOk, OnOk, length, map, vec_len, vec_capacity};
+//! A market that evaluates a block of records ahead, and hands out their messages record by record.
+
+ghost use Rattle.std.specs.Prelude.{◌≡◌, ◌==◌, ◌+◌, ◌<◌, ◌≤◌, ◌++◌, ◌∷◌, ℕ, [], false, true, List, Some, IfOk, IsOk, OnOk, length, map, vec_len, vec_capacity};
 ghost use Rattle.wire_in.specs.declared.record.Record.{Record};
-ghost use Rattle.rulebook.specs.Admission.{most_names};
+ghost use Rattle.wire_in.specs.Bases.{IsInRange};
+ghost use Rattle.rulebook.specs.Admission.{IsLawful, most_names};
+ghost use Rattle.rulebook.specs.Base.{base_of, stand_in};
 ghost use Rattle.rulebook.specs.Book.{newest_messages};
 ghost use Rattle.market_core.specs.MarketState.{most_messages};
 ghost use Rattle.market_core.specs.MarketState as markets;
@@ -16,7 +19,7 @@ use std::alloc::Global;
 use std::marker::Model;
 use std::snapshot::Snapshot;
 use std::thread::Threads;
-use wire_in::Record;
+use wire_in::{Base, Record};
 use wire_out::Stamped;
 use yard_core::Gate;
 
@@ -78,6 +81,27 @@ impl Ahead {
     {
         Ok(Ahead {
             shards: Shards::new(alloc, workers)?,
+            given: Vec::new(alloc),
+            at: 0,
+            index: 0,
+            records: Snapshot::of(&Vec::new(alloc)),
+            room: Some(Market::new(alloc)?),
+        })
+    }
+
+    /// The market of whatever records have a base, in so many parts, from 2 to 64.
+    pub(crate) fn restore(alloc: Global, workers: u32, base: &Base) -> Result<Ahead, NoMemory>
+        requires workers { (1 < workers) × (workers ≤ 64) }
+        requires range { IsInRange base.now }
+        ensures stands { IfOk result (λ block. (capacity : ℕ) (evaluated : List Record) → base_of evaluated ≡ Some base.now → IsLawful capacity evaluated
+            → RepresentsAhead block evaluated) }
+        ensures stand_in { IfOk result (λ block. RepresentsAhead block (stand_in base.now)) }
+        ensures idle { IfOk result (λ block. HasAhead block []) }
+        ensures working { IfOk result (λ block. block.shards.working ≡ true) }
+        ensures parts { IfOk result (λ block. length block.shards.parts ≡ workers) }
+    {
+        Ok(Ahead {
+            shards: Shards::restore(alloc, workers, base)?,
             given: Vec::new(alloc),
             at: 0,
             index: 0,

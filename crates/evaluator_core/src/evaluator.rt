@@ -1,8 +1,12 @@
-ghost use Rattle.std.specs.Prelude.{◌≡◌, ◌==◌, ◌+◌, ◌<◌, ◌≤◌, ◌++◌, ◌∷◌, ℕ, [], false, true, List, None, IfOk, OnOk, IsOk, length, vec_len, vec_capacity};
+//! A market, evaluated by one worker or by several.
+
+ghost use Rattle.std.specs.Prelude.{◌≡◌, ◌==◌, ◌+◌, ◌<◌, ◌≤◌, ◌++◌, ◌∷◌, ℕ, [], false, true, List, None, Some, IfOk, OnOk, IsOk, length, vec_len, vec_capacity};
 ghost use Rattle.wire_in.specs.declared.record.Record.{Record};
-ghost use Rattle.wire_in.specs.Records.{name_of};
-ghost use Rattle.rulebook.specs.Admission.{most_names, verdict};
-ghost use Rattle.rulebook.specs.Book.{newest_messages};
+ghost use Rattle.wire_in.specs.Bases.{IsInRange};
+ghost use Rattle.wire_in.specs.Records.{is_day, name_of};
+ghost use Rattle.rulebook.specs.Admission.{IsLawful, most_names, verdict};
+ghost use Rattle.rulebook.specs.Base.{base_of, stand_in};
+ghost use Rattle.rulebook.specs.Book.{messages_of, newest_messages};
 ghost use Rattle.market_core.specs.Kinds.{is_trade};
 ghost use Rattle.market_core.specs.MarketState.{most_messages, most_of_names};
 ghost use Rattle.shard_core.specs.Block.{AreAdmissible};
@@ -12,7 +16,7 @@ use market_core::Market;
 use price_core::NoMemory;
 use std::alloc::Global;
 use std::thread::Threads;
-use wire_in::Record;
+use wire_in::{Base, Record};
 use wire_out::Stamped;
 use yard_core::Gate;
 
@@ -38,6 +42,43 @@ impl Evaluator {
             Ok(Evaluator::One(Market::new(alloc)?))
         } else {
             Ok(Evaluator::Many(Ahead::new(alloc, workers)?))
+        }
+    }
+
+    /// The market of whatever records have a base, for so many workers, from 1 to 64.
+    pub fn restore(alloc: Global, workers: u32, base: &Base) -> Result<Evaluator, NoMemory>
+        requires workers { (0 < workers) × (workers ≤ 64) }
+        requires range { IsInRange base.now }
+        ensures stands { IfOk result (λ evaluator. (capacity : ℕ) (evaluated : List Record) → base_of evaluated ≡ Some base.now → IsLawful capacity evaluated
+            → Represents evaluator evaluated) }
+        ensures stand_in { IfOk result (λ evaluator. Represents evaluator (stand_in base.now)) }
+        ensures idle { IfOk result IsIdle }
+        ensures working { IfOk result IsWorking }
+        ensures workers { IfOk result (λ evaluator. workers_of evaluator ≡ workers) }
+    {
+        if workers == 1 {
+            Ok(Evaluator::One(Market::restore(alloc, base)?))
+        } else {
+            Ok(Evaluator::Many(Ahead::restore(alloc, workers, base)?))
+        }
+    }
+
+    /// The base of the applied records, of which the last one is this day; how many records and messages there are is given. By
+    /// one worker.
+    pub fn base(
+        &self,
+        alloc: Global,
+        records: u64,
+        messages: u64,
+        day: &Record,
+    ) -> Result<Base, NoMemory>
+        requires alone { workers_of self.now ≡ 1 }
+        ensures { IfOk result (λ base. (earlier : List Record) → is_day day.now ≡ true → Represents self.now (day.now ∷ earlier) → records ≡ length (day.now ∷ earlier)
+            → messages ≡ length (messages_of (day.now ∷ earlier)) → base_of (day.now ∷ earlier) ≡ Some base) }
+    {
+        match self {
+            Evaluator::One(market) => market.base(alloc, records, messages, day),
+            Evaluator::Many(_) => Err(NoMemory),
         }
     }
 

@@ -1,4 +1,5 @@
-// A day of `examples/`: its files, and what the commands send over them.
+//! A day of `examples/`: its files, and what the commands send over them.
+
 use host_core::Status;
 use memory_host::MemoryHost;
 use price_core::NoMemory;

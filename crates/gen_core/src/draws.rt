@@ -1,4 +1,5 @@
-// Draws from a linear congruential sequence.
+//! Draws from a linear congruential sequence.
+
 ghost use Rattle.std.specs.Prelude.{◌≡◌, ◌<◌, ◌%◌};
 ghost use Rattle.gen_core.specs.Draws.{next_number, answer_of};
 

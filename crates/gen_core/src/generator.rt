@@ -1,4 +1,5 @@
-// The records of a generated day, one after the other.
+//! The records of a generated day, one after the other.
+
 ghost use Rattle.std.specs.Prelude.{◌≡◌, ◌+◌, ◌<◌, ◌≤◌, length, IfOk, IfSome};
 ghost use Rattle.wire_in.specs.Spelling.{InRange};
 ghost use Rattle.gen_core.specs.Generated.{IsPlan, GivesFirst, generated};

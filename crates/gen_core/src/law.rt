@@ -1,4 +1,5 @@
-// What stands at each index of a day.
+//! What stands at each index of a day.
+
 ghost use Rattle.std.specs.Prelude.{◌≡◌, ℕ, ◌+◌, ◌<◌, Some, slice_get};
 ghost use Rattle.gen_core.specs.declared.plan.DayPlan.{DayPlan};
 ghost use Rattle.gen_core.specs.Generated.{day_record, listing, record_behind, session_records, generated};

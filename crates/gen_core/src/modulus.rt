@@ -1,4 +1,5 @@
-// Remainders without a division.
+//! Remainders without a division.
+
 ghost use Rattle.std.specs.Prelude.{◌≡◌, ◌%◌, ◌^◌, ◌<◌};
 
 use std::marker::Model;

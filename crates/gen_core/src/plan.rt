@@ -1,3 +1,5 @@
+//! What a generated day is made of.
+
 /// What a generated day is made of: the seed of its draws, how many symbols are listed, from 1 to 16,384, and how many
 /// records follow, at most 100,000,000.
 #[derive(Clone, Copy, Debug, PartialEq, Eq)]

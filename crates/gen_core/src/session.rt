@@ -1,4 +1,5 @@
-// The records of the session, drawn one after the other.
+//! The records of the session, drawn one after the other.
+
 ghost use Rattle.std.specs.Prelude.{◌≡◌, ◌+◌, ◌-◌, ◌%◌, ◌<◌, ◌≤◌, length, slice_index, slice_set};
 ghost use Rattle.session_core.specs.Moments.{IsMoment};
 ghost use Rattle.gen_core.specs.Draws.{next_number, answer_of, number_after, draw};

@@ -1,4 +1,5 @@
-// The records before the session: the day and its listings.
+//! The records before the session: the day and its listings.
+
 ghost use Rattle.std.specs.Prelude.{◌≡◌, ◌<◌};
 ghost use Rattle.session_core.specs.Dates.{digit};
 ghost use Rattle.session_core.specs.Moments.{seconds};

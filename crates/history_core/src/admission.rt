@@ -1,4 +1,5 @@
-// What may follow a list of accepted records, which has the newest first.
+//! What may follow a list of accepted records, which has the newest first.
+
 ghost use Rattle.std.specs.Prelude.{◌≡◌, IfOk, OnOk, position};
 ghost use Rattle.std.specs.Str.{bytes_eq};
 ghost use Rattle.rulebook.specs.Admission.{last_day, is_among, with_name, names, id_of, is_listed_name, is_listed, is_early, is_unknown, lists_again, finds_no_id, verdict};

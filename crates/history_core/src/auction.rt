@@ -1,5 +1,6 @@
-// Reopening auctions (after Nasdaq Rule 4120): what a history says of the last one of a symbol, by a search from its newest
-// event.
+//! Reopening auctions (after Nasdaq Rule 4120): what a history says of the last one of a symbol, by a search from its newest
+//! event.
+
 ghost use Rattle.std.specs.Prelude.{◌≡◌, option_map, option_and_then};
 ghost use Rattle.rulebook.specs.History.{newest, last};
 ghost use Rattle.rulebook.specs.Auction.{collar_of, round_of, last_round, is_paused, pauses, origin_of, origin_in, origin, indicated_by, indication_in, indication};

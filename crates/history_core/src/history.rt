@@ -1,4 +1,5 @@
-// What a history says, which has the newest event first.
+//! What a history says, which has the newest event first.
+
 ghost use Rattle.std.specs.Prelude.{◌≡◌, ◌≤◌, ◌++◌, IfOk, length, take, option_to_list};
 ghost use Rattle.rulebook.specs.History.{now, today, open_step, before_step, records, messages};
 

@@ -1,4 +1,5 @@
-// The market-wide circuit breakers (NYSE Rule 7.12), by a search of the history, which has the newest event first.
+//! The market-wide circuit breakers (NYSE Rule 7.12), by a search of the history, which has the newest event first.
+
 ghost use Rattle.std.specs.Prelude.{◌≡◌, option_to_list};
 ghost use Rattle.rulebook.specs.History.{records};
 ghost use Rattle.rulebook.specs.Market.{day_record, market_halt_in, market_halt, is_market_halted, greatest_in, greatest_declared, resume_at, declare_on, declare_at};

@@ -1,5 +1,6 @@
-// The runs of continuous trading of one symbol, by a search of the history from its newest event: a run begins where
-// trading begins other than out of a limit state.
+//! The runs of continuous trading of one symbol, by a search of the history from its newest event: a run begins where
+//! trading begins other than out of a limit state.
+
 ghost use Rattle.std.specs.Prelude.{◌≡◌, ◌∷◌, false, IfOk, option_map};
 ghost use Rattle.std.specs.Option.{option_map_or};
 ghost use Rattle.pause_core.specs.Phases.{is_trading};

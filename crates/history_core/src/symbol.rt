@@ -1,4 +1,5 @@
-// What a history says of one symbol (LULD Plan), by a search from its newest event.
+//! What a history says of one symbol (LULD Plan), by a search from its newest event.
+
 ghost use Rattle.std.specs.Prelude.{◌≡◌, false};
 ghost use Rattle.std.specs.Option.{option_map_or};
 ghost use Rattle.history_core.specs.Names.{own_in};

@@ -1,5 +1,6 @@
-// The trades of one symbol that count, and their mean (LULD Plan, Section V), by a search of the history from its newest
-// event.
+//! The trades of one symbol that count, and their mean (LULD Plan, Section V), by a search of the history from its newest
+//! event.
+
 ghost use Rattle.std.specs.Prelude.{◌≡◌, ◌∷◌, ◌++◌, ◌&&◌, ◌==◌, [], false, not, if◌then◌else◌, IfOk};
 ghost use Rattle.std.specs.List.{list_any};
 ghost use Rattle.std.specs.Option.{option_map_or};

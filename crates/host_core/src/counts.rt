@@ -1,4 +1,5 @@
-// Counts of what failed.
+//! Counts of what failed.
+
 ghost use Rattle.std.specs.Prelude.{◌≡◌, ◌≤◌};
 ghost use Rattle.host_core.specs.Outside.{raised};
 ghost use Rattle.host_core.specs.Counts.{no_faults, faulted, NoneFalls};

@@ -1,4 +1,5 @@
-// Why a call or a run ended before its end.
+//! Why a call or a run ended before its end.
+
 ghost use Rattle.std.specs.Prelude.{◌≡◌};
 ghost use Rattle.host_core.specs.Faults.{status_of};
 ghost use Rattle.host_core.specs.declared.fault.Fault.TheVariants as faults;

@@ -1,7 +1,8 @@
-// The file of a journal.
-ghost use Rattle.std.specs.Prelude.{◌≡◌, ◌||◌, ◌<◌, ◌≤◌, ◌^◌, ℕ, Bool, true, false, List, Option, None, Some, length, take, drop, IsTrue, IfOk, OnOk, OnErr};
+//! The file of a journal.
+
+ghost use Rattle.std.specs.Prelude.{◌≡◌, ◌||◌, ◌<◌, ◌≤◌, ◌^◌, ℕ, Bool, true, false, List, Option, None, Some, length, take, drop, IsTrue, IfOk, IfSome, IsErr, OnOk, OnErr};
 ghost use Rattle.host_core.specs.Outside.{written};
-ghost use Rattle.host_core.specs.Files.{IsTorn};
+ghost use Rattle.host_core.specs.Files.{IsAbsent, IsTorn};
 ghost use Rattle.host_core.specs.Real.{path_of, files_of, opened_of, has_lost, file_state, all_held};
 
 use crate::raw::{Opens, RawFile};
@@ -60,8 +61,11 @@ pub trait Disk {
         ensures held { IsTrue (held self.old) → IsTrue (held self.new) };
 }
 
-/// A file that is opened for reading and writing at its first use, and made empty where there is none. It is held from then
-/// on, so that no other program reads or writes the same journal.
+/// The most bytes of a file that a write from its begin may replace: those of a journal without a record.
+const BARE_BYTES: u64 = 17;
+
+/// A file that is opened for reading and writing at its first use, and held from then on, so that no other program reads or
+/// writes the same journal. Where there is none it has no bytes, and the first write makes it.
 #[derive(Drop)]
 pub struct JournalFile<'a, O: Opens> {
     files: O,
@@ -87,7 +91,22 @@ impl<'a, O: Opens> JournalFile<'a, O> {
         }
     }
 
-    // Opens and holds the file where that wasn't done yet.
+    // Opens and holds the file where that wasn't done yet and there is one.
+    fn find(&mut self) -> io::Result<()>
+        ensures bytes { (file_state O.standing O.File.state self.new).bytes ≡ (file_state O.standing O.File.state self.old).bytes }
+        ensures synced { (file_state O.standing O.File.state self.new).synced ≡ (file_state O.standing O.File.state self.old).synced }
+        ensures failed { (file_state O.standing O.File.state self.new).has_failed ≡ (file_state O.standing O.File.state self.old).has_failed }
+        ensures lost { has_lost self.new ≡ has_lost self.old }
+        ensures held { IsTrue (all_held O.File.state self.old) → IsTrue (all_held O.File.state self.new) }
+        ensures absent { OnOk result (opened_of self.new ≡ None → IsAbsent (file_state O.standing O.File.state self.new)) }
+    {
+        if self.opened.is_none() {
+            self.opened = find_held(&self.files, self.path)?;
+        }
+        Ok(())
+    }
+
+    // Opens and holds the file where that wasn't done yet, or makes it.
     fn open(&mut self) -> io::Result<()>
         ensures bytes { (file_state O.standing O.File.state self.new).bytes ≡ (file_state O.standing O.File.state self.old).bytes }
         ensures synced { (file_state O.standing O.File.state self.new).synced ≡ (file_state O.standing O.File.state self.old).synced }
@@ -115,10 +134,10 @@ impl<'a, O: Opens> JournalFile<'a, O> {
         if self.has_lost {
             return Err(io::ErrorKind::Other.into());
         }
-        self.open()?;
+        self.find()?;
         match &mut self.opened {
             Some(file) => sync_whole(file),
-            None => Err(io::ErrorKind::NotFound.into()),
+            None => Ok(()),
         }
     }
 }
@@ -133,25 +152,37 @@ impl<'a, O: Opens> Disk for JournalFile<'a, O> {
     ghost held = { λ f. all_held O.File.state f };
 
     fn len(&mut self) -> io::Result<u64> {
-        self.open()?;
+        self.find()?;
         match &mut self.opened {
             Some(file) => measure(file),
-            None => Err(io::ErrorKind::NotFound.into()),
+            None => Ok(0),
         }
     }
 
     fn read(&mut self, at: u64, into: &mut [u8]) -> io::Result<()> {
-        self.open()?;
+        self.find()?;
         match &mut self.opened {
             Some(file) => read_whole(file, at, into),
-            None => Err(io::ErrorKind::NotFound.into()),
+            None => Err(io::ErrorKind::UnexpectedEof.into()),
         }
     }
 
-    fn write(&mut self, at: u64, piece: &[u8]) -> io::Result<()> {
+    fn write(&mut self, at: u64, piece: &[u8]) -> io::Result<()>
+        ensures written { OnOk result ((content : List ℕ) → (file_state O.standing O.File.state self.old).bytes ≡ Some content → at ≤ length content
+            → (file_state O.standing O.File.state self.new).bytes ≡ Some (written at piece.now content)) }
+        ensures torn { OnErr result ((content : List ℕ) → (file_state O.standing O.File.state self.old).bytes ≡ Some content → at ≤ length content
+            → IsTorn at (length piece.now) content (file_state O.standing O.File.state self.new).bytes) }
+        // A file that has more than a journal without a record is never replaced.
+        ensures kept { (content : List ℕ) → (file_state O.standing O.File.state self.old).bytes ≡ Some content → at ≡ 0 → 17 < length content
+            → IsErr result × ((file_state O.standing O.File.state self.new).bytes ≡ Some content) }
+        ensures same_synced { (file_state O.standing O.File.state self.new).synced ≡ (file_state O.standing O.File.state self.old).synced }
+        ensures same_poisoned { (has_lost self.new || (file_state O.standing O.File.state self.new).has_failed)
+            ≡ (has_lost self.old || (file_state O.standing O.File.state self.old).has_failed) }
+        ensures held { IsTrue (all_held O.File.state self.old) → IsTrue (all_held O.File.state self.new) }
+    {
         self.open()?;
         match &mut self.opened {
-            Some(file) => write_whole(file, at, piece),
+            Some(file) => write_over(file, at, piece),
             None => Err(io::ErrorKind::NotFound.into()),
         }
     }
@@ -161,6 +192,43 @@ impl<'a, O: Opens> Disk for JournalFile<'a, O> {
         self.has_lost |= synced.is_err();
         synced
     }
+}
+
+/// Writes a piece from an offset on, but not from the begin of a file that has more bytes than a journal without a record: it
+/// holds records, or is none.
+fn write_over<T: RawFile>(file: &mut T, at: u64, piece: &[u8]) -> io::Result<()>
+    ensures written { OnOk result ((content : List ℕ) → (T.state file.old).bytes ≡ Some content → at ≤ length content
+        → (T.state file.new).bytes ≡ Some (written at piece.now content)) }
+    ensures torn { OnErr result ((content : List ℕ) → (T.state file.old).bytes ≡ Some content → at ≤ length content
+        → IsTorn at (length piece.now) content (T.state file.new).bytes) }
+    ensures kept { (content : List ℕ) → (T.state file.old).bytes ≡ Some content → at ≡ 0 → 17 < length content
+        → IsErr result × ((T.state file.new).bytes ≡ Some content) }
+    ensures same_synced { (T.state file.new).synced ≡ (T.state file.old).synced }
+    ensures same_held { (T.state file.new).is_held ≡ (T.state file.old).is_held }
+    ensures same_failed { (T.state file.new).has_failed ≡ (T.state file.old).has_failed }
+{
+    if at == 0 && measure(file)? > BARE_BYTES {
+        return Err(io::ErrorKind::AlreadyExists.into());
+    }
+    write_whole(file, at, piece)
+}
+
+// Opens a file that is there, and holds it.
+fn find_held<O: Opens>(files: &O, path: &str) -> io::Result<Option<O::File>>
+    ensures bytes { IfOk result (λ found. IfSome found (λ file. (O.File.state file).bytes ≡ (O.standing files.now path.now).bytes)) }
+    ensures synced { IfOk result (λ found. IfSome found (λ file. (O.File.state file).synced ≡ (O.standing files.now path.now).synced)) }
+    ensures failed { IfOk result (λ found. IfSome found (λ file. (O.File.state file).has_failed ≡ (O.standing files.now path.now).has_failed)) }
+    ensures held { IfOk result (λ found. IfSome found (λ file. IsTrue (O.File.state file).is_held)) }
+    ensures absent { IfOk result (λ found. found ≡ None → IsAbsent (O.standing files.now path.now)) }
+{
+    if path == "-" {
+        return Err(io::ErrorKind::NotFound.into());
+    }
+    let Some(mut file) = files.find(path)? else {
+        return Ok(None);
+    };
+    file.hold()?;
+    Ok(Some(file))
 }
 
 // Opens a file, or makes it, and holds it.

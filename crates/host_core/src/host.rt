@@ -1,4 +1,5 @@
-// The calls that reach outside, and what each does to what a host exposes.
+//! The calls that reach outside, and what each does to what a host exposes.
+
 ghost use Rattle.std.specs.Prelude.{◌≡◌, ◌<◌, ◌≤◌, ◌+◌, ◌^◌, ℕ, List, length, Some};
 ghost use Rattle.host_core.specs.Outside.{Outside, Agrees, MayLeave};
 ghost use Rattle.host_core.specs.HostCalls.{ReadsInput, SendsPiece, MeasuresDisk, ReadsDisk, WritesDisk, SyncsDisk};

@@ -1,8 +1,8 @@
 //! Single calls of an open file.
 
-ghost use Rattle.std.specs.Prelude.{◌≡◌, ◌≤◌, ℕ, true, false, List, Some, length, take, drop, IsTrue, IfOk, OnOk, OnErr};
+ghost use Rattle.std.specs.Prelude.{◌≡◌, ◌≤◌, ℕ, true, false, List, Some, None, IfSome, length, take, drop, IsTrue, IfOk, OnOk, OnErr};
 ghost use Rattle.host_core.specs.Outside.{written};
-ghost use Rattle.host_core.specs.Files.{FileState, IsTorn, untold};
+ghost use Rattle.host_core.specs.Files.{FileState, IsAbsent, IsTorn, untold};
 ghost use Rattle.host_core.specs.Real.{has_failed};
 
 use std::fs::{File, OpenFile, OpenOptions};
@@ -68,6 +68,11 @@ pub trait Opens {
 
     /// What is known of a file of that path when it is opened.
     ghost standing: { Self → List ℕ → FileState };
+
+    /// Opens a file for reading and writing as it stands; none where there is none.
+    fn find(&self, path: &str) -> io::Result<Option<Self::File>>
+        ensures found { IfOk result (λ found. IfSome found (λ file. Self.File.state file ≡ standing self.now path.now)) }
+        ensures none { IfOk result (λ found. found ≡ None → IsAbsent (standing self.now path.now)) };
 
     /// Opens a file for reading and writing as it stands; an empty one is made where there is none.
     fn open(&self, path: &str) -> io::Result<Self::File>
@@ -156,6 +161,19 @@ where
     type File = SystemFile<F::File>;
 
     ghost standing = { λ _ _. untold false };
+
+    fn find(&self, path: &str) -> io::Result<Option<SystemFile<F::File>>> {
+        let mut options = OpenOptions::new();
+        options.read(true).write(true);
+        match options.open(self.files, path) {
+            Ok(file) => Ok(Some(SystemFile {
+                file,
+                has_failed: false,
+            })),
+            Err(error) if error.kind() == io::ErrorKind::NotFound => Ok(None),
+            Err(error) => Err(error),
+        }
+    }
 
     fn open(&self, path: &str) -> io::Result<SystemFile<F::File>> {
         let mut options = OpenOptions::new();

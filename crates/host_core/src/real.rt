@@ -1,4 +1,5 @@
-// The real outside: it exposes nothing of what it holds, and counts its faults.
+//! The real outside: it exposes nothing of what it holds, and counts its faults.
+
 ghost use Rattle.std.specs.Prelude.{◌≡◌, ◌<◌, ◌≤◌, ◌^◌, ℕ, true, false, List, Some, IsTrue, length, take, drop, IfOk, OnOk, OnErr, MatchResult, IsErr};
 ghost use Rattle.std.specs.Io.KnownBytes.{ReadConsumes, WriteAppends};
 ghost use Rattle.host_core.specs.Outside.{written, raised};

@@ -1,4 +1,5 @@
-// A piece that is sent whole, however the sink takes it.
+//! A piece that is sent whole, however the sink takes it.
+
 ghost use Rattle.std.specs.Prelude.{◌≡◌, ℕ, OnOk, OnErr};
 ghost use Rattle.std.specs.Io.KnownBytes.{append_known};
 ghost use Rattle.host_core.specs.Outside.{Outside, Sends, Grows, Rose, Elapses};

@@ -1,4 +1,5 @@
-// How a run of the program ended.
+//! How a run of the program ended.
+
 ghost use Rattle.std.specs.Prelude.{◌≡◌};
 ghost use Rattle.host_core.specs.Statuses.{code_of};
 

@@ -1,4 +1,5 @@
-// A write that is on the disk before the next step.
+//! A write that is on the disk before the next step.
+
 ghost use Rattle.std.specs.Prelude.{◌≡◌, ◌≤◌, ◌<◌, ◌+◌, ◌^◌, ℕ, List, length, Some, option_map, OnOk, OnErr};
 ghost use Rattle.host_core.specs.Outside.{Outside, Changes, written, Torn, IsSettled, Rose, Elapses};
 ghost use Rattle.host_core.specs.Frames.{OnlyWrites};

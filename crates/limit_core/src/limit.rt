@@ -1,3 +1,5 @@
+//! Whether a quotation stands at a price band (LULD Plan, Section VI).
+
 ghost use Rattle.std.specs.Prelude.{◌≡◌, ◌↔◌, ◌<◌, Some, IsTrue};
 ghost use Rattle.limit_core.specs.Limits.{is_at_lower, is_at_upper, is_crossed, straddles, at_limit};
 

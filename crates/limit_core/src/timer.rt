@@ -1,3 +1,5 @@
+//! The 15 seconds of a limit state (LULD Plan, Section VII).
+
 ghost use Rattle.std.specs.Prelude.{◌≡◌};
 ghost use Rattle.limit_core.specs.Timers.{has_lasted};
 

@@ -12,3 +12,4 @@ pub mod Applying
 pub mod Leading
 pub mod Views
 pub mod Isolation
+pub mod Restoring

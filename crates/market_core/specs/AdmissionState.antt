@@ -13,28 +13,32 @@ use Rattle.rulebook.specs.Admission.{last_day, names, is_listed_name, most_names
 use Rattle.market_core.specs.Dated.{is_on, are_up_to}
 
 -- The capacity of records, how many were admitted, the last day, the moment of the last record, the names ever listed,
--- and for each of them the date on which it was last listed.
+-- and for each of them the date on which it was last listed, where that is known.
 pub record AdmissionState : Type 0 where
   pub capacity : ℕ
   pub count : ℕ
   pub day : Option Day
   pub last : ℕ
   pub directory : List (List ℕ)
-  pub dates : List Civil
+  pub dates : List (Option Civil)
 
 -- the moment of the newest record, 0 where there is none
 abbrev pub last_moment : List Record → ℕ
 last_moment [] = 0
 last_moment (x ∷ earlier) = moment_of x
 
--- each kept value is the one that the list of admitted records gives
-pub record Represents (a : AdmissionState) (admitted : List Record) : Type 0 where
-  pub count : a.count ≡ length admitted
+-- each kept value but the count is the one that the list of admitted records gives
+pub record Stands (a : AdmissionState) (admitted : List Record) : Type 0 where
   pub day : a.day ≡ last_day admitted
   pub last : a.last ≡ last_moment admitted
   pub directory : a.directory ≡ names admitted
   pub listed : map (is_on a.day) a.dates ≡ map (is_listed_name admitted) (names admitted)
   pub dated : IsTrue (are_up_to a.day a.dates)
+
+-- and they are as many as it counts
+pub record Represents (a : AdmissionState) (admitted : List Record) : Type 0 where
+  pub count : a.count ≡ length admitted
+  pub stands : Stands a admitted
 
 -- The tests of a refusal, by what is kept.
 
@@ -48,13 +52,13 @@ abbrev pub is_out_of_order : Option Day → ℕ → Record → Bool
 is_out_of_order day last (in_.Day t d c) = is_date_early day d
 is_out_of_order day last x = nat_lt (moment_of x) last
 
-abbrev pub is_listed_id : Option Day → List Civil → ℕ → Bool
+abbrev pub is_listed_id : Option Day → List (Option Civil) → ℕ → Bool
 is_listed_id day dates id = option_map_or (is_on day) (slice_get dates id) false
 
-abbrev pub names_unlisted : Option Day → List Civil → Record → Bool
+abbrev pub names_unlisted : Option Day → List (Option Civil) → Record → Bool
 names_unlisted day dates x = option_map_or (λ id. not (is_listed_id day dates id)) (symbol_of x) false
 
-abbrev pub lists_twice : Option Day → List Civil → List (List ℕ) → Record → Bool
+abbrev pub lists_twice : Option Day → List (Option Civil) → List (List ℕ) → Record → Bool
 lists_twice day dates directory (in_.Listing t name k l c) = option_map_or (is_listed_id day dates) (position (bytes_eq name) directory) false
 lists_twice day dates directory x = false
 
@@ -104,10 +108,10 @@ directory_after directory (in_.Listing t name k l c) = added directory (position
 directory_after directory x = directory
 
 -- the dates after a name is listed on this day
-abbrev pub dates_listed : Day → List Civil → Option ℕ → List Civil
-dates_listed day dates index = set_at dates index day.date
+abbrev pub dates_listed : Day → List (Option Civil) → Option ℕ → List (Option Civil)
+dates_listed day dates index = set_at dates index (Some day.date)
 
-abbrev pub dates_after : AdmissionState → Record → List Civil
+abbrev pub dates_after : AdmissionState → Record → List (Option Civil)
 dates_after a (in_.Listing t name k l c) = option_map_or (λ day. dates_listed day a.dates (position (bytes_eq name) a.directory)) a.day a.dates
 dates_after a x = a.dates
 

@@ -9,3 +9,4 @@ pub mod Sections
 pub mod Room
 pub mod Ranges
 pub mod Isolation
+pub mod Fresh

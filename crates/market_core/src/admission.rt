@@ -1,11 +1,15 @@
-ghost use Rattle.std.specs.Prelude.{◌≡◌, ◌≢◌, ◌↔◌, ◌+◌, ◌<◌, ◌≤◌, ◌^◌, None, false, List, [], ◌∷◌, OnOk, OnErr, IfOk, IsOk, IsTrue, IsNone, unwrap_or, length, position, map, nat_le, ◌==◌, ◌&&◌, vec_len};
+//! Whether a record may follow those that were accepted.
+
+ghost use Rattle.std.specs.Prelude.{◌≡◌, ◌≢◌, ◌↔◌, ◌+◌, ◌<◌, ◌≤◌, ◌^◌, None, Some, false, List, [], ◌∷◌, OnOk, OnErr, IfOk, IsOk, IsTrue, IsNone, unwrap_or, length, position, map, nat_le, replicate, ◌==◌, ◌&&◌, vec_len, vec_capacity};
 ghost use Rattle.std.specs.Str.{bytes_eq};
 ghost use Rattle.session_core.specs.Dates.{Civil};
 ghost use Rattle.wire_in.specs.declared.record.Record.{Record};
+ghost use Rattle.wire_in.specs.Bases.{IsInRange};
 ghost use Rattle.wire_in.specs.Records.{symbol_of};
-ghost use Rattle.rulebook.specs.Admission.{verdict};
+ghost use Rattle.rulebook.specs.Admission.{last_day, most_names, verdict, verdict_at};
+ghost use Rattle.rulebook.specs.Base.{base_of, stand_in};
 ghost use Rattle.market_core.specs.Dated.{is_on};
-ghost use Rattle.market_core.specs.AdmissionState.{AdmissionState, Represents, refusal_of, is_before_day, is_date_early, is_out_of_order, names_unlisted, is_listed_id, name_refusal_of, is_full_for, added, dates_listed, day_after, directory_after, dates_after, admitted_with};
+ghost use Rattle.market_core.specs.AdmissionState.{AdmissionState, Represents, Stands, refusal_of, is_before_day, is_date_early, is_out_of_order, names_unlisted, is_listed_id, name_refusal_of, is_full_for, added, dates_listed, day_after, directory_after, dates_after, admitted_with};
 
 use crate::directory::Directory;
 use price_core::NoMemory;
@@ -13,7 +17,7 @@ use rulebook::MOST_NAMES;
 use session_core::{Date, Day, Moment};
 use std::alloc::Global;
 use std::marker::Model;
-use wire_in::{Record, Refusal};
+use wire_in::{Base, Record, Refusal};
 
 /// What decides whether a record may follow those admitted before it.
 #[derive(Drop)]
@@ -23,7 +27,7 @@ pub struct Admission {
     day: Option<Day>,
     last: Option<Moment>,
     directory: Directory,
-    listed_on: Vec<Date>,
+    listed_on: Vec<Option<Date>>,
 }
 
 impl Model for Admission {
@@ -52,18 +56,18 @@ fn is_same(a: Date, b: Date) -> bool
     a == b
 }
 
-/// Whether a date is that of the day.
-fn is_on(day: Option<Day>, date: Date) -> bool
+/// Whether the date of a last listing, where there is one, is that of the day.
+fn is_on(day: Option<Day>, date: Option<Date>) -> bool
     ensures { result ≡ is_on day date }
 {
-    match day {
-        Some(day) => is_same(date, day.date),
-        None => false,
+    match (day, date) {
+        (Some(day), Some(date)) => is_same(date, day.date),
+        _ => false,
     }
 }
 
 /// Whether a name that was last listed on one of these dates is listed today.
-fn is_listed_id(day: Option<Day>, dates: &[Date], id: u16) -> bool
+fn is_listed_id(day: Option<Day>, dates: &[Option<Date>], id: u16) -> bool
     ensures { result ≡ is_listed_id day dates.now id }
 {
     match dates.get(id as usize) {
@@ -103,13 +107,36 @@ fn is_out_of_order(day: Option<Day>, last: Option<Moment>, x: &Record) -> bool
 }
 
 /// Whether a record names a symbol by an id that is not listed today.
-fn names_unlisted(day: Option<Day>, dates: &[Date], x: &Record) -> bool
+fn names_unlisted(day: Option<Day>, dates: &[Option<Date>], x: &Record) -> bool
     ensures { result ≡ names_unlisted day dates.now x.now }
 {
     match x.symbol() {
         Some(id) => !is_listed_id(day, dates, id),
         None => false,
     }
+}
+
+/// The day of a record that begins one.
+fn day_of(x: &Record) -> Option<Day>
+    ensures { result ≡ last_day (x.now ∷ []) }
+{
+    match *x {
+        Record::Day { day, .. } => Some(day),
+        _ => None,
+    }
+}
+
+/// Of so many names, that none was listed on a day that is known, with room for all names.
+fn never(alloc: Global, count: usize) -> Result<Vec<Option<Date>>, NoMemory>
+    requires { count ≤ most_names }
+    ensures dates { IfOk result (λ dates. dates.items ≡ replicate count None) }
+    ensures room { IfOk result (λ dates. most_names ≤ vec_capacity dates) }
+{
+    let mut dates = Vec::with_capacity(alloc, MOST_NAMES)?;
+    for _name in 0..count {
+        dates.push_reserved(None);
+    }
+    Ok(dates)
 }
 
 impl Admission {
@@ -126,6 +153,26 @@ impl Admission {
             last: None,
             directory: Directory::new(alloc)?,
             listed_on: Vec::with_capacity(alloc, MOST_NAMES)?,
+        })
+    }
+
+    /// The admission of whatever records have a base, under a capacity of records. It counts as many records as the base, and
+    /// none of its names is listed yet.
+    pub fn restore(alloc: Global, capacity: u64, base: &Base) -> Result<Admission, NoMemory>
+        requires range { IsInRange base.now }
+        ensures capacity { IfOk result (λ a. a.capacity ≡ capacity) }
+        ensures count { IfOk result (λ a. a.count ≡ base.now.records) }
+        ensures stands { IfOk result (λ a. (admitted : List Record) → base_of admitted ≡ Some base.now → Stands a admitted) }
+        ensures stand_in { IfOk result (λ a. Stands a (stand_in base.now)) }
+    {
+        let names = base.names.list();
+        Ok(Admission {
+            capacity,
+            count: base.records,
+            day: day_of(&base.day),
+            last: Some(base.day.moment()),
+            directory: Directory::restore(alloc, names)?,
+            listed_on: never(alloc, names.len())?,
         })
     }
 
@@ -198,6 +245,7 @@ impl Admission {
     pub fn verdict(&self, x: &Record) -> Option<Refusal>
         ensures kept { result ≡ refusal_of self.now x.now }
         ensures exact { (admitted : List Record) → Represents self.now admitted → result ≡ verdict self.now.capacity admitted x.now }
+        ensures exact_at { (admitted : List Record) → Stands self.now admitted → result ≡ verdict_at self.now.capacity self.now.count admitted x.now }
     {
         self.refusal(x)
     }
@@ -212,10 +260,10 @@ impl Admission {
         } }
     {
         match self.directory.id(name) {
-            Some(id) => self.listed_on[id as usize] = day.date,
+            Some(id) => self.listed_on[id as usize] = Some(day.date),
             None => {
                 self.directory.push(name);
-                self.listed_on.push(day.date).unwrap();
+                self.listed_on.push(Some(day.date)).unwrap();
             }
         }
     }
@@ -241,6 +289,7 @@ impl Admission {
     pub fn admit(&mut self, x: &Record) -> Result<(), NoMemory>
         requires { refusal_of self.old x.now ≡ None }
         ensures stands { (admitted : List Record) → Represents self.old admitted → OnOk result (Represents self.new (x.now ∷ admitted)) }
+        ensures stands_on { (admitted : List Record) → Stands self.old admitted → OnOk result (Stands self.new (x.now ∷ admitted)) }
         ensures capacity { self.new.capacity ≡ self.old.capacity }
         ensures count { OnOk result (self.new.count ≡ self.old.count + 1) }
         ensures err { OnErr result (self.new ≡ self.old) }

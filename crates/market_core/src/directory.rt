@@ -1,5 +1,8 @@
+//! The names that were ever listed, and their ids.
+
 ghost use Rattle.std.specs.Prelude.{◌≡◌, ◌<◌, ◌≤◌, ◌∷◌, ◌++◌, [], None, length, position, IfOk};
 ghost use Rattle.std.specs.Str.{bytes_eq};
+ghost use Rattle.wire_in.specs.Bases.{AreNew};
 ghost use Rattle.rulebook.specs.Admission.{most_names};
 
 use indexmap::IndexSet;
@@ -7,6 +10,7 @@ use price_core::NoMemory;
 use rulebook::MOST_NAMES;
 use std::alloc::Global;
 use std::marker::Model;
+use wire_in::Names;
 
 /// The names that were ever listed, in order of their first listing: the index of a name is its id. Its room is taken when
 /// it is made.
@@ -35,6 +39,30 @@ impl Directory {
         Ok(Directory {
             names: IndexSet::with_capacity(alloc, MOST_NAMES)?,
         })
+    }
+
+    /// These names, with room for 16,384.
+    pub fn restore(alloc: Global, names: &[[u8; 8]]) -> Result<Directory, NoMemory>
+        requires few { length names.now ≤ most_names }
+        requires different { AreNew [] names.now }
+        ensures { IfOk result (λ directory. directory ≡ names.now) }
+    {
+        let mut directory = Directory::new(alloc)?;
+        for name in names {
+            directory.push(*name);
+        }
+        Ok(directory)
+    }
+
+    /// All names, in order of their ids.
+    pub fn list(&self, alloc: Global) -> Result<Names, NoMemory>
+        ensures { IfOk result (λ names. names ≡ self.now) }
+    {
+        let mut names = Names::new(alloc);
+        for id in 0..self.names.len() {
+            names.push(*self.names.get_index(id).unwrap())?;
+        }
+        Ok(names)
     }
 
     /// How many names there are.

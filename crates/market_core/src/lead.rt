@@ -1,11 +1,16 @@
+//! The market's own part: the names, the day and the circuit breakers.
+
 ghost use Rattle.std.specs.Prelude.{◌≡◌, ◌+◌, ◌<◌, ◌≤◌, ◌++◌, ◌∷◌, ℕ, [], false, List, Some, None, OnOk, OnErr, IfOk, IsOk, IsSome, vec_len, vec_capacity, position, option_map, length};
 ghost use Rattle.std.specs.Str.{bytes_eq};
 ghost use Rattle.session_core.specs.declared.day.Day.{Day};
 ghost use Rattle.wire_in.specs.declared.record.Record.{Record};
+ghost use Rattle.wire_in.specs.Bases.{IsInRange};
 ghost use Rattle.wire_in.specs.Records.{moment_of, name_of, is_day};
 ghost use Rattle.breaker_core.specs.BreakerState.{started};
 ghost use Rattle.rulebook.specs.Admission.{verdict, most_names};
 ghost use Rattle.rulebook.specs.Market.{breaks};
+ghost use Rattle.rulebook.specs.Base.{base_of, stand_in};
+ghost use Rattle.market_core.specs.Leads.{today_led};
 ghost use Rattle.market_core.specs.Ruled.{ruled, ruling, stamped, view_of};
 
 use crate::directory::Directory;
@@ -17,7 +22,7 @@ use session_core::{Day, Moment};
 use std::alloc::Global;
 use std::marker::Model;
 use symbol_core::MarketView;
-use wire_in::Record;
+use wire_in::{Base, Names, Record};
 use wire_out::{Message, Stamped};
 
 /// A day, and its market-wide breakers.
@@ -46,6 +51,23 @@ impl Model for Lead {
     ghost view = { λ lead. record { directory = lead.directory; today = lead.today } };
 
     ghost invariant = { λ lead. lead.view ≡ option_map view_of lead.today };
+}
+
+/// The day that a record begins, with its breakers.
+fn begun(x: &Record) -> Option<Today>
+    ensures { result ≡ today_led x.now None }
+{
+    match *x {
+        Record::Day {
+            day,
+            index_close,
+            ..
+        } => Some(Today {
+            day,
+            breaker: Breaker::start(index_close),
+        }),
+        _ => None,
+    }
 }
 
 impl Today {
@@ -127,6 +149,29 @@ impl Lead {
             today: None,
             view: None,
         })
+    }
+
+    /// The market's part of whatever records have a base.
+    pub fn restore(alloc: Global, base: &Base) -> Result<Lead, NoMemory>
+        requires range { IsInRange base.now }
+        ensures kept { IfOk result (λ lead. lead ≡ record { directory = base.now.names; today = today_led base.now.day None }) }
+        ensures led { IfOk result (λ lead. (led : List Record) → base_of led ≡ Some base.now → IsLed lead led) }
+        ensures stand_in { IfOk result (λ lead. IsLed lead (stand_in base.now)) }
+    {
+        let today = begun(&base.day);
+        let view = today.as_ref().map(|today| today.view());
+        Ok(Lead {
+            directory: Directory::restore(alloc, base.names.list())?,
+            today,
+            view,
+        })
+    }
+
+    /// All names, in order of their ids.
+    pub fn all_names(&self, alloc: Global) -> Result<Names, NoMemory>
+        ensures { IfOk result (λ names. names ≡ self.now.directory) }
+    {
+        self.directory.list(alloc)
     }
 
     /// How many names were ever listed.

@@ -2,6 +2,7 @@
 #![tactic(auto)]
 
 mod admission;
+mod among;
 mod directory;
 mod law;
 mod lead;

@@ -1,11 +1,15 @@
+//! One market, kept from record to record.
+
 ghost use Rattle.std.specs.Prelude.{◌≡◌, ◌+◌, ◌*◌, ◌<◌, ◌≤◌, ◌++◌, ◌∷◌, ℕ, [], true, false, List, None, OnOk, OnErr, IfOk, IsOk, IsSome, IsSomeAnd, IfSome, IsNone, ◌≢◌, ◌↔◌, vec_len, vec_capacity, position, option_map, length};
 ghost use Rattle.std.specs.Str.{bytes_eq};
 ghost use Rattle.wire_in.specs.declared.record.Record.{Record};
+ghost use Rattle.wire_in.specs.Bases.{IsInRange};
 ghost use Rattle.wire_in.specs.Records.{moment_of, name_of, is_day, is_tick};
 ghost use Rattle.breaker_core.specs.BreakerState.{started};
 ghost use Rattle.rulebook.specs.Admission.{verdict, most_names, IsLawful};
 ghost use Rattle.rulebook.specs.Isolation.{for_symbol};
-ghost use Rattle.rulebook.specs.Book.{newest_messages};
+ghost use Rattle.rulebook.specs.Base.{base_of, stand_in};
+ghost use Rattle.rulebook.specs.Book.{messages_of, newest_messages};
 ghost use Rattle.symbol_core.specs.Evaluates.{most_of_symbol};
 ghost use Rattle.market_core.specs.Kinds.{is_trade};
 ghost use Rattle.market_core.specs.MarketState.{most_of_names};
@@ -23,7 +27,7 @@ use session_core::Day;
 use std::alloc::Global;
 use std::marker::Model;
 use symbol_core::{MOST_OF_SYMBOL, MarketView, Symbol};
-use wire_in::Record;
+use wire_in::{Base, Record};
 use wire_out::Stamped;
 
 /// The most messages of one record: two of the market, and those of each symbol.
@@ -72,6 +76,33 @@ impl Market {
             alloc,
             lead,
             section,
+        })
+    }
+
+    /// The market of whatever records have a base. It takes the room for the stocks of all names that may still come.
+    pub fn restore(alloc: Global, base: &Base) -> Result<Market, NoMemory>
+        requires range { IsInRange base.now }
+        ensures stands { IfOk result (λ market. (capacity : ℕ) (applied : List Record) → base_of applied ≡ Some base.now → IsLawful capacity applied → Represents market applied) }
+        ensures stand_in { IfOk result (λ market. Represents market (stand_in base.now)) }
+    {
+        let lead = Lead::restore(alloc, base)?;
+        let section = Section::restore(alloc, lead.names(), base.carried.list())?;
+        Market::of(alloc, lead, section)?.ok_or(NoMemory)
+    }
+
+    /// The base of the applied records, of which the last one is this day; how many records and messages there are is given.
+    pub fn base(&self, alloc: Global, records: u64, messages: u64, day: &Record) -> Result<Base, NoMemory>
+        ensures { IfOk result (λ base. (earlier : List Record) → is_day day.now ≡ true → Represents self.now (day.now ∷ earlier) → records ≡ length (day.now ∷ earlier)
+            → messages ≡ length (messages_of (day.now ∷ earlier)) → base_of (day.now ∷ earlier) ≡ Some base) }
+    {
+        // For the proof: it has the invariant, that the names are few enough.
+        let _names = self.lead.names();
+        Ok(Base {
+            records,
+            messages,
+            day: *day,
+            names: self.lead.all_names(alloc)?,
+            carried: self.section.carried(alloc)?,
         })
     }
 

@@ -1,10 +1,17 @@
-ghost use Rattle.std.specs.Prelude.{◌≡◌, ◌+◌, ◌*◌, ◌<◌, ◌≤◌, ◌++◌, ◌∷◌, ℕ, [], true, false, Some, IfOk, IsOk, OnOk, OnErr, drop, length, slice_index, take, vec_len, vec_capacity};
+//! The stocks of ids that follow each other.
+
+ghost use Rattle.std.specs.Prelude.{◌≡◌, ◌+◌, ◌*◌, ◌<◌, ◌≤◌, ◌++◌, ◌∷◌, ℕ, [], true, false, Some, IfOk, IsOk, OnOk, OnErr, drop, filter, length, slice_index, take, vec_len, vec_capacity};
+ghost use Rattle.wire_in.specs.Bases.{AreRising};
 ghost use Rattle.wire_in.specs.Records.{is_day, is_tick, moment_of};
 ghost use Rattle.alarms.specs.Due.{NoneDue};
 ghost use Rattle.symbol_core.specs.Evaluates.{most_of_symbol};
+ghost use Rattle.rulebook.specs.Admission.{most_names};
+ghost use Rattle.rulebook.specs.Book.{ids_below};
+ghost use Rattle.market_core.specs.Fresh.{AreFresh, is_marked};
 ghost use Rattle.market_core.specs.Kinds.{is_trade};
 ghost use Rattle.market_core.specs.Room.{HasRoomAt};
 
+use crate::among::is_among;
 use crate::since::{ALWAYS_DUE, Since, alarm_of, pass, renew};
 use crate::symbols::{evaluate, evaluate_each};
 use alarms::Alarms;
@@ -13,7 +20,7 @@ use session_core::Moment;
 use std::alloc::Global;
 use std::marker::Model;
 use symbol_core::{MarketView, Messages, Symbol};
-use wire_in::Record;
+use wire_in::{Ids, Record};
 use wire_out::Stamped;
 
 /// The stocks of ids that follow each other, in their order, each with the moment at which a tick may next bring it
@@ -103,6 +110,36 @@ impl Section {
             since: None,
             said,
         })
+    }
+
+    /// The stocks of so many ids on a day on which nothing was said of them yet, and which carries the restrictions of these ids,
+    /// in rising order.
+    pub fn restore(alloc: Global, count: u32, carried: &[u16]) -> Result<Section, NoMemory>
+        requires few { count ≤ most_names }
+        requires rising { AreRising carried.now }
+        ensures fresh { IfOk result (λ section. AreFresh carried.now count section.symbols) }
+    {
+        let mut section = Section::new(alloc)?;
+        section.reserve(count as usize)?;
+        for id in 0..count {
+            let symbol = Symbol::restore(alloc, id as u16, is_among(carried, id as u16)).unwrap();
+            section.push(symbol);
+        }
+        Ok(section)
+    }
+
+    /// The ids of the stocks whose short sale restriction the day carries, where the first stock has the id 0.
+    pub fn carried(&self, alloc: Global) -> Result<Ids, NoMemory>
+        requires few { length self.now.symbols ≤ most_names }
+        ensures { IfOk result (λ ids. ids ≡ filter (is_marked self.now.symbols) (ids_below (length self.now.symbols))) }
+    {
+        let mut ids = Ids::new(alloc);
+        for id in 0..self.symbols.len() {
+            if self.symbols[id].is_carried() {
+                ids.push(id as u16)?;
+            }
+        }
+        Ok(ids)
     }
 
     /// How many stocks there are.

@@ -1,4 +1,5 @@
-// From when on, and over which market, alarms of stocks hold.
+//! From when on, and over which market, alarms of stocks hold.
+
 ghost use Rattle.std.specs.Prelude.{◌≡◌, ◌≤◌, ℕ, true, Some, List, length};
 ghost use Rattle.symbol_core.specs.Rests.{SymbolState};
 ghost use Rattle.market_core.specs.Sections.{EachIdles, Idles, IdlesUntil};

@@ -1,4 +1,5 @@
-// The symbols of a market, evaluated one after the other.
+//! The symbols of a market, evaluated one after the other.
+
 ghost use Rattle.std.specs.Prelude.{◌≡◌, ◌+◌, ◌*◌, ◌≤◌, ◌++◌, ◌∷◌, [], false, OnOk, OnErr, IsOk, vec_len, vec_capacity, length};
 ghost use Rattle.wire_in.specs.Records.{moment_of};
 ghost use Rattle.symbol_core.specs.Evaluates.{most_of_symbol};

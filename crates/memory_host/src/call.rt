@@ -1,4 +1,5 @@
-// The calls of a host in memory, and their counts.
+//! The calls of a host in memory, and their counts.
+
 ghost use Rattle.std.specs.Prelude.{◌≡◌, ◌<◌};
 ghost use Rattle.host_core.specs.Outside.{raised};
 

@@ -1,4 +1,4 @@
-// What was done to a disk and a sink in memory.
+//! What was done to a disk and a sink in memory.
 
 /// A call that changed the disk or the sink, or what a stop may leave: a write of a piece at an offset, a write that
 /// failed and may have torn what stood there, a sync, or a send of a piece.

@@ -1,4 +1,5 @@
-// The changes that a call of a host in memory makes, each whole or not at all.
+//! The changes that a call of a host in memory makes, each whole or not at all.
+
 ghost use Rattle.std.specs.Prelude.{◌≡◌, ◌≤◌, [], ◌∷◌, ◌++◌, length, OnOk, OnErr};
 ghost use Rattle.host_core.specs.Outside.{written};
 ghost use Rattle.memory_host.specs.declared.effect.Effect.TheVariants.{Wrote, Tore, Synced, Sent};

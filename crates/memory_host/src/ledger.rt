@@ -1,4 +1,5 @@
-// What a host in memory was asked, and what it counts.
+//! What a host in memory was asked, and what it counts.
+
 ghost use Rattle.std.specs.Prelude.{◌≡◌, ◌<◌, ◌↔◌, ◌^◌, ◌-◌, [], None, IsTrue, IsErr};
 ghost use Rattle.host_core.specs.Outside.{raised};
 ghost use Rattle.host_core.specs.Counts.{faulted, NoneFalls};

@@ -1,4 +1,5 @@
-// A host in memory. It keeps the effects of its calls, from which what a stop may leave follows.
+//! A host in memory. It keeps the effects of its calls, from which what a stop may leave follows.
+
 ghost use Rattle.std.specs.Prelude.{◌≡◌, ◌≤◌, [], length, All};
 ghost use Rattle.memory_host.specs.Effects.{disk_of, sent_of};
 ghost use Rattle.memory_host.specs.Requests.{IsBehind};

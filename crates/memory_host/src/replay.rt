@@ -1,4 +1,5 @@
-// The disk that a stop may leave, effect by effect.
+//! The disk that a stop may leave, effect by effect.
+
 ghost use Rattle.std.specs.Prelude.{◌≡◌, IfOk};
 ghost use Rattle.host_core.specs.Outside.{written};
 ghost use Rattle.memory_host.specs.Effects.{disk_after, filled, image_after, image_of};

@@ -1,3 +1,5 @@
+//! The trading pause of a stock (LULD Plan, Section VII).
+
 ghost use Rattle.std.specs.Prelude.{◌≡◌};
 ghost use Rattle.pause_core.specs.Pauses.{pause};
 

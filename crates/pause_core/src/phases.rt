@@ -1,3 +1,5 @@
+//! What the phases of a stock have in common.
+
 ghost use Rattle.std.specs.Prelude.{◌≡◌};
 ghost use Rattle.pause_core.specs.Phases.{can_start, can_market_halt, is_done, is_in_regulatory_halt, is_limit, is_trading};
 

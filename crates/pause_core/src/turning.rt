@@ -1,3 +1,5 @@
+//! How the phase of a stock turns.
+
 ghost use Rattle.std.specs.Prelude.{◌≡◌, ◌++◌, option_to_list};
 ghost use Rattle.pause_core.specs.Turns.{session_close, regulatory_halt, phase_after_regulatory_halt, in_order, start, starts, market_halt, market_halts, turns};
 

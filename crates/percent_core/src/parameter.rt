@@ -1,3 +1,5 @@
+//! The percentages of price bands (LULD Plan, Appendix A).
+
 ghost use Rattle.std.specs.Prelude.{◌≡◌, ◌<◌, ◌≤◌};
 ghost use Rattle.percent_core.specs.Percentages.{category, least_percent, percent, span};
 ghost use Rattle.percent_core.specs.Keys.{key_of};

@@ -1,3 +1,5 @@
+//! Price bands around a reference price (LULD Plan, Section V).
+
 ghost use Rattle.std.specs.Prelude.{◌≡◌, ◌+◌, ◌*◌, ◌<◌, ◌≤◌};
 ghost use Rattle.price_core.specs.Rounding.{round_cent};
 ghost use Rattle.percent_core.specs.Percentages.{least_percent};

@@ -1,3 +1,5 @@
+//! Means of prices, and moves by a percentage.
+
 ghost use Rattle.std.specs.Prelude.{◌≡◌, ◌*◌, ◌<◌, ◌≤◌, ◌^◌};
 ghost use Rattle.price_core.specs.Rounding.{mean, round_cent};
 ghost use Rattle.price_core.specs.Moves.{moved_one_percent, fell};

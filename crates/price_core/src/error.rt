@@ -1,3 +1,5 @@
+//! What a call may fail with: want of memory, and a number out of its range.
+
 ghost use Rattle.std.specs.Prelude.{◌≡◌};
 
 use std::alloc::{AllocError, AllocFailed};

@@ -1,3 +1,5 @@
+//! What is said of a stock's prices: its tier and category, its price bands, quotations and collars.
+
 use crate::value::Price;
 
 /// The tier of a stock (LULD Plan, Appendix A).

@@ -1,3 +1,5 @@
+//! Prices, in ten-thousandths of a dollar.
+
 ghost use Rattle.std.specs.Prelude.{◌≡◌, ◌↔◌, IsOk, IfOk};
 ghost use Rattle.price_core.specs.Ranges.{IsPrice, IsIndex, IsLeverage};
 

@@ -1,3 +1,5 @@
+//! The reference price of a stock (LULD Plan, Section V).
+
 ghost use Rattle.std.specs.Prelude.{◌≡◌, ◌∷◌, ℕ, false, List, Option, None, Some};
 ghost use Rattle.refprice_core.specs.Prices.{awaits_from, awaits_mean, because, observed, forced, first_price, is_in_opening_period, cause_of, price_of, adopted_at};
 ghost use Rattle.refprice_core.specs.Runs.{Call, Adopt, Begin, Release, Observe, Force, events, begun_in, last_in};

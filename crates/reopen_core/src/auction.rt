@@ -1,3 +1,5 @@
+//! The reopening auction of one stock (after Nasdaq Rule 4120).
+
 ghost use Rattle.std.specs.Prelude.{◌≡◌, ◌+◌, ◌*◌, ◌<◌, ◌≤◌, ◌∷◌, ℕ, Bool, List};
 ghost use Rattle.session_core.specs.Durations.{five_minutes};
 ghost use Rattle.price_core.specs.declared.quote.Collars.{Collars};

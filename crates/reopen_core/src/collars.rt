@@ -1,3 +1,5 @@
+//! The collars of an auction, and how they widen.
+
 ghost use Rattle.std.specs.Prelude.{◌≡◌, ◌<◌, ◌^◌};
 ghost use Rattle.reopen_core.specs.Collars.{auction_reference, collar_step, below, above, first_collars, with_lower, with_upper};
 

@@ -1,3 +1,5 @@
+//! Tests of the rules, one file for each rule.
+
 mod audit;
 mod breaker;
 mod cross;

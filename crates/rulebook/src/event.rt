@@ -1,3 +1,5 @@
+//! The events of a history.
+
 use wire_in::Record;
 use wire_out::Message;
 

@@ -1,3 +1,5 @@
+//! What is said of one stock: its listing terms, and its price bands.
+
 use price_core::{Bands, Cause, Leverage, Price, Tier};
 
 /// What a listing says of its symbol for the day: its tier, its leverage ratio in tenths, and the prior closing price in

@@ -1,3 +1,5 @@
+//! Dates of the calendar.
+
 ghost use Rattle.std.specs.Prelude.{◌≡◌, ◌↔◌, ◌+◌, ◌<◌, IsTrue, IsOk};
 ghost use Rattle.session_core.specs.Dates.{IsYear, IsMonth, IsDayOf, IsCivil, date_number, text_of};
 ghost use Rattle.session_core.specs.CivilDates.{civil_date};

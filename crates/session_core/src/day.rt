@@ -1,3 +1,5 @@
+//! A trading day: its date, its close and its profile.
+
 ghost use Rattle.std.specs.Prelude.{◌≡◌};
 ghost use Rattle.session_core.specs.Times.{session_close, in_session, in_last_25_minutes, in_last_10_minutes, may_declare_brief};
 

@@ -1,3 +1,5 @@
+//! Moments of a day, in nanoseconds since midnight.
+
 ghost use Rattle.std.specs.Prelude.{◌≡◌, ◌↔◌, ◌-◌, ◌<◌, ◌≤◌, IsOk, IfOk};
 ghost use Rattle.session_core.specs.Moments.{IsMoment};
 

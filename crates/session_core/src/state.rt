@@ -1,3 +1,5 @@
+//! Parts of the session, phases of a stock, and levels of the market.
+
 /// The part of the session by which percentages are doubled: the first 15 minutes, the last 25, or between
 /// (LULD Plan, Appendix A).
 #[derive(Clone, Copy, Debug, PartialEq, Eq)]

@@ -60,3 +60,10 @@ none_stand lead stocks led none = subst (λ (xs : List SymbolState). Represents 
   symbols = record { ids = λ s held found. absurd cc; rests = λ s held found. absurd cc };
   others = λ s le. search rules;
 })
+
+-- as many parts as before, of which none has too many stocks
+pub as_many : (told : ℕ) (parts news left : List SectionState) → left ≡ news → length news ≡ length parts → 0 < length parts → length parts ≤ 64 → told ≡ length parts → AreFew news
+    → (0 < length left) × (length left ≤ 64) × (told ≡ length left) × AreFew left
+as_many told parts news left is count some few lists small =
+    subst (λ (ps : List SectionState). (0 < length ps) × (length ps ≤ 64) × (told ≡ length ps) × AreFew ps) (sym is)
+    (omega (arith, count, some), omega (arith, count, few), omega (arith, count, lists), small)

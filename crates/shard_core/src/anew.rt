@@ -1,4 +1,5 @@
-// Ranges of ids that are cut anew between blocks, by the records that the ids had.
+//! Ranges of ids that are cut anew between blocks, by the records that the ids had.
+
 ghost use Rattle.std.specs.Prelude.{◌≡◌, ◌+◌, ◌<◌, ◌≤◌, ◌++◌, IsOk, OnOk, flat_map, length};
 ghost use Rattle.rulebook.specs.Admission.{most_names};
 ghost use Rattle.shard_core.specs.Turns.{AreFew};
@@ -50,6 +51,21 @@ impl Counts {
             records: 0,
             listed: true,
         }
+    }
+
+    /// One record of each of so many ids, at most 16,384.
+    fn of_each(alloc: Global, count: usize) -> Result<Counts, NoMemory>
+        requires few { count ≤ most_names }
+    {
+        let mut of_ids = Vec::with_capacity(alloc, count)?;
+        for _id in 0..count {
+            of_ids.push_reserved(1);
+        }
+        Ok(Counts {
+            of_ids,
+            records: 0,
+            listed: false,
+        })
     }
 
     /// Counts the records of a block that are of one id each. An error leaves some of them counted.
@@ -157,6 +173,27 @@ fn deal(all: Section, ends: &[u32], parts: &mut [Section]) -> Result<(), NoMemor
     }
     parts[0] = left;
     Ok(())
+}
+
+/// Deals stocks out to parts in their order, to each of them as many as to the others, and counts a record for each stock.
+pub(crate) fn deal_evenly(
+    alloc: Global,
+    all: Section,
+    parts: &mut [Section],
+) -> Result<Counts, NoMemory>
+    requires parts { (0 < length parts.old) × (length parts.old ≤ 64) }
+    requires few { AreFew parts.old }
+    ensures all { OnOk result (flat_map (λ part. part.symbols) parts.new ≡ all.symbols) }
+    ensures parts { length parts.new ≡ length parts.old }
+    ensures few { AreFew parts.new }
+{
+    if all.len() > MOST_NAMES {
+        return Err(NoMemory);
+    }
+    let counts = Counts::of_each(alloc, all.len())?;
+    let ends = cut(alloc, &counts.of_ids, parts.len() as u32)?;
+    deal(all, &ends, parts)?;
+    Ok(counts)
 }
 
 /// Cuts several parts anew at these upper ends. They have the same stocks in the same order then.

@@ -1,4 +1,5 @@
-// The work of one part at a block, as a job that a worker can take.
+//! The work of one part at a block, as a job that a worker can take.
+
 ghost use Rattle.std.specs.Prelude.{◌≡◌, ◌≤◌, true, false, length};
 ghost use Rattle.rulebook.specs.Admission.{most_names};
 ghost use Rattle.shard_core.specs.Turns.{Tells, noted};

@@ -1,4 +1,5 @@
-// The parts of a market as jobs, worked side by side.
+//! The parts of a market as jobs, worked side by side.
+
 ghost use Rattle.std.specs.Prelude.{◌≡◌, ◌+◌, ◌<◌, ◌≤◌, IfOk, OnOk, length, map};
 ghost use Rattle.rulebook.specs.Admission.{most_names};
 ghost use Rattle.shard_core.specs.Jobs.{AreBack, AreJobsOf, IsJobOf};

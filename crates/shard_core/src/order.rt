@@ -1,4 +1,5 @@
-// Messages of several parts in one order.
+//! Messages of several parts in one order.
+
 ghost use Rattle.std.specs.Prelude.{◌≡◌, ℕ, ◌+◌, ◌≤◌, ◌++◌, ◌∷◌, map, flat_map, length, IfOk, OnOk, OnErr, vec_len, vec_capacity};
 ghost use Rattle.std.specs.List.Sorted.{IsNonDecreasingBy, IsPermutation};
 ghost use Rattle.shard_core.specs.Merged.{of_input, merged, further, AreOfFirst, GoesOn};

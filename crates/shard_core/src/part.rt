@@ -1,4 +1,5 @@
-// What a part does at the records of a block: the symbols of a range of ids.
+//! What a part does at the records of a block: the symbols of a range of ids.
+
 ghost use Rattle.std.specs.Prelude.{◌≡◌, ◌+◌, ◌*◌, ◌<◌, ◌≤◌, ℕ, Bool, true, [], OnOk, length, map, vec_len, vec_capacity};
 ghost use Rattle.symbol_core.specs.Evaluates.{most_of_symbol};
 ghost use Rattle.rulebook.specs.Admission.{most_names};

@@ -1,4 +1,5 @@
-// A block, taken piece by piece.
+//! A block, taken piece by piece.
+
 ghost use Rattle.std.specs.Prelude.{◌≡◌, ℕ, ◌≤◌, ◌++◌, true, List, OnOk, is_ok, length};
 ghost use Rattle.wire_in.specs.declared.record.Record.{Record};
 ghost use Rattle.shard_core.specs.Block.{AreAdmissible, Represents, followed, given};

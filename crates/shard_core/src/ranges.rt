@@ -1,4 +1,5 @@
-// Ranges of ids that have about the same load each.
+//! Ranges of ids that have about the same load each.
+
 ghost use Rattle.std.specs.Prelude.{◌≡◌, ℕ, ◌+◌, ◌*◌, ◌<◌, ◌≤◌, length, take, sum, IfOk};
 ghost use Rattle.rulebook.specs.Admission.{most_names};
 ghost use Rattle.shard_core.specs.Shares.{AreRangeEnds};

@@ -1,11 +1,15 @@
-ghost use Rattle.std.specs.Prelude.{◌≡◌, ℕ, ◌+◌, ◌<◌, ◌≤◌, ◌++◌, [], true, false, List, IfOk, IsOk, OnOk, OnErr, is_ok, length};
+//! One market in several parts.
+
+ghost use Rattle.std.specs.Prelude.{◌≡◌, ℕ, ◌+◌, ◌<◌, ◌≤◌, ◌++◌, [], true, false, List, Some, IfOk, IsOk, OnOk, OnErr, is_ok, length};
 ghost use Rattle.wire_in.specs.declared.record.Record.{Record};
-ghost use Rattle.rulebook.specs.Admission.{most_names};
+ghost use Rattle.wire_in.specs.Bases.{IsInRange};
+ghost use Rattle.rulebook.specs.Admission.{IsLawful, most_names};
+ghost use Rattle.rulebook.specs.Base.{base_of, stand_in};
 ghost use Rattle.shard_core.specs.Block.{AreAdmissible, Represents, followed, given, given_from, market_of};
 ghost use Rattle.shard_core.specs.Merged.{GoesOn};
 ghost use Rattle.shard_core.specs.Turns.{AreEmpty};
 
-use crate::anew::{Counts, count, even_out, gather};
+use crate::anew::{Counts, count, deal_evenly, even_out, gather};
 use crate::jobs::work_parts;
 use crate::order::merge;
 use crate::pieces::pieces;
@@ -17,7 +21,7 @@ use std::alloc::Global;
 use std::marker::Model;
 use std::mem;
 use std::thread::Threads;
-use wire_in::Record;
+use wire_in::{Base, Record};
 use wire_out::Stamped;
 use yard_core::Gate;
 
@@ -101,6 +105,42 @@ impl Shards {
             market: Vec::new(alloc),
             told,
         })
+    }
+
+    /// One market in so many parts, from 1 to 64, which have as many of its stocks each.
+    fn of(alloc: Global, workers: u32, market: Market) -> Result<Shards, NoMemory>
+        requires workers { (0 < workers) × (workers ≤ 64) }
+        ensures one { IfOk result (λ shards. market_of shards ≡ market) }
+        ensures parts { IfOk result (λ shards. length shards.parts ≡ workers) }
+        ensures working { IfOk result (λ shards. shards.working ≡ true) }
+    {
+        let (lead, all) = market.into_parts();
+        let mut parts = sections(alloc, workers)?;
+        let counts = deal_evenly(alloc, all, &mut parts)?;
+        let told = lists(alloc, workers)?;
+        Ok(Shards {
+            lead,
+            parts,
+            working: true,
+            counts,
+            turns: Vec::new(alloc),
+            said: Vec::new(alloc),
+            market: Vec::new(alloc),
+            told,
+        })
+    }
+
+    /// The market of whatever records have a base, in so many parts, from 1 to 64.
+    pub fn restore(alloc: Global, workers: u32, base: &Base) -> Result<Shards, NoMemory>
+        requires workers { (0 < workers) × (workers ≤ 64) }
+        requires range { IsInRange base.now }
+        ensures stands { IfOk result (λ shards. (capacity : ℕ) (applied : List Record) → base_of applied ≡ Some base.now → IsLawful capacity applied → Represents shards applied) }
+        ensures stand_in { IfOk result (λ shards. Represents shards (stand_in base.now)) }
+        ensures parts { IfOk result (λ shards. length shards.parts ≡ workers) }
+        ensures working { IfOk result (λ shards. shards.working ≡ true) }
+    {
+        let market = Market::restore(alloc, base)?;
+        Shards::of(alloc, workers, market)
     }
 
     /// How many names were ever listed.

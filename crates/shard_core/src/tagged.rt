@@ -1,3 +1,5 @@
+//! Messages with the index of their record.
+
 use wire_out::Stamped;
 
 /// A message, and the index in its block of the record that it answers, from 0.

@@ -1,4 +1,5 @@
-// What the market's part notes of a block, before its symbols are evaluated.
+//! What the market's part notes of a block, before its symbols are evaluated.
+
 ghost use Rattle.std.specs.Prelude.{◌≡◌, ◌+◌, ◌<◌, ◌≤◌, ◌++◌, ◌∷◌, [], true, false, Some, IfOk, OnOk, IsSome, length, option_map, vec_len, vec_capacity};
 ghost use Rattle.wire_in.specs.Records.{is_day, moment_of};
 ghost use Rattle.market_core.specs.Leads.{led, rulings};

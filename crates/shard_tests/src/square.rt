@@ -1,3 +1,5 @@
+//! A job that squares its number.
+
 ghost use Rattle.std.specs.Prelude.{◌≡◌, ◌*◌, true};
 
 use yard_core::Job;

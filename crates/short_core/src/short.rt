@@ -1,3 +1,5 @@
+//! The short sale restriction of one stock (17 CFR 242.201).
+
 ghost use Rattle.std.specs.Prelude.{◌≡◌, ◌&&◌, ◌||◌, [], ◌∷◌, List, not};
 ghost use Rattle.short_core.specs.Restriction.{Trades, relisted, traded, triggers, has_triggered, is_carried, is_restricted};
 

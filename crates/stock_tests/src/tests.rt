@@ -1,4 +1,5 @@
-// Records in few words: of ABC, whose id is 0, on days of June 2024.
+//! Records in few words: of ABC, whose id is 0, on days of June 2024.
+
 mod admission;
 mod due;
 mod market;

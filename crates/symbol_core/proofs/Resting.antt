@@ -32,6 +32,7 @@ use Rattle.rulebook.proofs.OtherRecords.{day_record-same}
 use Rattle.symbol_core.specs.declared.state.Kept.{Kept}
 use Rattle.symbol_core.specs.Auctions.{auction_by}
 use Rattle.symbol_core.specs.Kept.{heard}
+use Rattle.symbol_core.specs.Fresh.{IsFresh}
 use Rattle.symbol_core.specs.Rests.{Rests, SymbolState, deals_today}
 use Rattle.symbol_core.specs.Runs.{adoption_by, run_adopted, run_band, run_begun, run_quote}
 use Rattle.symbol_core.specs.Silent.{AllSilent, IsOfOthers, IsSilent, SaysNothing}
@@ -279,3 +280,33 @@ rests-new mine s (Accepted x ∷ h) q = by (is_day x) refl (rests-new mine s h q
     by : (b : Bool) → is_day x ≡ b → Rests mine fresh h → Rests mine fresh (Accepted x ∷ h)
     by true e before = rests-renewed mine fresh x h e before
     by false e before = rests-record mine fresh x h e q.0 (record { at = λ u le. ap (λ (ds : List Deal). live u ds) (sym (none_today s h before.begun)) }) before
+
+-- Of what a symbol rested on before a day, nothing is left at it but whether its restriction is carried.
+
+begins_day : (mine : List ℕ → Bool) (s spare : ℕ) (carried : Bool) (x : Record) (h : List Event) → is_day x ≡ true → rules.is_carried (Accepted x ∷ h) mine s ≡ carried
+    → Rests mine (record { kept = renewed s carried; deals = []; spare = spare }) (Accepted x ∷ h)
+begins_day mine s spare carried x h =
+    by_listing
+    (λ y. is_day y ≡ true → rules.is_carried (Accepted y ∷ h) mine s ≡ carried → Rests mine (record { kept = renewed s carried; deals = []; spare = spare }) (Accepted y ∷ h))
+    (λ t day index is e. record {
+      terms = refl;
+      phase = refl;
+      since = refl;
+      begun = refl;
+      quote = refl;
+      band = refl;
+      adopted = refl;
+      straddling = refl;
+      halted = refl;
+      auction = refl;
+      prior_close = refl;
+      triggered = refl;
+      carried = sym e;
+      deals = record { at = λ u le. refl };
+    })
+    (λ t n k l c is e. cc) (λ y o is e. let both : true ≡ false = sym is ∙ o.no_day in cc) x
+
+pub rests-fresh : (mine : List ℕ → Bool) (s : ℕ) (carried : Bool) (held : SymbolState) (x : Record) (h : List Event) → IsFresh s carried held → is_day x ≡ true
+    → rules.is_carried (Accepted x ∷ h) mine s ≡ carried → Rests mine held (Accepted x ∷ h)
+rests-fresh mine s carried held x h fresh begins e =
+    subst (λ (q : SymbolState). Rests mine q (Accepted x ∷ h)) (λ i. record { kept = sym fresh.kept i; deals = sym fresh.deals i; spare = held.spare }) (begins_day mine s held.spare carried x h begins e)

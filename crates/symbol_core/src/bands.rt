@@ -1,4 +1,5 @@
-// Reference prices and price bands (LULD Plan, Section V).
+//! Reference prices and price bands (LULD Plan, Section V).
+
 ghost use Rattle.std.specs.Prelude.{◌≡◌, ◌+◌, ◌≤◌, [], true, false, Some, ℕ, List, Option, option_map, length};
 ghost use Rattle.std.specs.Option.{option_map_or};
 ghost use Rattle.price_core.specs.Moves.{moved_one_percent};

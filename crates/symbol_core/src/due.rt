@@ -1,4 +1,5 @@
-// When a symbol is next due: before that, clocks and index ticks bring nothing of it.
+//! When a symbol is next due: before that, clocks and index ticks bring nothing of it.
+
 ghost use Rattle.std.specs.Prelude.{◌≡◌, ◌<◌, ◌≤◌, ◌&&◌, ◌||◌, ℕ, true, false, None, Some, IfSome, List, is_some, not};
 ghost use Rattle.session_core.specs.declared.day.Day.{Day};
 ghost use Rattle.session_core.specs.Times.{is_closed};

@@ -1,4 +1,5 @@
-// Taking a record in, and the deals that are kept at the end of a step.
+//! Taking a record in, and the deals that are kept at the end of a step.
+
 ghost use Rattle.std.specs.Prelude.{◌≡◌, ◌≤◌, ◌++◌, [], is_some, if◌then◌else◌, filter, length, option_to_list};
 ghost use Rattle.window_core.specs.Deals.{live};
 ghost use Rattle.symbol_core.specs.InStep.{in_step, just_opened};

@@ -1,3 +1,5 @@
+//! The messages of one stock at one record.
+
 ghost use Rattle.std.specs.Prelude.{◌≡◌, ◌+◌, ◌≤◌, ◌++◌, ◌∷◌, [], IfOk, length};
 ghost use Rattle.symbol_core.specs.Evaluates.{most_of_symbol};
 

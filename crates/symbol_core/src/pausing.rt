@@ -1,4 +1,5 @@
-// Trading pauses (LULD Plan, Section VII).
+//! Trading pauses (LULD Plan, Section VII).
+
 ghost use Rattle.std.specs.Prelude.{◌≡◌, ◌+◌, ◌≤◌, [], List, true, false, length};
 ghost use Rattle.std.specs.Option.{option_map_or};
 ghost use Rattle.pause_core.specs.Phases.{is_done};

@@ -1,4 +1,5 @@
-// The rules that turn a phase: the close, a market-wide halt, the start, a regulatory halt, and limit and straddle states.
+//! The rules that turn a phase: the close, a market-wide halt, the start, a regulatory halt, and limit and straddle states.
+
 ghost use Rattle.std.specs.Prelude.{◌≡◌, ◌+◌, ◌≤◌, ◌&&◌, true, false, List, option_to_list, length};
 ghost use Rattle.std.specs.Option.{option_map_or};
 ghost use Rattle.session_core.specs.Times.{is_closed};

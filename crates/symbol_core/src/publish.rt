@@ -1,4 +1,5 @@
-// What a symbol says, and what is then kept of it.
+//! What a symbol says, and what is then kept of it.
+
 ghost use Rattle.std.specs.Prelude.{true, false, None, Some, ◌≡◌, ◌+◌, ◌≤◌, ◌++◌, ◌∷◌, [], List, option_map, length};
 ghost use Rattle.rulebook.specs.Auction.{is_paused, origin_of};
 ghost use Rattle.rulebook.specs.Symbol.{is_times};

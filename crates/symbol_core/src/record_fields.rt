@@ -1,4 +1,5 @@
-// What a record says of a symbol.
+//! What a record says of a symbol.
+
 ghost use Rattle.std.specs.Prelude.{◌≡◌, ◌+◌};
 ghost use Rattle.session_core.specs.Durations.{five_minutes};
 ghost use Rattle.rulebook.specs.Auction.{indicated_by};

@@ -1,4 +1,5 @@
-// Reopening auctions (after Nasdaq Rule 4120).
+//! Reopening auctions (after Nasdaq Rule 4120).
+
 ghost use Rattle.std.specs.Prelude.{◌≡◌, ◌+◌, ◌≤◌, ◌∷◌, Some, List, false, option_map, length};
 ghost use Rattle.pause_core.specs.Phases.{is_done};
 ghost use Rattle.reopen_core.specs.AuctionState.{with_trial};

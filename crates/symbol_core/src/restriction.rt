@@ -1,4 +1,5 @@
-// The short sale restriction (17 CFR 242.201).
+//! The short sale restriction (17 CFR 242.201).
+
 ghost use Rattle.std.specs.Prelude.{◌≡◌, ◌+◌, ◌≤◌, List, false, length};
 ghost use Rattle.pause_core.specs.Phases.{is_done};
 ghost use Rattle.rulebook.specs.Rules as rules;

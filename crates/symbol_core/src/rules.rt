@@ -1,3 +1,5 @@
+//! The rules of a stock, in the order in which each step tries them.
+
 ghost use Rattle.std.specs.Prelude.{◌≡◌, ◌+◌, ◌≤◌, false, length};
 ghost use Rattle.rulebook.specs.Book.{symbol_rules};
 ghost use Rattle.symbol_core.specs.Evaluates.{most_of_symbol};

@@ -1,3 +1,5 @@
+//! What is kept of a stock, and what holds during a step.
+
 use price_core::{Price, Quotation};
 use refprice_core::Reference;
 use reopen_core::Auction;

@@ -1,3 +1,5 @@
+//! One stock, kept from record to record.
+
 ghost use Rattle.std.specs.Prelude.{◌≡◌, ◌+◌, ◌<◌, ◌≤◌, ℕ, Bool, true, false, None, Some, IfSome, List, [], ◌∷◌, ◌&&◌, not, IsOk, IfOk, OnOk, OnErr, is_some, length, option_to_list};
 ghost use Rattle.wire_in.specs.Records.{is_day, is_tick, moment_of};
 ghost use Rattle.pause_core.specs.Phases.{is_trading};
@@ -93,7 +95,9 @@ fn reserve_for(id: u16, step: &Step, deals: &mut Window) -> Result<(), NoMemory>
 }
 
 impl Symbol {
+    ghost use Rattle.rulebook.specs.Rules.{is_carried};
     ghost use Rattle.symbol_core.specs.Evaluates.{Evaluates};
+    ghost use Rattle.symbol_core.specs.Fresh.{IsFresh};
     ghost use Rattle.symbol_core.specs.Rests.{Rests};
     ghost use Rattle.symbol_core.specs.Silent.{SaysNothing};
 
@@ -108,6 +112,28 @@ impl Symbol {
             deals: Window::new(alloc)?,
             due: None,
         })
+    }
+
+    /// The symbol of an id on a day on which nothing was said of it yet, and which carries its short sale restriction or not: it
+    /// stands for whatever came before that leaves just that. It takes no memory.
+    pub fn restore(alloc: Global, id: u16, carried: bool) -> Result<Symbol, NoMemory>
+        ensures succeeds { IsOk result }
+        ensures fresh { IfOk result (IsFresh id carried) }
+        ensures rests { IfOk result (λ s. (own : List ℕ → Bool) (day : Record) (h : List Event) → is_day day ≡ true → is_carried (Event.Accepted day ∷ h) own id ≡ carried → Rests own s (Event.Accepted day ∷ h)) }
+    {
+        Ok(Symbol {
+            kept: Kept::renewed(id, carried),
+            deals: Window::new(alloc)?,
+            due: None,
+        })
+    }
+
+    /// Whether the day carries its short sale restriction from the day before.
+    pub fn is_carried(&self) -> bool
+        ensures value { result ≡ self.now.kept.short.carried }
+        ensures carried { (own : List ℕ → Bool) (h : List Event) → Rests own self.now h → result ≡ is_carried h own self.now.kept.id }
+    {
+        self.kept.short.is_carried()
     }
 
     /// The phase of its trading.

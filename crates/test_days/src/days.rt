@@ -1,4 +1,5 @@
-// Lines of days on which ABC is listed, opened or paused.
+//! Lines of days on which ABC is listed, opened or paused.
+
 use crate::frames::BadLine;
 use crate::lines::{Line, at, band, clock, collar, day, listed, listing, quote, state, trade};
 use price_core::{Cause, Tier};

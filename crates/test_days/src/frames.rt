@@ -1,4 +1,5 @@
-// Lines as bytes: what is read, what a replay sends, and what a session over a journal sends.
+//! Lines as bytes: what is read, what a replay sends, and what a session over a journal sends.
+
 ghost use Rattle.std.specs.Prelude.{◌≡◌, IsTrue, length};
 ghost use Rattle.wire_core.specs.Names.{is_name};
 ghost use Rattle.wire_in.specs.Spelling.{InRange};

@@ -1,4 +1,5 @@
-// Lines of a day, in few words. Prices are ten-thousandths of a dollar. The stock of most lines is ABC, with the id 0.
+//! Lines of a day, in few words. Prices are ten-thousandths of a dollar. The stock of most lines is ABC, with the id 0.
+
 use price_core::{Cause, Index, Leverage, Price, Tier, Unmatched};
 use session_core::{Close, Date, Day, Level, Moment, Phase, Profile};
 use wire_in::{Record, Refusal};

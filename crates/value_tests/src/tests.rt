@@ -1,3 +1,5 @@
+//! Tests of values: prices, sessions, tables of cases and alarms.
+
 mod alarm;
 mod cases;
 mod price;

@@ -1,4 +1,5 @@
-// Bounds on the prices of a window's deals.
+//! Bounds on the prices of a window's deals.
+
 ghost use Rattle.std.specs.Prelude.{◌≡◌, ℕ, true, false};
 ghost use Rattle.price_core.specs.Moves.{moved_one_percent};
 ghost use Rattle.window_core.specs.Bounds.{IsWithin, bounds_with, extent_with, no_bounds, no_extent, turned};

@@ -1,4 +1,5 @@
-// When the mean of deals may have moved, while they leave one after the other.
+//! When the mean of deals may have moved, while they leave one after the other.
+
 ghost use Rattle.std.specs.Prelude.{◌≡◌, ◌+◌, ◌*◌, ◌≤◌, ◌<◌, ◌==◌, ◌∷◌, [], ℕ, List, false, None, Some, if◌then◌else◌, length, max};
 ghost use Rattle.std.specs.Option.{option_map_or};
 ghost use Rattle.price_core.specs.Moves.{moved_one_percent};

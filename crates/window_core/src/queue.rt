@@ -1,4 +1,5 @@
-// The deals of a window, in a queue.
+//! The deals of a window, in a queue.
+
 ghost use Rattle.std.specs.Prelude.{◌≡◌, ◌+◌, ◌*◌, ◌≤◌, ◌++◌, ◌∷◌, ◌&&◌, [], IsOk, OnErr, OnOk, filter, length, nat_le, slice_get, sum_by};
 ghost use Rattle.std.specs.VecDeque.{deque_len, deque_capacity};
 ghost use Rattle.window_core.specs.Deals.{live, stays};

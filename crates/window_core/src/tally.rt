@@ -1,3 +1,5 @@
+//! What the trades of a window add up to.
+
 ghost use Rattle.std.specs.Prelude.{◌-◌, ◌≡◌, ◌==◌, ◌+◌, ◌*◌, ◌≤◌, ◌<◌, ◌++◌, ◌^◌, ◌||◌, None, Some, false, filter, nat_le, nat_lt, if◌then◌else◌, length, option_to_list};
 ghost use Rattle.std.specs.Option.{option_map_or};
 ghost use Rattle.price_core.specs.Moves.{moved_one_percent};

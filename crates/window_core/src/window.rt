@@ -1,3 +1,5 @@
+//! The eligible trades of the last five minutes of a stock, and their mean.
+
 ghost use Rattle.std.specs.Prelude.{◌≡◌, ℕ, true, false, ◌+◌, ◌≤◌, ◌<◌, ◌++◌, ◌∷◌, [], List, IsOk, IfOk, OnErr, OnOk, filter, option_map, option_to_list, slice_get};
 ghost use Rattle.std.specs.Option.{option_map_or};
 ghost use Rattle.price_core.specs.Moves.{moved_one_percent};

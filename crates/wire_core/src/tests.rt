@@ -1,3 +1,5 @@
+//! Fields at the edges of their ranges.
+
 use super::*;
 
 /// The eight bytes of a number, behind one other byte.

@@ -1,3 +1,5 @@
+//! The records of a day, and why one is refused.
+
 ghost use Rattle.std.specs.Prelude.{◌≡◌};
 
 use price_core::{Index, Leverage, Price, Tier, Unmatched};

@@ -1,3 +1,5 @@
+//! Messages, and the frames that carry them.
+
 use price_core::{Cause, Index, Price};
 use session_core::{Level, Moment, Phase};
 

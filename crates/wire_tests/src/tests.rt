@@ -1,3 +1,5 @@
+//! Tests of frames: records, published frames and their bytes.
+
 mod bases;
 mod bytes;
 mod published;

@@ -111,7 +111,7 @@ fn format_line<'a>(alloc: Global) -> Result<Command<'a>, AllocError>
         command(
             alloc,
             "format",
-            "Makes an empty journal, over what stands there",
+            "Makes an empty journal where none with records stands",
         ),
         limit,
     )

@@ -1,4 +1,5 @@
-// The end of a yard: its seats become one, and its jobs leave their slots.
+//! The end of a yard: its seats become one, and its jobs leave their slots.
+
 ghost use Rattle.std.specs.Prelude.{◌≡◌, ℕ, ◌<◌, ◌≤◌, [], All, map, Some, vec_len, vec_capacity};
 ghost use Rattle.std.specs.Slots.{slots_items, slots_len, IsFull};
 ghost use mathlib.Core.Option.{some};

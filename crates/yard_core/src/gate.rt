@@ -1,4 +1,4 @@
-// What each worker passes before it works a piece.
+//! What each worker passes before it works a piece.
 
 /// A gate that each worker passes before it works a piece. A test may hold workers up there.
 pub trait Gate: Sync {

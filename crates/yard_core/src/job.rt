@@ -1,3 +1,5 @@
+//! What workers share out.
+
 ghost use Rattle.std.specs.Prelude.{◌≡◌, ℕ, ◌↔◌, IsTrue};
 
 /// A piece of work with its place. What it was made from is plain data, which it keeps.

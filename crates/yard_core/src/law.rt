@@ -1,4 +1,5 @@
-// What the rule of a yard says of all its seats at once.
+//! What the rule of a yard says of all its seats at once.
+
 ghost use Rattle.std.specs.Prelude.{◌≡◌, ℕ, ◌<◌, ◌≤◌, List, Option, length};
 ghost use mathlib.Core.Option.{some};
 ghost use lib.ListN.{get_elem?};

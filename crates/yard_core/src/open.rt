@@ -1,4 +1,5 @@
-// The slots and the seats of a new yard.
+//! The slots and the seats of a new yard.
+
 ghost use Rattle.std.specs.Prelude.{◌≡◌, ◌<◌, ◌≤◌, [], All, map, Some, IfOk, vec_len, vec_capacity};
 ghost use Rattle.yard_core.specs.Views.{first_view};
 ghost use Rattle.yard_core.specs.Seats.{jobs_of, seats_of, table_of, IsFresh};

@@ -1,4 +1,5 @@
-// Room for the jobs that a yard gives back.
+//! Room for the jobs that a yard gives back.
+
 ghost use Rattle.std.specs.Prelude.{◌≡◌, ◌≤◌, [], vec_capacity};
 
 use std::alloc::{AllocError, Global};

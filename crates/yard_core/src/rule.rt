@@ -1,4 +1,5 @@
-// The rule of a yard's table, and the names of its steps.
+//! The rule of a yard's table, and the names of its steps.
+
 ghost use Rattle.std.specs.Prelude.{map};
 ghost use Rattle.yard_core.specs.Views.{first_view, left_view, right_view, joined, spent};
 ghost use Rattle.yard_core.specs.YardState.{YardState};

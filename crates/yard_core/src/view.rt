@@ -1,3 +1,5 @@
+//! What a seat of a yard knows.
+
 use std::collections::LinkedList;
 
 /// What a seat has done, for proofs alone: the pieces that it claimed and still has, and those that it gave back.

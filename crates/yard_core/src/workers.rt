@@ -1,4 +1,5 @@
-// All jobs of a yard, worked in several threads.
+//! All jobs of a yard, worked in several threads.
+
 ghost use Rattle.std.specs.Prelude.{◌≡◌, ℕ, ◌<◌, ◌≤◌, All, map, Some, IfOk, vec_len, slice_get};
 ghost use Rattle.yard_core.specs.YardState.{HasPlace};
 ghost use Rattle.yard_core.specs.Seats.{IsFresh, IsDoneAt};

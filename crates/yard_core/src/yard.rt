@@ -1,4 +1,5 @@
-// A yard and its seats.
+//! A yard and its seats.
+
 ghost use Rattle.std.specs.Prelude.{◌≡◌, ℕ, ◌+◌, ◌<◌, ◌≤◌, [], All, map, Some, IfOk, vec_len, vec_capacity, length, slice_get};
 
 use crate::close::{join_seats, take_all};

@@ -1,3 +1,5 @@
+//! Numbers that are drawn for a day.
+
 ghost use Rattle.std.specs.Prelude.{◌<◌};
 
 use price_core::{Index, Leverage, Price, Tier, Unmatched};

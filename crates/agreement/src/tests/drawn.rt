@@ -1,3 +1,5 @@
+//! Drawn days, evaluated in both ways.
+
 use super::draw::Draw;
 use super::expect_agreement;
 use market_core::Admission;

@@ -1,4 +1,5 @@
-// Prices that drift by more than one per cent, while old trades leave the mean.
+//! Prices that drift by more than one per cent, while old trades leave the mean.
+
 use super::expect_agreement;
 use Stretch::{Clocks, Trades};
 use price_core::Tier;

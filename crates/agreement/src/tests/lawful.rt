@@ -1,4 +1,5 @@
-// Records that are not lawful, by the plain evaluation.
+//! Records that are not lawful, by the plain evaluation.
+
 use afresh_core::is_lawful;
 use std::process::Abort;
 use std::test::Fail;

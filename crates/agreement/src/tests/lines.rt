@@ -1,4 +1,5 @@
-// Lines that have no bytes.
+//! Lines that have no bytes.
+
 use price_core::Tier;
 use session_core::Phase;
 use std::process::Abort;

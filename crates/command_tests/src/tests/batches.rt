@@ -1,4 +1,5 @@
-// A journal with a batch of many records, as a program that appends several at once leaves it.
+//! A journal with a batch of many records, as a program that appends several at once leaves it.
+
 ghost use Rattle.std.specs.Prelude.{◌<◌, ◌+◌, IfOk, IsTrue, length};
 ghost use Rattle.journal_core.specs.Journal.{HasBytes};
 

@@ -1,4 +1,5 @@
-// The documented bytes, as they are.
+//! The documented bytes, as they are.
+
 use super::{fall, made, runs};
 use host_core::Status;
 use std::test::Fail;

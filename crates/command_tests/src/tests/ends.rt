@@ -1,4 +1,5 @@
-// How a session ends: at the end of the input, inside a frame, at the limit of bytes, and at faults of reading and sending.
+//! How a session ends: at the end of the input, inside a frame, at the limit of bytes, and at faults of reading and sending.
+
 use super::{fall, fresh, run, runs};
 use host_core::Status;
 use memory_host::{Call, MemoryHost};

@@ -1,4 +1,5 @@
-// A generated day, sent as frames and summed up.
+//! A generated day, sent as frames and summed up.
+
 use super::morning::sent_by;
 use super::{run, runs};
 use host_core::Status;

@@ -1,4 +1,5 @@
-// Batches of several frames: what stands in the journal, what is sent, and what a later session makes of it.
+//! Batches of several frames: what stands in the journal, what is sent, and what a later session makes of it.
+
 use super::{WORKERS, fall, fresh, made, run, runs};
 use host_core::Status;
 use memory_host::MemoryHost;

@@ -1,4 +1,5 @@
-// What a journal holds, told in five lines.
+//! What a journal holds, told in five lines.
+
 use super::{fall, fresh, made, run, serves};
 use host_core::Status;
 use memory_host::{Call, MemoryHost};

@@ -1,4 +1,5 @@
-// Two workers are at work at once.
+//! Two workers are at work at once.
+
 use super::{fresh, run, runs};
 use host_core::Status;
 use memory_host::MemoryHost;

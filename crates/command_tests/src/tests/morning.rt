@@ -1,4 +1,5 @@
-// A morning of many stocks.
+//! A morning of many stocks.
+
 use super::{fresh, run};
 use host_core::Status;
 use memory_host::MemoryHost;

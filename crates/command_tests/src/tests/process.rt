@@ -1,4 +1,5 @@
-// The program started over readers, writers and a real file.
+//! The program started over readers, writers and a real file.
+
 use super::fall;
 use command_core::{host_of, perform};
 use host_core::{Held, Status, Stream, SystemFiles};
@@ -105,6 +106,8 @@ fn a_day_in_two_starts_is_the_whole_day(rt: HostRuntime) -> Result<(), Fail> {
     let held = Session::over(rt.alloc(), 3, 1, &[])?.served;
     let again = [breaker.as_slice(), &held].concat(rt.alloc())?;
     let path = "two-starts.journal";
+    // A file of an earlier run may stand there.
+    let _ = std::fs::remove_file(&rt, path);
     let serve = ["halts", path, "serve", "--from", "1"];
     expect_sent(&rt, &["halts", path, "format", "--limit", "3"], b"", b"")?;
     expect_sent(&rt, &serve[..3], &first.input, &first.served)?;
@@ -117,6 +120,7 @@ fn each_end_has_its_status(rt: HostRuntime) -> Result<(), Fail> {
     let day = Session::of(rt.alloc(), &fall())?.input;
     let cut = &day[..day.len().saturating_sub(1)];
     let path = "ends.journal";
+    let _ = std::fs::remove_file(&rt, path);
     let serve = ["halts", path, "serve"];
     for (args, input, want) in [
         (

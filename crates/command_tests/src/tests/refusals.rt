@@ -1,4 +1,5 @@
-// A directory of names that is full.
+//! A directory of names that is full.
+
 use super::replays;
 use price_core::Tier;
 use std::test::Fail;

@@ -1,4 +1,5 @@
-// Sessions one after the other over one journal.
+//! Sessions one after the other over one journal.
+
 use super::{fall, fresh, runs, serves};
 use host_core::Status;
 use std::test::Fail;

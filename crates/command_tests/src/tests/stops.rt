@@ -1,4 +1,5 @@
-// What a stop leaves, and what the next start makes of it.
+//! What a stop leaves, and what the next start makes of it.
+
 use super::{fall, fresh, run};
 use host_core::Status;
 use memory_host::{Call, MemoryHost, Pick};

@@ -1,4 +1,5 @@
-// Frames as lines, and lines as frames.
+//! Frames as lines, and lines as frames.
+
 use super::{fall, runs};
 use host_core::Status;
 use session_core::{Close, Profile};

@@ -1,4 +1,5 @@
-// What is told of each end.
+//! What is told of each end.
+
 use command_core::{end, tell};
 use host_core::{Status, Stream};
 use std::test::Fail;

@@ -1,4 +1,5 @@
-// Calls of a disk as steps.
+//! Calls of a disk as steps.
+
 use Step::{IsPage, Len, Read, Sync, Write, WritePage};
 use host_core::Disk;
 use std::alloc::{AllocError, Global};

@@ -11,6 +11,7 @@ use memory_host::{MemoryHost, Pick};
 use price_core::{Index, Price};
 use session_core::{Close, Date, Day, Moment, Profile};
 use std::alloc::Global;
+use std::fs;
 use std::io;
 use std::os::unix::fs::FileExt;
 use std::rt::Files;
@@ -249,6 +250,8 @@ fn keep_day<H: Host>(alloc: Global, host: &mut H) -> Result<(), Fail> {
 #[test]
 fn a_file_keeps_what_was_appended(rt: HostRuntime) -> Result<(), Fail> {
     let path = "appended.journal";
+    // A file of an earlier run may stand there.
+    let _ = fs::remove_file(&rt, path);
     keep_day(rt.alloc(), &mut over(&rt, path))?;
     let journal = open(rt.alloc(), &mut over(&rt, path))?;
     assert!(rt; journal.count() == 1 && journal.limit() == 3);
@@ -264,9 +267,21 @@ fn no_file_is_a_fault_of_the_disk(rt: HostRuntime) {
 }
 
 #[test]
-fn a_file_that_is_not_there_is_made_empty(rt: HostRuntime) {
+fn a_file_that_is_not_there_is_not_made(rt: HostRuntime) {
     let mut host = over(&rt, "new.journal");
     let len = host.disk_len();
     let opened = open(rt.alloc(), &mut host).err();
     assert!(rt; len == Ok(0) && opened == Some(ScanError::NoJournal));
+    assert!(rt; fs::remove_file(&rt, "new.journal").is_err());
+}
+
+#[test]
+fn a_journal_with_a_record_is_not_replaced(rt: HostRuntime) -> Result<(), Fail> {
+    let path = "kept.journal";
+    let _ = fs::remove_file(&rt, path);
+    keep_day(rt.alloc(), &mut over(&rt, path))?;
+    let formatted = format(&mut over(&rt, path), 5);
+    let journal = open(rt.alloc(), &mut over(&rt, path))?;
+    assert!(rt; formatted == Err(FormatError::DiskFault) && journal.count() == 1);
+    Ok(())
 }

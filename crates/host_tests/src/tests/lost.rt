@@ -1,4 +1,5 @@
-// A file whose syncs fail.
+//! A file whose syncs fail.
+
 use super::disks::Step::{Len, Sync};
 use super::disks::{play, refuse};
 use host_core::{Failed, Host, JournalFile, Opens, RawFile, RealHost, Stream};
@@ -59,6 +60,10 @@ impl Opens for LostFiles {
     type File = LostFile;
 
     ghost standing = { λ _ _. untold false };
+
+    fn find(&self, path: &str) -> io::Result<Option<LostFile>> {
+        Ok(Some(self.open(path)?))
+    }
 
     fn open(&self, path: &str) -> io::Result<LostFile> {
         let _ = path;

@@ -1,4 +1,5 @@
-// A small journal with each of its bytes changed, cut at each length, and with bytes behind it.
+//! A small journal with each of its bytes changed, cut at each length, and with bytes behind it.
+
 use super::sent::{body_of, first_frame, messages, told};
 use super::{REPLAY, SERVE, Trouble, Way, expect, fresh, host_of, ran, reopened_day, run};
 use host_core::Status;

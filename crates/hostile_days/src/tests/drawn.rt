@@ -1,4 +1,5 @@
-// Streams of drawn bytes, in pieces of many sizes.
+//! Streams of drawn bytes, in pieces of many sizes.
+
 use super::sent::{first_frame, messages, told};
 use super::{REPLAY, SERVE, Way, expect, fresh, ran, reopened_day};
 use host_core::Status;

@@ -1,4 +1,5 @@
-// Each call of each kind fails in turn.
+//! Each call of each kind fails in turn.
+
 use super::sent::{behind, body_of, first_frame, told};
 use super::{SERVE, Trouble, Way, expect, fresh, held_by, host_of, ran, reopened_day, run};
 use host_core::Status;

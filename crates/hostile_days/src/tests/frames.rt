@@ -1,4 +1,5 @@
-// Bodies that say no record, as `decode` reads them and as both commands answer them.
+//! Bodies that say no record, as `decode` reads them and as both commands answer them.
+
 use super::sent::told;
 use super::{REPLAY, SERVE, Way, expect, fresh, ran};
 use Kind::{Cancel, Clock, Day, IndexTick, Indication, Listing, Notice, Quote, Trade};

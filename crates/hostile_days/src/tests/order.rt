@@ -1,4 +1,5 @@
-// Which refusal is told of a frame that may not follow for several reasons.
+//! Which refusal is told of a frame that may not follow for several reasons.
+
 use super::{SERVE, Way, expect, fresh};
 use host_core::Status;
 use price_core::Tier;

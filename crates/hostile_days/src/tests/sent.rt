@@ -1,4 +1,5 @@
-// What a stream of frames says.
+//! What a stream of frames says.
+
 use std::alloc::Global;
 use std::test::Fail;
 use wire_out::{Frame, get_frame};

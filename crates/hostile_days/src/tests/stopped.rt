@@ -1,4 +1,5 @@
-// A session is stopped at each of its calls, also where writes of an earlier one are pending.
+//! A session is stopped at each of its calls, also where writes of an earlier one are pending.
+
 use super::sent::{Sent, behind, messages, told};
 use super::{
     SERVE, Trouble, Way, expect, fresh, held_by, host_of, ran, reopened_day, reopened_lines, run,

@@ -1,3 +1,5 @@
+//! Published frames that break a law, and such that break none.
+
 use audit_core::Audit;
 use price_core::{Cause, Price};
 use session_core::{Moment, Phase};

@@ -1,3 +1,5 @@
+//! Levels of the index, and the halts that they bring.
+
 use super::script::{Step, play};
 use super::values::{day, moment};
 use Event::{Start, Stopped, Time, Value};

@@ -1,3 +1,5 @@
+//! Conditions of trades.
+
 use super::script::{Step, check};
 use super::values::{day, moment};
 use Row::{Eligible, Opening, Says};

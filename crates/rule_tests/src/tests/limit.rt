@@ -1,3 +1,5 @@
+//! Limit states and straddle states.
+
 use super::script::{Step, check};
 use super::values::{moment, price};
 use Row::{Expires, Quote};

@@ -1,3 +1,5 @@
+//! Turns of the phase of a stock.
+
 use super::script::{Step, check};
 use Row::{Pause, Turn, TurnTwice};
 use pause_core::{Brakes, Turned, pause, turn};

@@ -1,3 +1,5 @@
+//! Percentages by tier, price and time of the day.
+
 use super::script::{Step, check};
 use super::values::{day, moment, price, price_or_none};
 use Row::{BandsAt, CategoryOf, SpanAt};

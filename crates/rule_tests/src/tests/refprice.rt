@@ -1,3 +1,5 @@
+//! Reference prices, and when one is adopted.
+
 use super::script::{Step, play};
 use super::values::{moment, price, price_or_none};
 use Call::{Adopt, Adopted, AwaitsMean, Current, Force, Observe};

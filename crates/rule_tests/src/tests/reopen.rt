@@ -1,3 +1,5 @@
+//! Auctions, their rounds and collars.
+
 use super::script::{Step, play};
 use super::values::{moment, price};
 use Call::{Begin, Closes, Collars, Due, Extends, Indicate, NotDue, Releases, Round};

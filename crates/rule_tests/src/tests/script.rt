@@ -1,3 +1,5 @@
+//! Steps of a test, in few words.
+
 use std::process::Abort;
 
 /// A call of what is tested, with the answer that it has to give.

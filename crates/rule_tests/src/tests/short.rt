@@ -1,3 +1,5 @@
+//! The short sale restriction of two days.
+
 use super::script::{Step, play};
 use super::values::{price, price_or_none};
 use Call::{IsCarried, IsRestricted, Listed, NextDay, Relisted, RestrictsNextDay, Trade};

@@ -1,3 +1,5 @@
+//! Values of the rules, in few words.
+
 use price_core::Price;
 use session_core::{Close, Date, Day, Moment, Profile};
 use std::process::Abort;

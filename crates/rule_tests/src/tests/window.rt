@@ -1,3 +1,5 @@
+//! Trades that come, go and are cancelled.
+
 use Step::{
     Add, Advance, Cancel, IsLive, IsNear, LiveUntil, Mean, MovesFrom, Oldest, Restart, Trade,
 };

@@ -1,4 +1,5 @@
-// Records evaluated ahead.
+//! Records evaluated ahead.
+
 ghost use Rattle.std.specs.Prelude.{◌<◌};
 
 use super::{at, clock, day, letter_of, listing, opening, quote};

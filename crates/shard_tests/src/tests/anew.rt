@@ -1,4 +1,5 @@
-// Ranges that are cut anew between blocks, while names are listed.
+//! Ranges that are cut anew between blocks, while names are listed.
+
 use super::parts::expect_blocks;
 use super::{add, after_open, day, letter_of, listing, of_session, opening};
 use std::test::Fail;

@@ -1,4 +1,5 @@
-// Blocks in any number of parts.
+//! Blocks in any number of parts.
+
 use super::meeting::Meeting;
 use super::parts::{Blocks, Parts, expect_blocks, expect_messages};
 use super::{add, after_open, at, clock, day, index_tick, letter_of, listing, opening, session};

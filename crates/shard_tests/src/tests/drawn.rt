@@ -1,4 +1,5 @@
-// A generated day.
+//! A generated day.
+
 ghost use Rattle.gen_core.specs.Generated.{IsPlan};
 
 use super::add;

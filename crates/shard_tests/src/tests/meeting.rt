@@ -1,3 +1,5 @@
+//! Two workers are at work at once.
+
 use std::sync::atomic::AtomicBool;
 use std::sync::atomic::Ordering::SeqCst;
 use yard_core::Gate;

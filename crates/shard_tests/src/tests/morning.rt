@@ -1,4 +1,5 @@
-// A day of many stocks until the afternoon, in one block of several pieces.
+//! A day of many stocks until the afternoon, in one block of several pieces.
+
 use super::parts::expect_blocks;
 use super::{add, after_open, at, clock, day, index_tick, listing, opening, quote, trade};
 use std::test::Fail;

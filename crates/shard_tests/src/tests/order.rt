@@ -1,4 +1,5 @@
-// Ranges of loads, and the order of messages.
+//! Ranges of loads, and the order of messages.
+
 use super::at;
 use shard_core::{Tagged, cut, merge};
 use std::process::Abort;

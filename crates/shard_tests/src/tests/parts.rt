@@ -1,3 +1,5 @@
+//! Parts of a market beside one market.
+
 use market_core::Market;
 use shard_core::{Shards, Tagged};
 use std::alloc::Global;

@@ -1,3 +1,5 @@
+//! Jobs that workers share.
+
 ghost use Rattle.std.specs.Prelude.{◌≡◌, ℕ, ◌<◌, ◌≤◌, IfOk, Some, slice_get, vec_len};
 ghost use Rattle.yard_core.specs.Seats.{IsIdle, IsSeatOf, IsAfterRound};
 

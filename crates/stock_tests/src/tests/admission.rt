@@ -1,4 +1,5 @@
-// What an admission tells beside its verdicts, and its room.
+//! What an admission tells beside its verdicts, and its room.
+
 use super::script::{Script, play};
 use super::{Entry, record};
 use Entry::{Clock, Day, Listing};

@@ -1,4 +1,5 @@
-// Until when ticks bring a stock nothing.
+//! Until when ticks bring a stock nothing.
+
 use super::scene::Scene;
 use super::script::{Script, play};
 use super::{at, clock, listing, new_day, price, trade};

@@ -1,4 +1,5 @@
-// What a market tells beside its messages, and its room.
+//! What a market tells beside its messages, and its room.
+
 use super::script::{Script, play};
 use super::{Entry, at, clock, listing, moment, name_of, new_day, record};
 use Entry::{Clock, Day, Listing, Tick};

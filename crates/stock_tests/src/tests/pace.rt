@@ -1,4 +1,5 @@
-// Ticks take no time for each trade.
+//! Ticks take no time for each trade.
+
 use super::scene::Scene;
 use super::script::{Script, play};
 use super::{clock, moment, trade};

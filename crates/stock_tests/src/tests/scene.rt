@@ -1,3 +1,5 @@
+//! A stock on a day, and what is said of it.
+
 use super::{at, clock, day, listing, new_day};
 use std::alloc::Global;
 use std::test::Fail;

@@ -1,3 +1,5 @@
+//! Steps of a test, in few words.
+
 use std::process::Abort;
 use std::test::Fail;
 

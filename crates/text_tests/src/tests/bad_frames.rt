@@ -1,4 +1,5 @@
-// Frames of each type that are a byte short, a byte long, or have a field out of its range, at `print`.
+//! Frames of each type that are a byte short, a byte long, or have a field out of its range, at `print`.
+
 use Flaw::{Bytes, Late, Long, Short};
 use host_core::{Host, Status};
 use memory_host::MemoryHost;

@@ -1,4 +1,5 @@
-// The program over lines in memory.
+//! The program over lines in memory.
+
 use Sign::{Begins, Ends, Has, Lacks, Nothing};
 use host_core::{Status, Stream};
 use picture_core::chart;

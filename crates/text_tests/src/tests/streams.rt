@@ -1,4 +1,5 @@
-// Frames that are printed and lines that are packed, over a host in memory.
+//! Frames that are printed and lines that are packed, over a host in memory.
+
 use Way::{Pack, Print};
 use host_core::{Host, Status};
 use memory_host::{Call, MemoryHost};

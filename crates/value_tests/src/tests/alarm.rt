@@ -1,3 +1,5 @@
+//! Alarms of many places.
+
 use super::script::{Step, play};
 use Call::{First, Get, Length, MakeDue, Set};
 use alarms::Alarms;

@@ -1,3 +1,5 @@
+//! Tables of cases.
+
 ghost use Rattle.std.specs.Prelude.{◌≤◌};
 
 use case_table::{Case, Cases, cases};

@@ -1,3 +1,5 @@
+//! Prices, their ranges and their rounding.
+
 use super::script::{Step, check};
 use Arithmetic::{Fell, Mean, Moved, RoundCent};
 use Number::{OfIndex, OfLeverage, OfPrice};

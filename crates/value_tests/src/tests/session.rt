@@ -1,3 +1,5 @@
+//! Dates, moments and the sessions of a day.
+
 use super::script::{Step, check, play};
 use Row::{Age, IsAfter, OfDate, OfMoment, Text};
 use session_core::{

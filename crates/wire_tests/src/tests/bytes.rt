@@ -1,3 +1,5 @@
+//! The bytes of a buffer.
+
 /// The byte of a buffer where nothing was written.
 pub const UNWRITTEN: u8 = 0xee;
 

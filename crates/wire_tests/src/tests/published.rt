@@ -1,3 +1,5 @@
+//! Published frames as bytes, and back.
+
 use super::bytes::{MOST, UNWRITTEN, changed, is_written};
 use super::table::{Row, check};
 use Body::{Bad, Good, HasLength};

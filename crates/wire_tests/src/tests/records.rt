@@ -1,3 +1,5 @@
+//! Records as bytes, and back.
+
 use super::bytes::{MOST, UNWRITTEN, changed, is_written};
 use super::table::{Row, check};
 use Case::{Bad, Good, HasLength, IsCut, IsTold, Refused};

@@ -1,3 +1,5 @@
+//! Frames with their documented bytes.
+
 use std::process::Abort;
 
 /// What is looked at by itself, with the answer that it has to give.

@@ -12,7 +12,7 @@ returns-in_err-evaluate-clause-appends g c capacity held evaluated later begin t
 
 pub returns-clause-appends : goal.returns-clause-appends
 returns-clause-appends g c capacity held evaluated later begin text s ahead passed expects =
-    let gave = c.deref.ensures.value ∙ c.in_ok-evaluate.ensures.messages capacity held evaluated later s ahead passed in
+    let gave = c.deref.ensures.value ∙ c.in_ok-evaluate.ensures.messages capacity capacity held evaluated later s.stands ahead passed in
     let number : c.evaluate.new.engine.evaluated ≡ length evaluated + 1 = omega (arith, c.in_ok-evaluate.ensures.evaluated, s.evaluated_is) in
     let more = spelled (with_acknowledgements c.args.acknowledges (accepted evaluated c.args.x.now)) in
     let last = rw (s.published, gave, number) at (c.append_accepted.ensures.appends begin text (c.in_ok-evaluate.ensures.pending begin text expects)) in

@@ -15,8 +15,8 @@ returns-clause-answers c start answered all after number outbox sent whole answe
     let held = held_after start all in
     let body = c.args.body.now in
     let is : c.judge.new.outcome ≡ judged start.capacity held body =
-    c.judge.ensures.exact held answers.evaluates.engine_is.admission
-    ∙ (λ i. admitted (answers.evaluates.engine_is.within i) held (c.decode_at.ensures.exact i)) in
+    c.judge.ensures.exact held (record { count = answers.evaluates.engine_is.count; stands = answers.evaluates.engine_is.stands.admission })
+    ∙ (λ i. admitted (answers.evaluates.engine_is.stands.within i) held (c.decode_at.ensures.exact i)) in
     let waits = answers.waits in
     record {
       waits = record {

@@ -28,7 +28,7 @@ loop-x-preserved c =
           let a = c.loop-x.invariant.admits capacity accepted evaluated first in
           subst (λ (all : List Record). Admits capacity all evaluated c.admit.new.self) (sym (with_next accepted xs i x c.loop-x-test.true c.x-item.is)) (record {
             engine_is = c.admit.ensures.represents capacity _ evaluated a.engine_is;
-            lawful = (ap (λ (l : ℕ). verdict l (with_batch accepted (take i xs)) x) (sym a.engine_is.within) ∙ sym (c.verdict.ensures.exact _ a.engine_is.admission) ∙ none, a.lawful);
+            lawful = (ap (λ (l : ℕ). verdict l (with_batch accepted (take i xs)) x) (sym a.engine_is.stands.within) ∙ sym (c.verdict.ensures.exact _ (record { count = a.engine_is.count; stands = a.engine_is.stands.admission })) ∙ none, a.lawful);
           });
       rest = search rules;
       small = search rules;
@@ -49,7 +49,7 @@ returns-then-is_some-clause-refuses c = λ capacity accepted evaluated first ref
       later = drop (i + 1) xs;
       parts = ap (λ (l : List Record). take i xs ++ l) (sym (drop_one xs i x c.loop-x-test.true c.x-item.is)) ∙ take-append-drop i xs;
       lawful = a.lawful;
-      refused = λ none. some (c.verdict.ensures.exact _ a.engine_is.admission ∙ ap (λ (l : ℕ). verdict l (with_batch accepted (take i xs)) x) a.engine_is.within ∙ none);
+      refused = λ none. some (c.verdict.ensures.exact _ (record { count = a.engine_is.count; stands = a.engine_is.stands.admission }) ∙ ap (λ (l : ℕ). verdict l (with_batch accepted (take i xs)) x) a.engine_is.stands.within ∙ none);
     }
 
 pub returns-clause-admits : goal.returns-clause-admits

@@ -21,7 +21,7 @@ returns-in_err-evaluate-clause-starved g c = λ capacity accepted later begin r 
 pub returns-clause-resumes : goal.returns-clause-resumes
 returns-clause-resumes g c = λ capacity accepted later begin r.
     let x = c.args.x.now in
-    let gave = c.deref.ensures.value ∙ c.in_ok-evaluate.ensures.messages capacity accepted r.held later r.admits.engine_is r.ahead (passes r).0 in
+    let gave = c.deref.ensures.value ∙ c.in_ok-evaluate.ensures.messages capacity capacity accepted r.held later r.admits.engine_is.stands r.ahead (passes r).0 in
     on_ok c.append_again.result (c.append_again.ensures.pending begin (again c.args.from r.held) (c.in_ok-evaluate.ensures.pending begin _ r.pending_is)) (λ pending. record {
       held = x ∷ r.held;
       whole = sym (with_more r.held x later) ∙ r.whole;
@@ -33,7 +33,7 @@ returns-clause-resumes g c = λ capacity accepted later begin r.
 pub returns-clause-moments : goal.returns-clause-moments
 returns-clause-moments g c = λ capacity accepted later begin r.
     let x = c.args.x.now in
-    let gave = c.deref.ensures.value ∙ c.in_ok-evaluate.ensures.messages capacity accepted r.held later r.admits.engine_is r.ahead (passes r).0 in
+    let gave = c.deref.ensures.value ∙ c.in_ok-evaluate.ensures.messages capacity capacity accepted r.held later r.admits.engine_is.stands r.ahead (passes r).0 in
     sends_then (sends_pending r c.evaluate.ensures.moments) (sends_part c.args.from (record { more = reverse later; whole = sym (with_more r.held x later) ∙ r.whole })
     (sends_same _ _ (again_one c.args.from x r.held c.args.engine.now.published _ r.admits.engine_is.published gave)
     (c.append_again.ensures.moments begin (again c.args.from r.held) (c.in_ok-evaluate.ensures.pending begin _ r.pending_is))))

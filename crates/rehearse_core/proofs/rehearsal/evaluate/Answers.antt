@@ -10,6 +10,6 @@ returns-clause-rehearses c = λ all left later was.
     one_evaluated was c.evaluate.new.self c.count.new.self
     (c.in_ok-evaluate.ensures.represents capacity (accepted_by was) was.evaluated later was.represents was.ahead was.admissible.0)
     (c.in_ok-evaluate.ensures.ahead later was.ahead)
-    c.deref.result.now (c.deref.ensures.value ∙ c.in_ok-evaluate.ensures.messages capacity (accepted_by was) was.evaluated later was.represents was.ahead was.admissible.0)
+    c.deref.result.now (c.deref.ensures.value ∙ c.in_ok-evaluate.ensures.messages capacity capacity (accepted_by was) was.evaluated later was.represents.stands was.ahead was.admissible.0)
     (c.count.ensures.counts (messages_of was.evaluated) was.counted)
     c.in_ok-evaluate.ensures.evaluated
