@@ -91,7 +91,13 @@ impl Market {
     }
 
     /// The base of the applied records, of which the last one is this day; how many records and messages there are is given.
-    pub fn base(&self, alloc: Global, records: u64, messages: u64, day: &Record) -> Result<Base, NoMemory>
+    pub fn base(
+        &self,
+        alloc: Global,
+        records: u64,
+        messages: u64,
+        day: &Record,
+    ) -> Result<Base, NoMemory>
         ensures { IfOk result (λ base. (earlier : List Record) → is_day day.now ≡ true → Represents self.now (day.now ∷ earlier) → records ≡ length (day.now ∷ earlier)
             → messages ≡ length (messages_of (day.now ∷ earlier)) → base_of (day.now ∷ earlier) ≡ Some base) }
     {

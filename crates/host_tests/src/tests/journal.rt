@@ -11,11 +11,10 @@ use memory_host::{MemoryHost, Pick};
 use price_core::{Index, Price};
 use session_core::{Close, Date, Day, Moment, Profile};
 use std::alloc::Global;
-use std::fs;
-use std::io;
 use std::os::unix::fs::FileExt;
 use std::rt::Files;
 use std::test::Fail;
+use std::{fs, io};
 use wire_in::Record;
 
 /// A batch of the day 2024-06-03 with an index close of 5,000.00, at 04:00:00.

@@ -14,6 +14,8 @@ loop-id-preserved c =
     let same : items ≡ symbols = ap (λ (s : SectionState). s.symbols) c.self.view_is in
     let within : id < length items = omega (arith, c.loop-id-test.true, c.len-id-end.ensures) in
     let marked : is_marked symbols id ≡ c.is_carried.result = ap (λ (xs : List SymbolState). is_marked xs id) (sym same) ∙ marked_at items id c.index.result.now within c.index.ensures ∙ sym c.is_carried.ensures.value in
-    elim c.if-is_carried.branch [ then-is_carried+in_ok-push w ↦
-      w.ids-is ∙ w.in_ok-push.ensures.added ∙ ap (λ (ids : List ℕ). ids ++ id ∷ []) c.loop-id.invariant ∙ sym (marked_yes symbols id (marked ∙ w.if-is_carried.true))
-    | else-is_carried w ↦ w.ids-is ∙ c.loop-id.invariant ∙ sym (marked_no symbols id (marked ∙ w.if-is_carried.false)) ]
+    elim c.if-is_carried.branch [
+      | then-is_carried+in_ok-push w ↦
+          w.ids-is ∙ w.in_ok-push.ensures.added ∙ ap (λ (ids : List ℕ). ids ++ id ∷ []) c.loop-id.invariant ∙ sym (marked_yes symbols id (marked ∙ w.if-is_carried.true))
+      | else-is_carried w ↦ w.ids-is ∙ c.loop-id.invariant ∙ sym (marked_no symbols id (marked ∙ w.if-is_carried.false))
+    ]
