@@ -6,7 +6,7 @@ use Rattle.std.specs.Io.BufRead.{first_piece, strip_last, take_through, drop_thr
 use Rattle.wire_out.specs.declared.message.Frame.{Frame}
 use Rattle.wire_out.specs.declared.message.Stamped.{Stamped}
 use Rattle.text_core.specs.Lines.{PrintsFrame}
-use Rattle.picture_core.specs.Shown.{brings}
+use Rattle.picture_core.specs.Shown.{message_of}
 use Rattle.picture_core.specs.Texts.{Prints}
 use Rattle.picture_core.specs.Reads.{HasRead}
 
@@ -22,16 +22,16 @@ known_of : (P : List ℕ → Type 0) (left : Option (List ℕ)) (rest : List ℕ
 known_of P left rest known given = subst (λ (o : Option (List ℕ)). IfSome o P) known given
 
 -- a line was read, and printed a frame
-pub has_read_more : (text : List ℕ) (left later : Option (List ℕ)) (symbol lines : ℕ) (line : List ℕ) (messages more : List Stamped) (frame : Frame)
-    → HasRead text left symbol lines messages → IfSome left (λ t. 0 < length t) → IfSome left (λ t. line ≡ take_through 10 t)
-    → DropsThrough left later 10 → PrintsFrame (strip_last 10 line) frame → more ≡ messages ++ cons_option (brings symbol frame) []
-    → HasRead text later symbol (lines + 1) more
-has_read_more text left later symbol lines line messages more frame read there given dropped prints kept = record {
+pub has_read_more : (text : List ℕ) (left later : Option (List ℕ)) (lines : ℕ) (line : List ℕ) (messages more : List Stamped) (frame : Frame)
+    → HasRead text left lines messages → IfSome left (λ t. 0 < length t) → IfSome left (λ t. line ≡ take_through 10 t)
+    → DropsThrough left later 10 → PrintsFrame (strip_last 10 line) frame → more ≡ messages ++ cons_option (message_of frame) []
+    → HasRead text later (lines + 1) more
+has_read_more text left later lines line messages more frame read there given dropped prints kept = record {
   frames = read.frames ++ frame ∷ [];
   rest = drop_through 10 read.rest;
   known = known_of _ left read.rest read.known dropped;
   printed = prints_more text read.frames read.rest frame read.printed (known_of _ left read.rest read.known there)
       (subst (λ (l : List ℕ). PrintsFrame (strip_last 10 l) frame) (known_of _ left read.rest read.known given) prints);
   counted = length-append read.frames (frame ∷ []) ∙ ap (λ (n : ℕ). n + 1) read.counted;
-  exact = kept ∙ ap (λ (xs : List Stamped). xs ++ cons_option (brings symbol frame) []) read.exact ∙ sym (filter_map-append (brings symbol) read.frames (frame ∷ []));
+  exact = kept ∙ ap (λ (xs : List Stamped). xs ++ cons_option (message_of frame) []) read.exact ∙ sym (filter_map-append message_of read.frames (frame ∷ []));
 }

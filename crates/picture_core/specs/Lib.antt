@@ -8,6 +8,7 @@ pub mod Rooms
 pub mod Labels
 pub mod Elements
 pub mod Frames
+pub mod DataEnd
 pub mod Pictures
 pub mod Words
 pub mod Runs

@@ -1,12 +1,13 @@
 -- The text of a picture, part by part.
 use Rattle.std.specs.Prelude.{ℕ, if◌then◌else◌, List, [], ◌∷◌, codes, decimal, Option, Some, None}
 use Rattle.wire_out.specs.declared.message.Stamped.{Stamped}
-use Rattle.picture_core.specs.Shown.{is_silent}
+use Rattle.picture_core.specs.Shown.{is_silent, last_moment, shown}
 use Rattle.picture_core.specs.Scales.{lowest, highest, axis_of}
 use Rattle.picture_core.specs.Places.{places_of}
 use Rattle.picture_core.specs.Labels.{◌⊕◌, name_text}
 use Rattle.picture_core.specs.Elements.{element_text, rooms_after}
 use Rattle.picture_core.specs.Frames.{time_ticks, price_ticks}
+use Rattle.picture_core.specs.DataEnd.{data_end}
 use Rattle.picture_core.specs.declared.axis.Axis.{Axis}
 use Rattle.picture_core.specs.declared.place.Place.{Place}
 use Rattle.picture_core.specs.declared.room.Room.{Room}
@@ -41,18 +42,22 @@ abbrev pub elements : List Room → List Stamped → List Place → List ℕ
 elements rooms (x ∷ messages) (place ∷ places) = element_text rooms x place ⊕ elements (rooms_after rooms x place) messages places
 elements rooms _ _ = []
 
--- all messages over an axis of prices
-unfoldable pub elements_over : Axis → List Stamped → List ℕ
-elements_over axis messages = elements [] messages (places_of axis messages)
+-- all messages over an axis of prices, up to the last moment
+unfoldable pub elements_over : Axis → ℕ → List Stamped → List ℕ
+elements_over axis last messages = elements [] messages (places_of axis last messages)
+
+-- the end of the day's data, and then the messages
+unfoldable pub day_over : Axis → List Stamped → List Stamped → List ℕ
+day_over axis day messages = data_end day ⊕ elements_over axis (last_moment day) messages
 
 -- messages over the axis of their prices, with its ticks; where they have none, over an axis without ticks
-abbrev pub over_axis : Option Axis → List Stamped → List ℕ
-over_axis (Some axis) messages = price_ticks axis ⊕ elements_over axis messages
-over_axis None messages = elements_over (record { low = 0; high = 1 }) messages
+abbrev pub over_axis : Option Axis → List Stamped → List Stamped → List ℕ
+over_axis (Some axis) day messages = price_ticks axis ⊕ day_over axis day messages
+over_axis None day messages = day_over (record { low = 0; high = 1 }) day messages
 
 -- the axis is that of the least and the greatest price that is drawn
-unfoldable pub messages_text : List Stamped → List ℕ
-messages_text messages = over_axis (axis_of (lowest messages) (highest messages)) messages
+unfoldable pub messages_text : List Stamped → List Stamped → List ℕ
+messages_text day messages = over_axis (axis_of (lowest messages) (highest messages)) day messages
 
 -- the words of a picture of a symbol of which nothing is said
 unfoldable pub silence : ℕ → List Stamped → List ℕ
@@ -61,7 +66,11 @@ silence symbol messages =
     then codes "<text class=\"nothing\" x=\"3500\" y=\"1600\">Nothing is said of symbol " ⊕ decimal symbol ⊕ codes "</text>\n"
     else []
 
+-- the picture of these messages of a day
+unfoldable pub drawing : ℕ → List Stamped → List Stamped → List ℕ
+drawing symbol day messages =
+    head symbol messages ⊕ time_ticks ⊕ messages_text day messages ⊕ silence symbol messages ⊕ codes "</svg>\n"
+
 -- the picture of a symbol's day: of its messages and those of the market
-unfoldable pub picture_of : ℕ → List Stamped → List ℕ
-picture_of symbol messages =
-    head symbol messages ⊕ time_ticks ⊕ messages_text messages ⊕ silence symbol messages ⊕ codes "</svg>\n"
+abbrev pub picture_of : ℕ → List Stamped → List ℕ
+picture_of symbol day = drawing symbol day (shown symbol day)

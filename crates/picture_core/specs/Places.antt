@@ -1,5 +1,5 @@
 -- Where each message of the picture stands.
-use Rattle.std.specs.Prelude.{ℕ, ◌+◌, ◌*◌, ◌≤◌, max, List, [], ◌∷◌, Option, Some, None}
+use Rattle.std.specs.Prelude.{ℕ, ◌+◌, ◌*◌, ◌≤◌, max, List, [], ◌∷◌, Option, unwrap_or}
 use Rattle.session_core.specs.declared.state.Phase.{Phase}
 use Rattle.session_core.specs.declared.state.Phase.TheVariants as phases
 use Rattle.wire_out.specs.declared.message.Message.{Message}
@@ -11,10 +11,9 @@ use Rattle.picture_core.specs.declared.axis.Axis.{Axis}
 use Rattle.picture_core.specs.declared.place.Heights.{Heights}
 use Rattle.picture_core.specs.declared.place.Place.{Place}
 
--- the x at which a span ends: at the picture's right edge where nothing ends it
-abbrev pub right_of : ℕ → Option ℕ → ℕ
-right_of left None = 6200
-right_of left (Some moment) = max left (x_of moment)
+-- the x at which a span ends: where the data ends, where nothing ends it
+abbrev pub right_of : ℕ → ℕ → Option ℕ → ℕ
+right_of last left end = max left (x_of (unwrap_or end last))
 
 -- the lane below the prices: limit states, straddle states, pauses, halts, market-wide halts, the short sale restriction
 abbrev pub lane_of_phase : Phase → ℕ
@@ -42,14 +41,15 @@ heights_of axis (Collar s round lower upper) = record { top = y_of axis upper; m
 heights_of axis (Release s price) = record { top = y_of axis price; middle = y_of axis price; bottom = y_of axis price }
 heights_of axis message = in_lane (lane_of message)
 
--- from the moment of a message to that of the first later one that ends what it says
-abbrev pub place_of : Axis → Stamped → List Stamped → Place
-place_of axis x later = record { left = x_of x.moment; right = right_of (x_of x.moment) (end_of x.message later); heights = heights_of axis x.message }
+-- from the moment of a message to that of the first later one that ends what it says, else to the last moment that is told
+abbrev pub place_of : Axis → ℕ → Stamped → List Stamped → Place
+place_of axis last x later =
+    record { left = x_of x.moment; right = right_of last (x_of x.moment) (end_of x.message later); heights = heights_of axis x.message }
 
 -- the places of messages, each with those behind it as the later ones
-abbrev pub places_of : Axis → List Stamped → List Place
-places_of axis [] = []
-places_of axis (x ∷ later) = place_of axis x later ∷ places_of axis later
+abbrev pub places_of : Axis → ℕ → List Stamped → List Place
+places_of axis last [] = []
+places_of axis last (x ∷ later) = place_of axis last x later ∷ places_of axis last later
 
 -- heights are within the picture
 pub record AreWithin (heights : Heights) : Type 0 where

@@ -7,7 +7,7 @@ use Rattle.host_core.specs.declared.status.Status.TheVariants.{Done, Usage, Read
 use Rattle.host_core.specs.Outside.{Rose}
 use Rattle.host_core.specs.Streams.{AppendsPart}
 use Rattle.picture_core.specs.Texts.{IsBadAt}
-use Rattle.picture_core.specs.Reads.{IsShown}
+use Rattle.picture_core.specs.Reads.{IsRead}
 use Rattle.picture_core.specs.Pictures.{picture_of}
 use Rattle.picture_core.specs.Told.{help_text}
 use Rattle.picture_core.specs.declared.words.Command.{Command}
@@ -33,9 +33,9 @@ pub record IsSent (text : List ℕ) (status : Status) (before after : Option (Li
 -- the day of a symbol was drawn
 pub record Drawn (symbol : ℕ) (status : Status) (old new : Streams) : Type 0 where
   -- the lines of the input print frames, and the picture of their messages was written, no byte more and none less
-  pub exact : status ≡ Done → IfSome old.input (λ text. (messages : List Stamped) × IsShown text symbol messages × Appends old.output new.output (picture_of symbol messages))
+  pub exact : status ≡ Done → IfSome old.input (λ text. (day : List Stamped) × IsRead text day × Appends old.output new.output (picture_of symbol day))
   -- where the writer failed, a part of that picture from its begin on
-  pub part : status ≡ SendFault → IfSome old.input (λ text. (messages : List Stamped) × IsShown text symbol messages × AppendsPart old.output new.output (picture_of symbol messages))
+  pub part : status ≡ SendFault → IfSome old.input (λ text. (day : List Stamped) × IsRead text day × AppendsPart old.output new.output (picture_of symbol day))
   -- the line of that number is the first that prints none
   pub bad : (number : ℕ) → status ≡ BadText number → IfSome old.input (λ text. IsBadAt number text)
   -- else nothing is written

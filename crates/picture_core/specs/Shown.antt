@@ -1,6 +1,6 @@
 -- Which published messages belong to the picture of one symbol.
-use Rattle.std.specs.Prelude.{ℕ, Bool, true, false, ◌==◌, if◌then◌else◌, List, Option, Some, None}
-use Rattle.std.specs.List.{filter_map, list_all}
+use Rattle.std.specs.Prelude.{ℕ, ◌-◌, Bool, true, false, ◌==◌, List, length, slice_get, Option, Some, None, option_map, unwrap_or}
+use Rattle.std.specs.List.{filter, filter_map, list_all}
 use Rattle.wire_out.specs.declared.message.Message.{Message}
 use Rattle.wire_out.specs.declared.message.Message.TheVariants.{Listed, State, Band, Straddle, Collar, Release, Short, Breaker, MarketResume}
 use Rattle.wire_out.specs.declared.message.Stamped.{Stamped}
@@ -19,16 +19,24 @@ belongs symbol (Short s kind) = s == symbol
 belongs symbol (Breaker level index) = true
 belongs symbol MarketResume = true
 
--- what a published frame brings to the picture
-abbrev pub brings : ℕ → Frame → Option Stamped
-brings symbol (Hello inputs messages) = None
-brings symbol (Numbered number x) = if belongs symbol x.message then Some x else None
-brings symbol (Ack input) = None
-brings symbol (Refused place code field) = None
+-- the message of a published frame
+abbrev pub message_of : Frame → Option Stamped
+message_of (Hello inputs messages) = None
+message_of (Numbered number x) = Some x
+message_of (Ack input) = None
+message_of (Refused place code field) = None
 
--- the messages of the picture, in the order of the frames
-abbrev pub shown : ℕ → List Frame → List Stamped
-shown symbol frames = filter_map (brings symbol) frames
+-- the messages of frames, in their order
+abbrev pub messages_of : List Frame → List Stamped
+messages_of frames = filter_map message_of frames
+
+-- the messages of the picture: of a day's those of the symbol and of the market
+abbrev pub shown : ℕ → List Stamped → List Stamped
+shown symbol day = filter (λ x. belongs symbol x.message) day
+
+-- the last moment that is told of a day
+abbrev pub last_moment : List Stamped → ℕ
+last_moment day = unwrap_or (option_map (λ x. x.moment) (slice_get day (length day - 1))) 0
 
 -- a message is of the whole market
 abbrev pub is_market : Message → Bool

@@ -50,7 +50,7 @@ impl Style {
 
 /// Words at a point, and what ends them.
 #[tactic(auto, unfolding(crate::specs::Elements::label_text))]
-fn label_text(
+pub fn label_text(
     alloc: Global,
     style: Style,
     x: u64,

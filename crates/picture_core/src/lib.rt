@@ -2,6 +2,7 @@
 #![tactic(auto)]
 
 mod axis;
+mod data_end;
 mod element;
 mod frame;
 mod label;

@@ -3,18 +3,22 @@
 ghost use Rattle.std.specs.Prelude.{◌≡◌, ◌++◌, IfOk, OnOk};
 ghost use Rattle.std.specs.String.{string_bytes};
 ghost use Rattle.picture_core.specs.Scales.{IsAxis};
-ghost use Rattle.picture_core.specs.Shown.{is_market, is_silent};
+ghost use Rattle.picture_core.specs.Shown.{is_market, is_silent, last_moment, shown};
 ghost use Rattle.picture_core.specs.Places.{place_of};
 ghost use Rattle.picture_core.specs.Elements.{element_text, rooms_after};
-ghost use Rattle.picture_core.specs.Pictures.{title, head, elements_over, messages_text, silence, picture_of};
+ghost use Rattle.picture_core.specs.DataEnd.{data_end};
+ghost use Rattle.picture_core.specs.Pictures.{title, head, elements_over, day_over, messages_text, silence, drawing, picture_of};
 
 use crate::axis::{Axis, axis_of};
+use crate::data_end::data_end;
 use crate::element::element;
 use crate::frame::{hatchings, names, put_prices, put_times, style};
 use crate::label::name;
 use crate::place::place_of;
 use crate::room::Rooms;
+use crate::shown::{last_moment, shown};
 use price_core::NoMemory;
+use session_core::Moment;
 use std::alloc::Global;
 use wire_out::{Message, Stamped};
 
@@ -61,49 +65,72 @@ fn put_element(
     text: &mut String,
     rooms: &mut Rooms,
     axis: &Axis,
+    last: Moment,
     x: &Stamped,
     later: &[Stamped],
 ) -> Result<(), NoMemory>
     requires { IsAxis axis.now }
-    ensures text { OnOk result (string_bytes text.new ≡ string_bytes text.old ++ element_text rooms.old x.now (place_of axis.now x.now later.now)) }
-    ensures taken { OnOk result (rooms.new ≡ rooms_after rooms.old x.now (place_of axis.now x.now later.now)) }
+    ensures text { OnOk result (string_bytes text.new ≡ string_bytes text.old ++ element_text rooms.old x.now (place_of axis.now last x.now later.now)) }
+    ensures taken { OnOk result (rooms.new ≡ rooms_after rooms.old x.now (place_of axis.now last x.now later.now)) }
 {
-    let place = place_of(axis, x, later);
+    let place = place_of(axis, last, x, later);
     let element = element(alloc, rooms, x, &place)?;
     text.push_str(element.as_str())?;
     Ok(())
 }
 
-/// Draws the messages over an axis of prices.
+/// Draws the messages over an axis of prices, up to the last moment.
 #[tactic(auto, unfolding(crate::specs::Pictures::elements_over))]
 fn put_elements(
     alloc: Global,
     text: &mut String,
     axis: &Axis,
+    last: Moment,
     messages: &[Stamped],
 ) -> Result<(), NoMemory>
     requires { IsAxis axis.now }
-    ensures { OnOk result (string_bytes text.new ≡ string_bytes text.old ++ elements_over axis.now messages.now) }
+    ensures { OnOk result (string_bytes text.new ≡ string_bytes text.old ++ elements_over axis.now last messages.now) }
 {
     let mut rooms = Rooms::new(alloc);
     for at in 0..messages.len() {
         let (x, later) = (&messages[at], &messages[at + 1..]);
-        put_element(alloc, text, &mut rooms, axis, x, later)?;
+        put_element(alloc, text, &mut rooms, axis, last, x, later)?;
     }
     Ok(())
 }
 
+/// Draws where the day's data ends, and then the messages over an axis of prices.
+#[tactic(auto, unfolding(crate::specs::Pictures::day_over))]
+fn put_day(
+    alloc: Global,
+    text: &mut String,
+    axis: &Axis,
+    day: &[Stamped],
+    messages: &[Stamped],
+) -> Result<(), NoMemory>
+    requires { IsAxis axis.now }
+    ensures { OnOk result (string_bytes text.new ≡ string_bytes text.old ++ day_over axis.now day.now messages.now) }
+{
+    text.push_str(data_end(alloc, day)?.as_str())?;
+    put_elements(alloc, text, axis, last_moment(day), messages)
+}
+
 /// Draws the messages, over the axis of their prices where they have any.
 #[tactic(auto, unfolding(crate::specs::Pictures::messages_text))]
-fn put_messages(alloc: Global, text: &mut String, messages: &[Stamped]) -> Result<(), NoMemory>
-    ensures { OnOk result (string_bytes text.new ≡ string_bytes text.old ++ messages_text messages.now) }
+fn put_messages(
+    alloc: Global,
+    text: &mut String,
+    day: &[Stamped],
+    messages: &[Stamped],
+) -> Result<(), NoMemory>
+    ensures { OnOk result (string_bytes text.new ≡ string_bytes text.old ++ messages_text day.now messages.now) }
 {
     match axis_of(messages) {
         Some(axis) => {
             put_prices(alloc, text, &axis)?;
-            put_elements(alloc, text, &axis, messages)
+            put_day(alloc, text, &axis, day, messages)
         }
-        None => put_elements(alloc, text, &Axis { low: 0, high: 1 }, messages),
+        None => put_day(alloc, text, &Axis { low: 0, high: 1 }, day, messages),
     }
 }
 
@@ -120,16 +147,29 @@ fn silence(alloc: Global, symbol: u16, messages: &[Stamped]) -> Result<String, N
     )?)
 }
 
-/// The picture of a symbol's day as an SVG, of its messages and those of the market.
-#[tactic(auto, unfolding(crate::specs::Pictures::picture_of))]
-pub fn picture(alloc: Global, symbol: u16, messages: &[Stamped]) -> Result<String, NoMemory>
-    ensures { IfOk result (λ text. string_bytes text ≡ picture_of symbol messages.now) }
+/// The picture of these messages of a day.
+#[tactic(auto, unfolding(crate::specs::Pictures::drawing))]
+fn drawing(
+    alloc: Global,
+    symbol: u16,
+    day: &[Stamped],
+    messages: &[Stamped],
+) -> Result<String, NoMemory>
+    ensures { IfOk result (λ text. string_bytes text ≡ drawing symbol day.now messages.now) }
 {
     let mut text = head(alloc, symbol, messages)?;
     put_times(alloc, &mut text)?;
-    put_messages(alloc, &mut text, messages)?;
+    put_messages(alloc, &mut text, day, messages)?;
     let silence = silence(alloc, symbol, messages)?;
     text.push_str(silence.as_str())?;
     text.push_str("</svg>\n")?;
     Ok(text)
+}
+
+/// The picture of a symbol's day as an SVG, of its messages and those of the market.
+pub fn picture(alloc: Global, symbol: u16, day: &[Stamped]) -> Result<String, NoMemory>
+    ensures { IfOk result (λ text. string_bytes text ≡ picture_of symbol day.now) }
+{
+    let messages = shown(alloc, symbol, day)?;
+    drawing(alloc, symbol, day, &messages)
 }

@@ -26,17 +26,14 @@ pub struct Place {
     pub heights: Heights,
 }
 
-/// The x at which a span ends.
-fn right_of(left: u64, end: Option<Moment>) -> u64
+/// The x at which a span ends: where the data ends, where nothing ends it.
+fn right_of(last: Moment, left: u64, end: Option<Moment>) -> u64
     requires { left ≤ 6200 }
-    ensures exact { result ≡ right_of left end }
+    ensures exact { result ≡ right_of last left end }
     ensures forward { left ≤ result }
     ensures within { result ≤ 6200 }
 {
-    match end {
-        None => 6200,
-        Some(moment) => left.max(x_of(moment)),
-    }
+    left.max(x_of(end.unwrap_or(last)))
 }
 
 fn lane_of_phase(phase: Phase) -> u64
@@ -109,16 +106,16 @@ fn heights_of(axis: &Axis, message: Message) -> Heights
     }
 }
 
-/// Where a message stands, with those behind it as the later ones.
-pub fn place_of(axis: &Axis, x: &Stamped, later: &[Stamped]) -> Place
+/// Where a message stands, with those behind it as the later ones, where the data ends at that last moment.
+pub fn place_of(axis: &Axis, last: Moment, x: &Stamped, later: &[Stamped]) -> Place
     requires { IsAxis axis.now }
-    ensures exact { result ≡ place_of axis.now x.now later.now }
+    ensures exact { result ≡ place_of axis.now last x.now later.now }
     ensures within { IsWithin result }
 {
     let left = x_of(x.moment);
     Place {
         left,
-        right: right_of(left, end_of(x.message, later)),
+        right: right_of(last, left, end_of(x.message, later)),
         heights: heights_of(axis, x.message),
     }
 }

@@ -1,4 +1,4 @@
-//! Published lines, read into the messages of one symbol.
+//! Published lines, read into their messages.
 
 ghost use Rattle.std.specs.Prelude.{◌≡◌, ◌+◌, ◌<◌, ◌⊎◌, ◌++◌, ◌^◌, ℕ, List, [], Some, Ok, true, false, length, IfOk, IfErr, OnOk, OnErr, IfSome};
 ghost use Rattle.std.specs.List.{cons_option};
@@ -8,10 +8,10 @@ ghost use Rattle.host_core.specs.declared.status.Status.TheVariants.{ReadFault, 
 ghost use Rattle.host_core.specs.Outside.{raised};
 ghost use Rattle.wire_out.specs.declared.message.Frame.{Frame};
 ghost use Rattle.text_core.specs.Lines.{PrintsFrame};
-ghost use Rattle.picture_core.specs.Shown.{brings};
-ghost use Rattle.picture_core.specs.Reads.{HasRead, IsShown, Stops, Hinders};
+ghost use Rattle.picture_core.specs.Shown.{message_of};
+ghost use Rattle.picture_core.specs.Reads.{HasRead, IsRead, Stops, Hinders};
 
-use crate::shown::brings;
+use crate::shown::message_of;
 use host_core::{LineSource, Status};
 use std::alloc::Global;
 use std::io::{self, ErrorKind};
@@ -72,17 +72,12 @@ fn keep(messages: &mut Vec<Stamped>, message: Option<Stamped>) -> Result<(), Sta
 }
 
 /// Takes a line with its newline, which is of that number.
-fn take_line(
-    line: &[u8],
-    number: u64,
-    symbol: u16,
-    messages: &mut Vec<Stamped>,
-) -> Result<(), Status>
-    ensures printed { OnOk result ((frame : Frame) × PrintsFrame (strip_last 10 line.now) frame × (messages.new.items ≡ messages.old.items ++ cons_option (brings symbol frame) [])) }
+fn take_line(line: &[u8], number: u64, messages: &mut Vec<Stamped>) -> Result<(), Status>
+    ensures printed { OnOk result ((frame : Frame) × PrintsFrame (strip_last 10 line.now) frame × (messages.new.items ≡ messages.old.items ++ cons_option (message_of frame) [])) }
     ensures stopped { IfErr result (λ s. (s ≡ NoMemory) ⊎ ((s ≡ BadText number) × ((frame : Frame) → PrintsFrame (strip_last 10 line.now) frame → ⊥))) }
 {
     match read_frame(without_newline(line)) {
-        Ok(frame) => keep(messages, brings(symbol, &frame)),
+        Ok(frame) => keep(messages, message_of(&frame)),
         Err(_) => Err(Status::BadText { line: number }),
     }
 }
@@ -92,33 +87,28 @@ fn read_turn<R: LineSource>(
     reader: &mut R,
     line: &mut Vec<u8>,
     before: u64,
-    symbol: u16,
     messages: &mut Vec<Stamped>,
 ) -> Result<bool, Status>
     requires { before + 1 < 2 ^ 64 }
-    ensures goes { result ≡ Ok true → (text : List ℕ) → HasRead text (R.remaining reader.old) symbol before messages.old.items → HasRead text (R.remaining reader.new) symbol (before + 1) messages.new.items }
-    ensures ended { result ≡ Ok false → (text : List ℕ) → HasRead text (R.remaining reader.old) symbol before messages.old.items → IsShown text symbol messages.new.items }
-    ensures stopped { IfErr result (λ s. (text : List ℕ) → HasRead text (R.remaining reader.old) symbol before messages.old.items → Stops s text) }
+    ensures goes { result ≡ Ok true → (text : List ℕ) → HasRead text (R.remaining reader.old) before messages.old.items → HasRead text (R.remaining reader.new) (before + 1) messages.new.items }
+    ensures ended { result ≡ Ok false → (text : List ℕ) → HasRead text (R.remaining reader.old) before messages.old.items → IsRead text messages.new.items }
+    ensures stopped { IfErr result (λ s. (text : List ℕ) → HasRead text (R.remaining reader.old) before messages.old.items → Stops s text) }
     ensures cause { IfErr result Hinders }
     ensures failed { IfErr result (λ s. s ≡ ReadFault → R.failures reader.new ≡ raised (R.failures reader.old)) }
     ensures fine { OnOk result (R.failures reader.new ≡ R.failures reader.old) }
 {
     if next_line(reader, line)? {
-        take_line(line, before + 1, symbol, messages)?;
+        take_line(line, before + 1, messages)?;
         Ok(true)
     } else {
         Ok(false)
     }
 }
 
-/// Reads all lines, and answers the messages of that symbol and of the market.
-pub fn read_messages<R: LineSource>(
-    alloc: Global,
-    reader: &mut R,
-    symbol: u16,
-) -> Result<Vec<Stamped>, Status>
+/// Reads all lines, and answers their messages.
+pub fn read_messages<R: LineSource>(alloc: Global, reader: &mut R) -> Result<Vec<Stamped>, Status>
     // The lines of the whole input print frames.
-    ensures shown { IfOk result (λ messages. IfSome (R.remaining reader.old) (λ text. IsShown text symbol messages.items)) }
+    ensures read { IfOk result (λ messages. IfSome (R.remaining reader.old) (λ text. IsRead text messages.items)) }
     // A line that prints none, a failed read or want of memory.
     ensures stopped { IfErr result (λ s. IfSome (R.remaining reader.old) (Stops s)) }
     ensures cause { IfErr result Hinders }
@@ -129,7 +119,7 @@ pub fn read_messages<R: LineSource>(
     let mut line = Vec::new(alloc);
     let mut messages = Vec::new(alloc);
     for before in 0..u64::MAX {
-        if !read_turn(reader, &mut line, before, symbol, &mut messages)? {
+        if !read_turn(reader, &mut line, before, &mut messages)? {
             return Ok(messages);
         }
     }

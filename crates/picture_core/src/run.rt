@@ -5,7 +5,7 @@ ghost use Rattle.std.specs.String.{string_bytes};
 ghost use Rattle.wire_out.specs.declared.message.Stamped.{Stamped};
 ghost use Rattle.picture_core.specs.declared.words.Command.{Command};
 ghost use Rattle.picture_core.specs.Words.{Asks};
-ghost use Rattle.picture_core.specs.Reads.{IsShown, Stops, Hinders};
+ghost use Rattle.picture_core.specs.Reads.{IsRead, Stops, Hinders};
 ghost use Rattle.picture_core.specs.Pictures.{picture_of};
 ghost use Rattle.picture_core.specs.Told.{help_text};
 ghost use Rattle.picture_core.specs.Runs.{Drawn, Ran, streams};
@@ -31,16 +31,16 @@ fn help() -> &'static str
     HELP
 }
 
-/// The picture of the input's messages of that symbol, once it is read whole.
+/// The picture of that symbol's day, once the input is read whole.
 fn drawn<R: LineSource>(alloc: Global, symbol: u16, reader: &mut R) -> Result<String, Status>
     ensures stopped { IfErr result (λ s. IfSome (R.remaining reader.old) (Stops s)) }
     ensures cause { IfErr result Hinders }
-    ensures exact { IfOk result (λ picture. IfSome (R.remaining reader.old) (λ text. (messages : List Stamped) × IsShown text symbol messages × (string_bytes picture ≡ picture_of symbol messages))) }
+    ensures exact { IfOk result (λ picture. IfSome (R.remaining reader.old) (λ text. (day : List Stamped) × IsRead text day × (string_bytes picture ≡ picture_of symbol day))) }
     ensures failed { IfErr result (λ s. s ≡ ReadFault → R.failures reader.new ≡ raised (R.failures reader.old)) }
     ensures fine { OnOk result (R.failures reader.new ≡ R.failures reader.old) }
 {
-    let messages = read_messages(alloc, reader, symbol)?;
-    match picture(alloc, symbol, &messages) {
+    let day = read_messages(alloc, reader)?;
+    match picture(alloc, symbol, &day) {
         Ok(text) => Ok(text),
         Err(_) => Err(Status::NoMemory),
     }

@@ -72,6 +72,23 @@ fn a_pause_with_two_rounds_of_collars(rt: HostRuntime) -> Result<(), Fail> {
 }
 
 #[test]
+fn what_nothing_ends_goes_to_the_last_moment_that_is_told(rt: HostRuntime) -> Result<(), Fail> {
+    let lines =
+        "1 10:00:00.000000000 state 7 paused\n2 10:30:00.000000000 state 8 trading\nack 9\n";
+    expect(
+        &rt,
+        &["chart", "7"],
+        lines,
+        Status::Done,
+        &[
+            Has("<rect class=\"pause\" x=\"1520\" y=\"3240\" width=\"360\""),
+            Has("<path class=\"end\" d=\"M1880 300V"),
+            Has("data ends 10:30:00"),
+        ],
+    )
+}
+
+#[test]
 fn words_that_would_stand_over_others_are_left_out(rt: HostRuntime) -> Result<(), Fail> {
     let lines =
         "1 10:00:00.000000000 state 7 limitlow\n2 10:00:05.000000000 state 7 trading\n3 10:05:00.000000000 state 7 limitlow\n4 10:05:10.000000000 state 7 trading\n5 11:30:00.000000000 state 7 limitlow\n6 11:30:05.000000000 state 7 trading\n";
@@ -117,6 +134,7 @@ fn an_empty_input(rt: HostRuntime) -> Result<(), Fail> {
         &[
             Begins("<svg "),
             Has("Nothing is said of symbol 65535"),
+            Lacks("data ends"),
             Ends("</svg>\n"),
         ],
     )

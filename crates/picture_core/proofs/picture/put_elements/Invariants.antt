@@ -7,5 +7,5 @@ use Rattle.picture_core.proofs.picture.put_elements.Given as goal
 -- the messages before this one are drawn, and those from it on follow
 abbrev pub invariant-loop-at : goal.invariant-loop-at
 invariant-loop-at l =
-    string_bytes l.text ++ elements l.rooms (drop l.at l.messages) (places_of l.axis (drop l.at l.messages))
-    ≡ string_bytes l.initial.text ++ elements [] l.messages (places_of l.axis l.messages)
+    string_bytes l.text ++ elements l.rooms (drop l.at l.messages) (places_of l.axis l.last (drop l.at l.messages))
+    ≡ string_bytes l.initial.text ++ elements [] l.messages (places_of l.axis l.last l.messages)
