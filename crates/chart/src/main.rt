@@ -2,13 +2,13 @@
 #![tactic(auto)]
 
 use host_core::{Status, Stream};
-use picture_core::{chart, end};
+use picture_core::{Outcome, chart, end};
 use std::env::{self, Env};
 use std::io::{self, BufReader};
 use std::process::ExitCode;
 
 /// Does what the words of this process say, over the standard streams.
-fn chart_here<Rt: Env + Input + Print + AllocGlobal>(rt: &Rt) -> io::Result<Status> {
+fn chart_here<Rt: Env + Input + Print + AllocGlobal>(rt: &Rt) -> io::Result<Outcome> {
     let alloc = rt.alloc();
     let mut words = Vec::new(alloc);
     for word in env::args(rt)? {
@@ -25,7 +25,7 @@ fn chart_here<Rt: Env + Input + Print + AllocGlobal>(rt: &Rt) -> io::Result<Stat
 
 fn main(rt: HostRuntime) -> ExitCode {
     // Words that can't be read ask for nothing that is understood.
-    let status = chart_here(&rt).unwrap_or(Status::Usage);
+    let outcome = chart_here(&rt).unwrap_or(Outcome::Ended(Status::Usage));
     let stderr = rt.stderr();
-    end(&mut Stream::new(io::writer(&stderr)), status).code
+    end(&mut Stream::new(io::writer(&stderr)), outcome).code
 }

@@ -1,7 +1,5 @@
 -- Where the data of a day ends.
-use Rattle.std.specs.Prelude.{ℕ, ◌+◌, ◌-◌, nat_lt, if◌then◌else◌, List, [], ◌∷◌, codes, decimal}
-use Rattle.wire_out.specs.declared.message.Stamped.{Stamped}
-use Rattle.picture_core.specs.Shown.{last_moment}
+use Rattle.std.specs.Prelude.{ℕ, ◌+◌, ◌-◌, nat_lt, if◌then◌else◌, List, [], codes, decimal}
 use Rattle.picture_core.specs.Scales.{x_of}
 use Rattle.picture_core.specs.Labels.{◌⊕◌, time_text}
 use Rattle.picture_core.specs.Elements.{label, label_text}
@@ -19,7 +17,6 @@ end_line x =
     codes "<rect class=\"untold\" x=\"" ⊕ decimal x ⊕ codes "\" y=\"303\" width=\"" ⊕ decimal (6197 - x)
     ⊕ codes "\" height=\"2594\"/><path class=\"end\" d=\"M" ⊕ decimal x ⊕ codes " 300V3600\"/>"
 
--- the end of the data, where any moment is told
-abbrev pub data_end : List Stamped → List ℕ
-data_end [] = []
-data_end (x ∷ day) = end_line (x_of (last_moment (x ∷ day))) ⊕ end_words (x_of (last_moment (x ∷ day))) (last_moment (x ∷ day)) ⊕ codes "\n"
+-- the end of the data, at the last moment that is told
+abbrev pub data_end : ℕ → List ℕ
+data_end last = end_line (x_of last) ⊕ end_words (x_of last) last ⊕ codes "\n"

@@ -2,6 +2,7 @@
 use Rattle.std.specs.Prelude.{ℕ, if◌then◌else◌, List, [], ◌∷◌, codes, decimal, Option, Some, None}
 use Rattle.wire_out.specs.declared.message.Stamped.{Stamped}
 use Rattle.picture_core.specs.Shown.{is_silent, last_moment, shown}
+use Rattle.picture_core.specs.Days.{Days, day_words}
 use Rattle.picture_core.specs.Scales.{lowest, highest, axis_of}
 use Rattle.picture_core.specs.Places.{places_of}
 use Rattle.picture_core.specs.Labels.{◌⊕◌, name_text}
@@ -26,16 +27,16 @@ unfoldable pub names : List ℕ
 names = NAMES.now
 
 -- the words over the picture
-unfoldable pub title : ℕ → List Stamped → List ℕ
-title symbol messages =
-    codes "<text class=\"title\" x=\"800\" y=\"150\">Symbol " ⊕ decimal symbol ⊕ codes " " ⊕ name_text messages
+unfoldable pub title : ℕ → List ℕ → List Stamped → List ℕ
+title symbol day messages =
+    codes "<text class=\"title\" x=\"800\" y=\"150\">Symbol " ⊕ decimal symbol ⊕ codes " " ⊕ name_text messages ⊕ day
     ⊕ codes "</text><text x=\"800\" y=\"230\">price bands, pauses, halts and restrictions of the day, Eastern time</text>\n"
 
 -- the head of a picture, up to its frame
-unfoldable pub head : ℕ → List Stamped → List ℕ
-head symbol messages =
+unfoldable pub head : ℕ → List ℕ → List Stamped → List ℕ
+head symbol day messages =
     codes "<svg xmlns=\"http://www.w3.org/2000/svg\" width=\"1280\" height=\"770\" viewBox=\"0 0 6400 3850\">\n" ⊕ style ⊕ hatchings
-    ⊕ codes "<rect class=\"page\" width=\"6400\" height=\"3850\"/>\n" ⊕ title symbol messages ⊕ names
+    ⊕ codes "<rect class=\"page\" width=\"6400\" height=\"3850\"/>\n" ⊕ title symbol day messages ⊕ names
 
 -- messages at their places, each with the labels for which those before it leave room
 abbrev pub elements : List Room → List Stamped → List Place → List ℕ
@@ -46,18 +47,18 @@ elements rooms _ _ = []
 unfoldable pub elements_over : Axis → ℕ → List Stamped → List ℕ
 elements_over axis last messages = elements [] messages (places_of axis last messages)
 
--- the end of the day's data, and then the messages
-unfoldable pub day_over : Axis → List Stamped → List Stamped → List ℕ
-day_over axis day messages = data_end day ⊕ elements_over axis (last_moment day) messages
+-- the end of the data, and then the messages
+unfoldable pub day_over : Axis → ℕ → List Stamped → List ℕ
+day_over axis last messages = data_end last ⊕ elements_over axis last messages
 
 -- messages over the axis of their prices, with its ticks; where they have none, over an axis without ticks
-abbrev pub over_axis : Option Axis → List Stamped → List Stamped → List ℕ
-over_axis (Some axis) day messages = price_ticks axis ⊕ day_over axis day messages
-over_axis None day messages = day_over (record { low = 0; high = 1 }) day messages
+abbrev pub over_axis : Option Axis → ℕ → List Stamped → List ℕ
+over_axis (Some axis) last messages = price_ticks axis ⊕ day_over axis last messages
+over_axis None last messages = day_over (record { low = 0; high = 1 }) last messages
 
 -- the axis is that of the least and the greatest price that is drawn
-unfoldable pub messages_text : List Stamped → List Stamped → List ℕ
-messages_text day messages = over_axis (axis_of (lowest messages) (highest messages)) day messages
+unfoldable pub messages_text : ℕ → List Stamped → List ℕ
+messages_text last messages = over_axis (axis_of (lowest messages) (highest messages)) last messages
 
 -- the words of a picture of a symbol of which nothing is said
 unfoldable pub silence : ℕ → List Stamped → List ℕ
@@ -66,11 +67,11 @@ silence symbol messages =
     then codes "<text class=\"nothing\" x=\"3500\" y=\"1600\">Nothing is said of symbol " ⊕ decimal symbol ⊕ codes "</text>\n"
     else []
 
--- the picture of these messages of a day
-unfoldable pub drawing : ℕ → List Stamped → List Stamped → List ℕ
-drawing symbol day messages =
-    head symbol messages ⊕ time_ticks ⊕ messages_text day messages ⊕ silence symbol messages ⊕ codes "</svg>\n"
+-- the picture of these messages up to the last moment, under words for the day
+unfoldable pub drawing : ℕ → List ℕ → ℕ → List Stamped → List ℕ
+drawing symbol words last messages =
+    head symbol words messages ⊕ time_ticks ⊕ messages_text last messages ⊕ silence symbol messages ⊕ codes "</svg>\n"
 
 -- the picture of a symbol's day: of its messages and those of the market
-abbrev pub picture_of : ℕ → List Stamped → List ℕ
-picture_of symbol day = drawing symbol day (shown symbol day)
+abbrev pub picture_of : ℕ → Option ℕ → Days → List ℕ
+picture_of symbol wanted days = drawing symbol (day_words wanted days) (last_moment days.messages) (shown symbol days.messages)

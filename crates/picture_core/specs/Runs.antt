@@ -1,15 +1,16 @@
 -- What a run of the program leaves, by what its words ask for.
 use Rattle.std.specs.Prelude.{◌≡◌, ◌⊎◌, ℕ, List, Option, Some, None, IfSome}
 use Rattle.std.specs.Io.KnownBytes.{Appends}
-use Rattle.wire_out.specs.declared.message.Stamped.{Stamped}
-use Rattle.host_core.specs.declared.status.Status.{Status}
 use Rattle.host_core.specs.declared.status.Status.TheVariants.{Done, Usage, ReadFault, SendFault, BadText}
 use Rattle.host_core.specs.Outside.{Rose}
 use Rattle.host_core.specs.Streams.{AppendsPart}
 use Rattle.picture_core.specs.Texts.{IsBadAt}
-use Rattle.picture_core.specs.Reads.{IsRead}
+use Rattle.picture_core.specs.Days.{Days}
+use Rattle.picture_core.specs.Reads.{TellsDay, LacksDay}
 use Rattle.picture_core.specs.Pictures.{picture_of}
 use Rattle.picture_core.specs.Told.{help_text}
+use Rattle.picture_core.specs.declared.outcome.Outcome.{Outcome}
+use Rattle.picture_core.specs.declared.outcome.Outcome.TheVariants.{Ended, NoDay}
 use Rattle.picture_core.specs.declared.words.Command.{Command}
 use Rattle.picture_core.specs.declared.words.Command.TheVariants.{Help, Draw}
 
@@ -25,33 +26,35 @@ abbrev pub streams : Option (List ℕ) → Option (List ℕ) → ℕ → ℕ →
 streams input output read_errors write_errors = record { input = input; output = output; read_errors = read_errors; write_errors = write_errors }
 
 -- a text was written whole, or the writer failed behind a part of it
-pub record IsSent (text : List ℕ) (status : Status) (before after : Option (List ℕ)) : Type 0 where
-  pub whole : status ≡ Done → Appends before after text
-  pub part : status ≡ SendFault → AppendsPart before after text
-  pub ends : (status ≡ Done) ⊎ (status ≡ SendFault)
+pub record IsSent (text : List ℕ) (outcome : Outcome) (before after : Option (List ℕ)) : Type 0 where
+  pub whole : outcome ≡ Ended Done → Appends before after text
+  pub part : outcome ≡ Ended SendFault → AppendsPart before after text
+  pub ends : (outcome ≡ Ended Done) ⊎ (outcome ≡ Ended SendFault)
 
--- the day of a symbol was drawn
-pub record Drawn (symbol : ℕ) (status : Status) (old new : Streams) : Type 0 where
-  -- the lines of the input print frames, and the picture of their messages was written, no byte more and none less
-  pub exact : status ≡ Done → IfSome old.input (λ text. (day : List Stamped) × IsRead text day × Appends old.output new.output (picture_of symbol day))
+-- a day of a symbol was drawn: the one of that number, else the last one
+pub record Drawn (symbol : ℕ) (wanted : Option ℕ) (outcome : Outcome) (old new : Streams) : Type 0 where
+  -- the lines of the input print frames that tell that day, and its picture was written, no byte more and none less
+  pub exact : outcome ≡ Ended Done → IfSome old.input (λ text. (days : Days) × TellsDay wanted text days × Appends old.output new.output (picture_of symbol wanted days))
   -- where the writer failed, a part of that picture from its begin on
-  pub part : status ≡ SendFault → IfSome old.input (λ text. (day : List Stamped) × IsRead text day × AppendsPart old.output new.output (picture_of symbol day))
+  pub part : outcome ≡ Ended SendFault → IfSome old.input (λ text. (days : Days) × TellsDay wanted text days × AppendsPart old.output new.output (picture_of symbol wanted days))
   -- the line of that number is the first that prints none
-  pub bad : (number : ℕ) → status ≡ BadText number → IfSome old.input (λ text. IsBadAt number text)
+  pub bad : (number : ℕ) → outcome ≡ Ended (BadText number) → IfSome old.input (λ text. IsBadAt number text)
+  -- the frames that they print don't tell that day
+  pub no_day : outcome ≡ NoDay → IfSome old.input (LacksDay wanted)
   -- else nothing is written
-  pub quiet : (status ≡ Done → ⊥) → (status ≡ SendFault → ⊥) → new.output ≡ old.output
+  pub quiet : (outcome ≡ Ended Done → ⊥) → (outcome ≡ Ended SendFault → ⊥) → new.output ≡ old.output
   -- a fault is told only where reading or writing told an error
-  pub read_cause : status ≡ ReadFault → Rose old.read_errors new.read_errors
-  pub send_cause : status ≡ SendFault → Rose old.write_errors new.write_errors
+  pub read_cause : outcome ≡ Ended ReadFault → Rose old.read_errors new.read_errors
+  pub send_cause : outcome ≡ Ended SendFault → Rose old.write_errors new.write_errors
   -- other words
-  pub words : status ≡ Usage → ⊥
+  pub words : outcome ≡ Ended Usage → ⊥
 
 -- the help was written
-pub record Helped (status : Status) (old new : Streams) : Type 0 where
-  pub sent : IsSent help_text status old.output new.output
-  pub send_cause : status ≡ SendFault → Rose old.write_errors new.write_errors
+pub record Helped (outcome : Outcome) (old new : Streams) : Type 0 where
+  pub sent : IsSent help_text outcome old.output new.output
+  pub send_cause : outcome ≡ Ended SendFault → Rose old.write_errors new.write_errors
 
-abbrev pub Ran : Option Command → Status → Streams → Streams → Type 0
-Ran None status old new = (status ≡ Usage) × (new ≡ old)
-Ran (Some Help) status old new = Helped status old new
-Ran (Some (Draw symbol)) status old new = Drawn symbol status old new
+abbrev pub Ran : Option Command → Outcome → Streams → Streams → Type 0
+Ran None outcome old new = (outcome ≡ Ended Usage) × (new ≡ old)
+Ran (Some Help) outcome old new = Helped outcome old new
+Ran (Some (Draw symbol day)) outcome old new = Drawn symbol day outcome old new

@@ -7,11 +7,9 @@ ghost use Rattle.picture_core.specs.DataEnd.{end_words, end_line, data_end};
 use crate::axis::x_of;
 use crate::element::{Style, label_text};
 use crate::label::time;
-use crate::shown::last_moment;
 use price_core::NoMemory;
 use session_core::Moment;
 use std::alloc::Global;
-use wire_out::Stamped;
 
 /// The words over the line: behind it on the left of the picture, else before it.
 #[tactic(auto, unfolding(crate::specs::DataEnd::end_words))]
@@ -39,14 +37,10 @@ fn end_line(alloc: Global, x: u64) -> Result<String, NoMemory>
     )?)
 }
 
-/// The end of the data, where any moment is told.
-pub fn data_end(alloc: Global, day: &[Stamped]) -> Result<String, NoMemory>
-    ensures { IfOk result (λ text. string_bytes text ≡ data_end day.now) }
+/// The end of the data, at the last moment that is told.
+pub fn data_end(alloc: Global, last: Moment) -> Result<String, NoMemory>
+    ensures { IfOk result (λ text. string_bytes text ≡ data_end last) }
 {
-    if day.is_empty() {
-        return Ok(String::new(alloc));
-    }
-    let last = last_moment(day);
     let x = x_of(last);
     let line = end_line(alloc, x)?;
     let words = end_words(alloc, x, last)?;

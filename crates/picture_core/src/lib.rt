@@ -3,10 +3,12 @@
 
 mod axis;
 mod data_end;
+mod day;
 mod element;
 mod frame;
 mod label;
 mod law;
+mod outcome;
 mod picture;
 mod place;
 mod reading;
@@ -18,5 +20,6 @@ mod span;
 mod told;
 mod words;
 
+pub use outcome::Outcome;
 pub use run::chart;
 pub use told::{Ending, end};

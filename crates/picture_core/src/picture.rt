@@ -11,6 +11,7 @@ ghost use Rattle.picture_core.specs.Pictures.{title, head, elements_over, day_ov
 
 use crate::axis::{Axis, axis_of};
 use crate::data_end::data_end;
+use crate::day::DayKeeper;
 use crate::element::element;
 use crate::frame::{hatchings, names, put_prices, put_times, style};
 use crate::label::name;
@@ -38,21 +39,31 @@ fn is_silent(messages: &[Stamped]) -> bool
 
 /// The words over the picture.
 #[tactic(auto, unfolding(crate::specs::Pictures::title))]
-fn title(alloc: Global, symbol: u16, messages: &[Stamped]) -> Result<String, NoMemory>
-    ensures { IfOk result (λ text. string_bytes text ≡ title symbol messages.now) }
+fn title(
+    alloc: Global,
+    symbol: u16,
+    day: &str,
+    messages: &[Stamped],
+) -> Result<String, NoMemory>
+    ensures { IfOk result (λ text. string_bytes text ≡ title symbol day.now messages.now) }
 {
     let name = name(alloc, messages)?;
     Ok(format!(in alloc;
-        "<text class=\"title\" x=\"800\" y=\"150\">Symbol {symbol} {name}</text><text x=\"800\" y=\"230\">price bands, pauses, halts and restrictions of the day, Eastern time</text>\n"
+        "<text class=\"title\" x=\"800\" y=\"150\">Symbol {symbol} {name}{day}</text><text x=\"800\" y=\"230\">price bands, pauses, halts and restrictions of the day, Eastern time</text>\n"
     )?)
 }
 
 /// Begins a picture with its style, its frame and its title.
 #[tactic(auto, unfolding(crate::specs::Pictures::head))]
-fn head(alloc: Global, symbol: u16, messages: &[Stamped]) -> Result<String, NoMemory>
-    ensures { IfOk result (λ text. string_bytes text ≡ head symbol messages.now) }
+fn head(
+    alloc: Global,
+    symbol: u16,
+    day: &str,
+    messages: &[Stamped],
+) -> Result<String, NoMemory>
+    ensures { IfOk result (λ text. string_bytes text ≡ head symbol day.now messages.now) }
 {
-    let title = title(alloc, symbol, messages)?;
+    let title = title(alloc, symbol, day, messages)?;
     let (style, hatchings, names) = (style(), hatchings(), names());
     Ok(format!(in alloc;
         "<svg xmlns=\"http://www.w3.org/2000/svg\" width=\"1280\" height=\"770\" viewBox=\"0 0 6400 3850\">\n{style}{hatchings}<rect class=\"page\" width=\"6400\" height=\"3850\"/>\n{title}{names}"
@@ -99,20 +110,20 @@ fn put_elements(
     Ok(())
 }
 
-/// Draws where the day's data ends, and then the messages over an axis of prices.
+/// Draws where the data ends, and then the messages over an axis of prices.
 #[tactic(auto, unfolding(crate::specs::Pictures::day_over))]
 fn put_day(
     alloc: Global,
     text: &mut String,
     axis: &Axis,
-    day: &[Stamped],
+    last: Moment,
     messages: &[Stamped],
 ) -> Result<(), NoMemory>
     requires { IsAxis axis.now }
-    ensures { OnOk result (string_bytes text.new ≡ string_bytes text.old ++ day_over axis.now day.now messages.now) }
+    ensures { OnOk result (string_bytes text.new ≡ string_bytes text.old ++ day_over axis.now last messages.now) }
 {
-    text.push_str(data_end(alloc, day)?.as_str())?;
-    put_elements(alloc, text, axis, last_moment(day), messages)
+    text.push_str(data_end(alloc, last)?.as_str())?;
+    put_elements(alloc, text, axis, last, messages)
 }
 
 /// Draws the messages, over the axis of their prices where they have any.
@@ -120,17 +131,17 @@ fn put_day(
 fn put_messages(
     alloc: Global,
     text: &mut String,
-    day: &[Stamped],
+    last: Moment,
     messages: &[Stamped],
 ) -> Result<(), NoMemory>
-    ensures { OnOk result (string_bytes text.new ≡ string_bytes text.old ++ messages_text day.now messages.now) }
+    ensures { OnOk result (string_bytes text.new ≡ string_bytes text.old ++ messages_text last messages.now) }
 {
     match axis_of(messages) {
         Some(axis) => {
             put_prices(alloc, text, &axis)?;
-            put_day(alloc, text, &axis, day, messages)
+            put_day(alloc, text, &axis, last, messages)
         }
-        None => put_day(alloc, text, &Axis { low: 0, high: 1 }, day, messages),
+        None => put_day(alloc, text, &Axis { low: 0, high: 1 }, last, messages),
     }
 }
 
@@ -147,19 +158,20 @@ fn silence(alloc: Global, symbol: u16, messages: &[Stamped]) -> Result<String, N
     )?)
 }
 
-/// The picture of these messages of a day.
+/// The picture of these messages up to the last moment, under words for the day.
 #[tactic(auto, unfolding(crate::specs::Pictures::drawing))]
 fn drawing(
     alloc: Global,
     symbol: u16,
-    day: &[Stamped],
+    words: &str,
+    last: Moment,
     messages: &[Stamped],
 ) -> Result<String, NoMemory>
-    ensures { IfOk result (λ text. string_bytes text ≡ drawing symbol day.now messages.now) }
+    ensures { IfOk result (λ text. string_bytes text ≡ drawing symbol words.now last messages.now) }
 {
-    let mut text = head(alloc, symbol, messages)?;
+    let mut text = head(alloc, symbol, words, messages)?;
     put_times(alloc, &mut text)?;
-    put_messages(alloc, &mut text, day, messages)?;
+    put_messages(alloc, &mut text, last, messages)?;
     let silence = silence(alloc, symbol, messages)?;
     text.push_str(silence.as_str())?;
     text.push_str("</svg>\n")?;
@@ -167,9 +179,16 @@ fn drawing(
 }
 
 /// The picture of a symbol's day as an SVG, of its messages and those of the market.
-pub fn picture(alloc: Global, symbol: u16, day: &[Stamped]) -> Result<String, NoMemory>
-    ensures { IfOk result (λ text. string_bytes text ≡ picture_of symbol day.now) }
+pub fn picture(
+    alloc: Global,
+    symbol: u16,
+    wanted: Option<u64>,
+    days: &DayKeeper,
+) -> Result<String, NoMemory>
+    ensures { IfOk result (λ text. string_bytes text ≡ picture_of symbol wanted days.now) }
 {
+    let words = days.words(alloc, wanted)?;
+    let day = days.messages();
     let messages = shown(alloc, symbol, day)?;
-    drawing(alloc, symbol, day, &messages)
+    drawing(alloc, symbol, words.as_str(), last_moment(day), &messages)
 }

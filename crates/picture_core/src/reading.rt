@@ -1,7 +1,6 @@
-//! Published lines, read into their messages.
+//! Published lines, read into the messages of one day.
 
-ghost use Rattle.std.specs.Prelude.{◌≡◌, ◌+◌, ◌<◌, ◌⊎◌, ◌++◌, ◌^◌, ℕ, List, [], Some, Ok, true, false, length, IfOk, IfErr, OnOk, OnErr, IfSome};
-ghost use Rattle.std.specs.List.{cons_option};
+ghost use Rattle.std.specs.Prelude.{◌≡◌, ◌+◌, ◌<◌, ◌≤◌, ◌⊎◌, ◌++◌, ◌^◌, ℕ, List, [], Some, Ok, true, false, length, IfOk, IfErr, OnOk, OnErr, IfSome};
 ghost use Rattle.std.specs.Io.BufRead.{strip_last, take_through, DropsThrough};
 ghost use Rattle.std.specs.Io.KnownBytes.{IsAtEnd};
 ghost use Rattle.host_core.specs.declared.status.Status.TheVariants.{ReadFault, NoMemory, BadText};
@@ -9,14 +8,16 @@ ghost use Rattle.host_core.specs.Outside.{raised};
 ghost use Rattle.wire_out.specs.declared.message.Frame.{Frame};
 ghost use Rattle.text_core.specs.Lines.{PrintsFrame};
 ghost use Rattle.picture_core.specs.Shown.{message_of};
+ghost use Rattle.picture_core.specs.Days.{days_after};
 ghost use Rattle.picture_core.specs.Reads.{HasRead, IsRead, Stops, Hinders};
 
+use crate::day::DayKeeper;
 use crate::shown::message_of;
 use host_core::{LineSource, Status};
 use std::alloc::Global;
 use std::io::{self, ErrorKind};
 use text_core::read_frame;
-use wire_out::Stamped;
+use wire_out::Frame;
 
 /// The status of a failed read.
 fn status_of(error: io::Error) -> Status
@@ -57,27 +58,36 @@ fn without_newline(line: &[u8]) -> &[u8]
     }
 }
 
-/// Keeps a message, where there is one.
-fn keep(messages: &mut Vec<Stamped>, message: Option<Stamped>) -> Result<(), Status>
-    ensures kept { OnOk result (messages.new.items ≡ messages.old.items ++ cons_option message []) }
+/// Takes the message of a frame, where it has one.
+fn take(days: &mut DayKeeper, wanted: Option<u64>, frame: &Frame) -> Result<(), Status>
+    requires { days.old.count + 1 < 2 ^ 64 }
+    ensures exact { OnOk result (days.new ≡ days_after wanted days.old (message_of frame.now)) }
+    ensures bound { OnOk result (days.new.count ≤ days.old.count + 1) }
     ensures memory { IfErr result (λ s. s ≡ NoMemory) }
 {
-    let Some(message) = message else {
+    let Some(message) = message_of(frame) else {
         return Ok(());
     };
-    match messages.extend_from_slice(&[message]) {
+    match days.take(wanted, &message) {
         Ok(()) => Ok(()),
         Err(_) => Err(Status::NoMemory),
     }
 }
 
 /// Takes a line with its newline, which is of that number.
-fn take_line(line: &[u8], number: u64, messages: &mut Vec<Stamped>) -> Result<(), Status>
-    ensures printed { OnOk result ((frame : Frame) × PrintsFrame (strip_last 10 line.now) frame × (messages.new.items ≡ messages.old.items ++ cons_option (message_of frame) [])) }
+fn take_line(
+    line: &[u8],
+    number: u64,
+    wanted: Option<u64>,
+    days: &mut DayKeeper,
+) -> Result<(), Status>
+    requires { days.old.count + 1 < 2 ^ 64 }
+    ensures printed { OnOk result ((frame : Frame) × PrintsFrame (strip_last 10 line.now) frame × (days.new ≡ days_after wanted days.old (message_of frame))) }
+    ensures bound { OnOk result (days.new.count ≤ days.old.count + 1) }
     ensures stopped { IfErr result (λ s. (s ≡ NoMemory) ⊎ ((s ≡ BadText number) × ((frame : Frame) → PrintsFrame (strip_last 10 line.now) frame → ⊥))) }
 {
     match read_frame(without_newline(line)) {
-        Ok(frame) => keep(messages, message_of(&frame)),
+        Ok(frame) => take(days, wanted, &frame),
         Err(_) => Err(Status::BadText { line: number }),
     }
 }
@@ -87,28 +97,35 @@ fn read_turn<R: LineSource>(
     reader: &mut R,
     line: &mut Vec<u8>,
     before: u64,
-    messages: &mut Vec<Stamped>,
+    wanted: Option<u64>,
+    days: &mut DayKeeper,
 ) -> Result<bool, Status>
-    requires { before + 1 < 2 ^ 64 }
-    ensures goes { result ≡ Ok true → (text : List ℕ) → HasRead text (R.remaining reader.old) before messages.old.items → HasRead text (R.remaining reader.new) (before + 1) messages.new.items }
-    ensures ended { result ≡ Ok false → (text : List ℕ) → HasRead text (R.remaining reader.old) before messages.old.items → IsRead text messages.new.items }
-    ensures stopped { IfErr result (λ s. (text : List ℕ) → HasRead text (R.remaining reader.old) before messages.old.items → Stops s text) }
+    requires lines { before + 1 < 2 ^ 64 }
+    requires days { days.old.count ≤ before }
+    ensures goes { result ≡ Ok true → (text : List ℕ) → HasRead wanted text (R.remaining reader.old) before days.old → HasRead wanted text (R.remaining reader.new) (before + 1) days.new }
+    ensures ended { result ≡ Ok false → (text : List ℕ) → HasRead wanted text (R.remaining reader.old) before days.old → IsRead wanted text days.new }
+    ensures stopped { IfErr result (λ s. (text : List ℕ) → HasRead wanted text (R.remaining reader.old) before days.old → Stops s text) }
+    ensures bound { OnOk result (days.new.count ≤ before + 1) }
     ensures cause { IfErr result Hinders }
     ensures failed { IfErr result (λ s. s ≡ ReadFault → R.failures reader.new ≡ raised (R.failures reader.old)) }
     ensures fine { OnOk result (R.failures reader.new ≡ R.failures reader.old) }
 {
     if next_line(reader, line)? {
-        take_line(line, before + 1, messages)?;
+        take_line(line, before + 1, wanted, days)?;
         Ok(true)
     } else {
         Ok(false)
     }
 }
 
-/// Reads all lines, and answers their messages.
-pub fn read_messages<R: LineSource>(alloc: Global, reader: &mut R) -> Result<Vec<Stamped>, Status>
+/// Reads all lines, and answers their days, with the messages of the one that is asked for.
+pub fn read_days<R: LineSource>(
+    alloc: Global,
+    wanted: Option<u64>,
+    reader: &mut R,
+) -> Result<DayKeeper, Status>
     // The lines of the whole input print frames.
-    ensures read { IfOk result (λ messages. IfSome (R.remaining reader.old) (λ text. IsRead text messages.items)) }
+    ensures read { IfOk result (λ days. IfSome (R.remaining reader.old) (λ text. IsRead wanted text days)) }
     // A line that prints none, a failed read or want of memory.
     ensures stopped { IfErr result (λ s. IfSome (R.remaining reader.old) (Stops s)) }
     ensures cause { IfErr result Hinders }
@@ -117,10 +134,10 @@ pub fn read_messages<R: LineSource>(alloc: Global, reader: &mut R) -> Result<Vec
     ensures fine { OnOk result (R.failures reader.new ≡ R.failures reader.old) }
 {
     let mut line = Vec::new(alloc);
-    let mut messages = Vec::new(alloc);
+    let mut days = DayKeeper::new(alloc);
     for before in 0..u64::MAX {
-        if !read_turn(reader, &mut line, before, &mut messages)? {
-            return Ok(messages);
+        if !read_turn(reader, &mut line, before, wanted, &mut days)? {
+            return Ok(days);
         }
     }
     // So many lines have no room.

@@ -1,19 +1,22 @@
 //! The top call: what the words ask for, done over a reader and a sink.
 
-ghost use Rattle.std.specs.Prelude.{◌≡◌, List, Option, IfOk, IfErr, OnOk, IfSome, map};
+ghost use Rattle.std.specs.Prelude.{◌≡◌, ◌≢◌, ◌⊎◌, [], List, Option, IfOk, IfErr, OnOk, IfSome, map};
 ghost use Rattle.std.specs.String.{string_bytes};
-ghost use Rattle.wire_out.specs.declared.message.Stamped.{Stamped};
+ghost use Rattle.picture_core.specs.declared.outcome.Outcome.TheVariants.{Ended, NoDay};
 ghost use Rattle.picture_core.specs.declared.words.Command.{Command};
 ghost use Rattle.picture_core.specs.Words.{Asks};
-ghost use Rattle.picture_core.specs.Reads.{IsRead, Stops, Hinders};
+ghost use Rattle.picture_core.specs.Days.{Days};
+ghost use Rattle.picture_core.specs.Reads.{TellsDay, Lacks, Prevents};
 ghost use Rattle.picture_core.specs.Pictures.{picture_of};
 ghost use Rattle.picture_core.specs.Told.{help_text};
 ghost use Rattle.picture_core.specs.Runs.{Drawn, Ran, streams};
-ghost use Rattle.host_core.specs.declared.status.Status.TheVariants.{ReadFault};
+ghost use Rattle.host_core.specs.declared.status.Status.TheVariants.{ReadFault, NoMemory};
 ghost use Rattle.host_core.specs.Outside.{raised};
 
+use crate::day::DayKeeper;
+use crate::outcome::Outcome;
 use crate::picture::picture;
-use crate::reading::read_messages;
+use crate::reading::read_days;
 use crate::send::send;
 use crate::words::{Command, command_of};
 use host_core::{LineSource, Sink, Status};
@@ -21,7 +24,7 @@ use std::alloc::Global;
 
 /// What is written where help is asked for.
 const HELP: &str =
-    "chart <symbol>: draws the day of the symbol of that id, 0 to 65535, as an SVG, from the lines of published frames on standard input\n";
+    "chart <symbol> [--day <number>]: draws a day of the symbol of that id, 0 to 65535, as an SVG, from the lines of published frames on standard input; days are counted from 1, and without a number it is the last one\n";
 
 /// How the program is called.
 #[tactic(auto, unfolding(crate::specs::Told::help_text))]
@@ -31,29 +34,59 @@ fn help() -> &'static str
     HELP
 }
 
-/// The picture of that symbol's day, once the input is read whole.
-fn drawn<R: LineSource>(alloc: Global, symbol: u16, reader: &mut R) -> Result<String, Status>
-    ensures stopped { IfErr result (λ s. IfSome (R.remaining reader.old) (Stops s)) }
-    ensures cause { IfErr result Hinders }
-    ensures exact { IfOk result (λ picture. IfSome (R.remaining reader.old) (λ text. (day : List Stamped) × IsRead text day × (string_bytes picture ≡ picture_of symbol day))) }
-    ensures failed { IfErr result (λ s. s ≡ ReadFault → R.failures reader.new ≡ raised (R.failures reader.old)) }
-    ensures fine { OnOk result (R.failures reader.new ≡ R.failures reader.old) }
+/// The picture of that symbol's day, where the day is there.
+fn drawn_of(
+    alloc: Global,
+    symbol: u16,
+    wanted: Option<u64>,
+    days: &DayKeeper,
+) -> Result<String, Outcome>
+    ensures exact { IfOk result (λ picture. string_bytes picture ≡ picture_of symbol wanted days.now) }
+    ensures there { OnOk result (days.now.messages ≢ []) }
+    ensures absent { IfErr result (λ o. (o ≡ Ended NoMemory) ⊎ ((o ≡ NoDay) × (days.now.messages ≡ []))) }
 {
-    let day = read_messages(alloc, reader)?;
-    match picture(alloc, symbol, &day) {
+    if days.messages().is_empty() {
+        return Err(Outcome::NoDay);
+    }
+    match picture(alloc, symbol, wanted, days) {
         Ok(text) => Ok(text),
-        Err(_) => Err(Status::NoMemory),
+        Err(_) => Err(Outcome::Ended(Status::NoMemory)),
     }
 }
 
-fn draw<R: LineSource, W: Sink>(alloc: Global, symbol: u16, reader: &mut R, sink: &mut W) -> Status
-    ensures { Drawn symbol result
+/// The picture of that symbol's day, once the input is read whole.
+fn drawn<R: LineSource>(
+    alloc: Global,
+    symbol: u16,
+    wanted: Option<u64>,
+    reader: &mut R,
+) -> Result<String, Outcome>
+    ensures exact { IfOk result (λ picture. IfSome (R.remaining reader.old) (λ text. (days : Days) × TellsDay wanted text days × (string_bytes picture ≡ picture_of symbol wanted days))) }
+    ensures absent { IfErr result (λ o. IfSome (R.remaining reader.old) (Lacks wanted o)) }
+    ensures cause { IfErr result Prevents }
+    ensures failed { IfErr result (λ o. o ≡ Ended ReadFault → R.failures reader.new ≡ raised (R.failures reader.old)) }
+    ensures fine { OnOk result (R.failures reader.new ≡ R.failures reader.old) }
+{
+    match read_days(alloc, wanted, reader) {
+        Ok(days) => drawn_of(alloc, symbol, wanted, &days),
+        Err(status) => Err(Outcome::Ended(status)),
+    }
+}
+
+fn draw<R: LineSource, W: Sink>(
+    alloc: Global,
+    symbol: u16,
+    wanted: Option<u64>,
+    reader: &mut R,
+    sink: &mut W,
+) -> Outcome
+    ensures { Drawn symbol wanted result
         (streams (R.remaining reader.old) (W.contents sink.old) (R.failures reader.old) (W.failures sink.old))
         (streams (R.remaining reader.new) (W.contents sink.new) (R.failures reader.new) (W.failures sink.new)) }
 {
-    match drawn(alloc, symbol, reader) {
+    match drawn(alloc, symbol, wanted, reader) {
         Ok(text) => send(sink, text.as_str()),
-        Err(status) => status,
+        Err(outcome) => outcome,
     }
 }
 
@@ -63,14 +96,14 @@ pub fn chart<R: LineSource, W: Sink>(
     args: &[&str],
     reader: &mut R,
     sink: &mut W,
-) -> Status
+) -> Outcome
     ensures { (command : Option Command) × Asks (map (λ w. w.now) args.now) command × Ran command result
         (streams (R.remaining reader.old) (W.contents sink.old) (R.failures reader.old) (W.failures sink.old))
         (streams (R.remaining reader.new) (W.contents sink.new) (R.failures reader.new) (W.failures sink.new)) }
 {
     match command_of(args) {
         Some(Command::Help) => send(sink, help()),
-        Some(Command::Draw { symbol }) => draw(alloc, symbol, reader, sink),
-        None => Status::Usage,
+        Some(Command::Draw { symbol, day }) => draw(alloc, symbol, day, reader, sink),
+        None => Outcome::Ended(Status::Usage),
     }
 }

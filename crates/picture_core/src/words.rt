@@ -1,7 +1,7 @@
 //! The command line.
 
 ghost use Rattle.std.specs.Prelude.{◌≡◌, ◌<◌, ◌^◌, ℕ, Some, IfSome, decimal, map};
-ghost use Rattle.picture_core.specs.Words.{AsksWord, Asks};
+ghost use Rattle.picture_core.specs.Words.{AsksWord, AsksDay, AsksOption, Asks};
 
 use itoa::Buffer;
 
@@ -10,8 +10,8 @@ use itoa::Buffer;
 pub enum Command {
     /// Tells how the program is called.
     Help,
-    /// Draws the day of that symbol.
-    Draw { symbol: u16 },
+    /// Draws a day of that symbol: the day of that number, from 1 on, or the last one.
+    Draw { symbol: u16, day: Option<u64> },
 }
 
 /// The symbol of which a word is the decimal number, without a sign and without a leading zero.
@@ -30,6 +30,35 @@ fn symbol_of(word: &str) -> Option<u16>
     }
 }
 
+/// The number of which a word is the decimal number, without a sign and without a leading zero.
+fn number_of(word: &str) -> Option<u64>
+    ensures only { IfSome result (λ number. word.now ≡ decimal number) }
+    ensures found { (number : ℕ) → number < 2 ^ 64 → word.now ≡ decimal number → result ≡ Some number }
+{
+    let Ok(number) = word.parse::<u64>() else {
+        return None;
+    };
+    let mut buffer = Buffer::new();
+    if buffer.format(number) == word {
+        Some(number)
+    } else {
+        None
+    }
+}
+
+/// The day of which a word is the number, from 1 on.
+fn day_of(word: &str) -> Option<u64>
+    ensures only { IfSome result (λ day. (0 < day) × (word.now ≡ decimal day)) }
+    ensures found { (day : ℕ) → 0 < day → day < 2 ^ 64 → word.now ≡ decimal day → result ≡ Some day }
+{
+    let day = number_of(word)?;
+    if day > 0 {
+        Some(day)
+    } else {
+        None
+    }
+}
+
 /// What one word asks for.
 fn command_of_word(word: &str) -> Option<Command>
     ensures { AsksWord word.now result }
@@ -38,8 +67,31 @@ fn command_of_word(word: &str) -> Option<Command>
         return Some(Command::Help);
     }
     match symbol_of(word) {
-        Some(symbol) => Some(Command::Draw { symbol }),
+        Some(symbol) => Some(Command::Draw { symbol, day: None }),
         None => None,
+    }
+}
+
+/// What a symbol with the number of a day asks for.
+fn command_of_day(word: &str, number: &str) -> Option<Command>
+    ensures { AsksDay word.now number.now result }
+{
+    let symbol = symbol_of(word)?;
+    let day = day_of(number)?;
+    Some(Command::Draw {
+        symbol,
+        day: Some(day),
+    })
+}
+
+/// What a symbol with an option asks for.
+fn command_of_option(word: &str, option: &str, number: &str) -> Option<Command>
+    ensures { AsksOption word.now option.now number.now result }
+{
+    if option == "--day" {
+        command_of_day(word, number)
+    } else {
+        None
     }
 }
 
@@ -49,6 +101,7 @@ pub fn command_of(args: &[&str]) -> Option<Command>
 {
     match args {
         [_, word] => command_of_word(word),
+        [_, word, option, number] => command_of_option(word, option, number),
         _ => None,
     }
 }

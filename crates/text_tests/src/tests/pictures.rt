@@ -2,10 +2,12 @@
 
 use Sign::{Begins, Ends, Has, Lacks, Nothing};
 use host_core::{Status, Stream};
-use picture_core::chart;
+use picture_core::{Outcome, chart};
 use std::alloc::Global;
 use std::process::Abort;
 use std::test::Fail;
+
+const DONE: Outcome = Outcome::Ended(Status::Done);
 
 /// What a text that was written shows.
 #[derive(Clone, Copy)]
@@ -29,7 +31,7 @@ fn shows(text: &str, sign: Sign) -> bool {
 }
 
 /// How the program ends for these words and lines, and what it writes.
-fn ended(alloc: Global, words: &[&str], lines: &str) -> Result<(Status, String), Fail> {
+fn ended(alloc: Global, words: &[&str], lines: &str) -> Result<(Outcome, String), Fail> {
     let mut reader = Stream::new(lines.as_bytes());
     let mut written = Vec::new(alloc);
     let end = chart(alloc, words, &mut reader, &mut Stream::new(&mut written));
@@ -41,12 +43,12 @@ fn expect<R: Abort + AllocGlobal>(
     rt: &R,
     words: &[&str],
     lines: &str,
-    status: Status,
+    outcome: Outcome,
     signs: &[Sign],
 ) -> Result<(), Fail> {
     let (end, text) = ended(rt.alloc(), words, lines)?;
     for (place, sign) in signs.iter().enumerate() {
-        assert!(rt; end == status && shows(&text, *sign), "sign {place}");
+        assert!(rt; end == outcome && shows(&text, *sign), "sign {place}");
     }
     Ok(())
 }
@@ -60,7 +62,7 @@ fn a_pause_with_two_rounds_of_collars(rt: HostRuntime) -> Result<(), Fail> {
         &rt,
         &["chart", "7"],
         lines,
-        Status::Done,
+        DONE,
         &[
             Has("<rect class=\"pause\" x=\"1520\" y=\"3240\" width=\"120\""),
             Has("H1580M1520"),
@@ -79,7 +81,7 @@ fn what_nothing_ends_goes_to_the_last_moment_that_is_told(rt: HostRuntime) -> Re
         &rt,
         &["chart", "7"],
         lines,
-        Status::Done,
+        DONE,
         &[
             Has("<rect class=\"pause\" x=\"1520\" y=\"3240\" width=\"360\""),
             Has("<path class=\"end\" d=\"M1880 300V"),
@@ -96,7 +98,7 @@ fn words_that_would_stand_over_others_are_left_out(rt: HostRuntime) -> Result<()
         &rt,
         &["chart", "7"],
         lines,
-        Status::Done,
+        DONE,
         &[
             Has("<rect class=\"limit\" x=\"1520\""),
             Has("<rect class=\"limit\" x=\"1580\""),
@@ -116,33 +118,65 @@ fn a_market_wide_halt(rt: HostRuntime) -> Result<(), Fail> {
         &rt,
         &["chart", "0"],
         lines,
-        Status::Done,
+        DONE,
         &[
+            Begins("<svg "),
             Has("<rect class=\"breaker\" x=\"1760\" y=\"3420\" width=\"180\""),
+            Ends("</svg>\n"),
             Has("Nothing is said of symbol 0"),
         ],
     )
 }
 
+const TWO_DAYS: &str =
+    "1 04:00:00.000000000 listed 7 ABC\n2 10:00:00.000000000 state 7 paused\nack 4\n3 09:00:00.000000000 state 7 halted\n4 11:00:00.000000000 state 8 trading\n";
+
 #[test]
-fn an_empty_input(rt: HostRuntime) -> Result<(), Fail> {
+fn the_moment_that_goes_back_begins_a_day(rt: HostRuntime) -> Result<(), Fail> {
     expect(
         &rt,
-        &["chart", "65535"],
-        "",
-        Status::Done,
+        &["chart", "7"],
+        TWO_DAYS,
+        DONE,
         &[
-            Begins("<svg "),
-            Has("Nothing is said of symbol 65535"),
-            Lacks("data ends"),
-            Ends("</svg>\n"),
+            Has("Symbol 7 , day 2 of 2<"),
+            Has("<rect class=\"halt\""),
+            Lacks("<rect class=\"pause\""),
+            Has("data ends 11:00:00"),
+        ],
+    )?;
+    expect(
+        &rt,
+        &["chart", "7", "--day", "1"],
+        TWO_DAYS,
+        DONE,
+        &[
+            Has("Symbol 7 ABC, day 1 of 2<"),
+            Has("<rect class=\"pause\""),
+            Lacks("<rect class=\"halt\""),
+            Has("data ends 10:00:00"),
         ],
     )
 }
 
 #[test]
+fn a_day_that_is_not_there(rt: HostRuntime) -> Result<(), Fail> {
+    for number in ["3", "18446744073709551615"] {
+        expect(
+            &rt,
+            &["chart", "7", "--day", number],
+            TWO_DAYS,
+            Outcome::NoDay,
+            &[Nothing],
+        )?;
+    }
+    expect(&rt, &["chart", "7"], "ack 1\n", Outcome::NoDay, &[Nothing])?;
+    expect(&rt, &["chart", "7"], "", Outcome::NoDay, &[Nothing])
+}
+
+#[test]
 fn a_bad_line(rt: HostRuntime) -> Result<(), Fail> {
-    let bad = Status::BadText { line: 2 };
+    let bad = Outcome::Ended(Status::BadText { line: 2 });
     expect(
         &rt,
         &["chart", "0"],
@@ -154,20 +188,26 @@ fn a_bad_line(rt: HostRuntime) -> Result<(), Fail> {
 
 #[test]
 fn other_words(rt: HostRuntime) -> Result<(), Fail> {
+    let usage = Outcome::Ended(Status::Usage);
     for words in [
         ["chart"].as_slice(),
         &["chart", "07"],
         &["chart", "+7"],
         &["chart", "65536"],
         &["chart", "7", "8"],
+        &["chart", "7", "--day"],
+        &["chart", "7", "--day", "0"],
+        &["chart", "7", "--day", "01"],
+        &["chart", "7", "--days", "1"],
+        &["chart", "7", "--day", "18446744073709551616"],
     ] {
-        expect(&rt, words, "ack 1\n", Status::Usage, &[Nothing])?;
+        expect(&rt, words, "ack 1\n", usage, &[Nothing])?;
     }
     expect(
         &rt,
         &["chart", "--help"],
         "",
-        Status::Done,
+        DONE,
         &[Begins("chart <symbol>")],
     )
 }

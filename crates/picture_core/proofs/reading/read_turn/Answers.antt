@@ -8,5 +8,5 @@ pub returns-in_ok-take_line-clause-goes : goal.returns-in_ok-take_line-clause-go
 returns-in_ok-take_line-clause-goes g c is text read =
     let printed = (c.in_ok-take_line.ensures).printed in
     let first = subst (λ (line : List ℕ). PrintsFrame (strip_last 10 line) printed.0) c.deref.ensures.value printed.1 in
-    has_read_more text _ _ c.args.before c.next_line.new.line.items c.args.messages.now.items _ printed.0 read
+    has_read_more c.args.wanted text _ _ c.args.before c.next_line.new.line.items c.args.days.now _ printed.0 read
     ((c.in_ok-next_line.ensures).more (cc)) (c.in_ok-next_line.ensures).given (c.in_ok-next_line.ensures).rest first printed.2
