@@ -39,12 +39,7 @@ fn is_silent(messages: &[Stamped]) -> bool
 
 /// The words over the picture.
 #[tactic(auto, unfolding(crate::specs::Pictures::title))]
-fn title(
-    alloc: Global,
-    symbol: u16,
-    day: &str,
-    messages: &[Stamped],
-) -> Result<String, NoMemory>
+fn title(alloc: Global, symbol: u16, day: &str, messages: &[Stamped]) -> Result<String, NoMemory>
     ensures { IfOk result (λ text. string_bytes text ≡ title symbol day.now messages.now) }
 {
     let name = name(alloc, messages)?;
@@ -55,12 +50,7 @@ fn title(
 
 /// Begins a picture with its style, its frame and its title.
 #[tactic(auto, unfolding(crate::specs::Pictures::head))]
-fn head(
-    alloc: Global,
-    symbol: u16,
-    day: &str,
-    messages: &[Stamped],
-) -> Result<String, NoMemory>
+fn head(alloc: Global, symbol: u16, day: &str, messages: &[Stamped]) -> Result<String, NoMemory>
     ensures { IfOk result (λ text. string_bytes text ≡ head symbol day.now messages.now) }
 {
     let title = title(alloc, symbol, day, messages)?;

@@ -52,11 +52,7 @@ fn day_of(word: &str) -> Option<u64>
     ensures found { (day : ℕ) → 0 < day → day < 2 ^ 64 → word.now ≡ decimal day → result ≡ Some day }
 {
     let day = number_of(word)?;
-    if day > 0 {
-        Some(day)
-    } else {
-        None
-    }
+    if day > 0 { Some(day) } else { None }
 }
 
 /// What one word asks for.
