@@ -1,6 +1,6 @@
 -- A text that is read line by line.
 use Rattle.std.proofs.Common.{◌≡◌, ℕ, ◌+◌, ◌<◌, ◌++◌, ◌∷◌, [], List, length, sym, ap, ◌∙◌, subst, length-append, Option, Some, None, refl, IfSome}
-use Rattle.std.specs.List.{cons_option, fold, filter_map}
+use Rattle.std.specs.List.{cons_option, fold}
 use Rattle.std.proofs.lemmas.List.Elements.{filter_map-append}
 use Rattle.std.proofs.lemmas.List.Sums.{fold-append}
 use Rattle.std.specs.Io.BufRead.{first_piece, strip_last, take_through, drop_through, DropsThrough}

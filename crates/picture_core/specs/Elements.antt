@@ -12,7 +12,7 @@ use Rattle.wire_out.specs.declared.message.Stamped.{Stamped}
 use Rattle.picture_core.specs.Labels.{◌⊕◌, dollars_text, time_text}
 use Rattle.picture_core.specs.Rooms.{room_of_words, is_free, with_room}
 use Rattle.picture_core.specs.declared.element.Style.{Style}
-use Rattle.picture_core.specs.declared.element.Style.TheVariants.{Plain, Strong, Plate, PlateBefore}
+use Rattle.picture_core.specs.declared.element.Style.TheVariants.{Plain, Before, Strong}
 use Rattle.picture_core.specs.declared.place.Place.{Place}
 use Rattle.picture_core.specs.declared.room.Room.{Room}
 
@@ -31,13 +31,12 @@ label style x y words end = record { style = style; x = x; y = y; words = words;
 -- the class of words in the picture's style
 abbrev pub class_of : Style → List ℕ
 class_of Plain = []
+class_of Before = codes " class=\"left\""
 class_of Strong = codes " class=\"strong\""
-class_of Plate = codes " class=\"plate\""
-class_of PlateBefore = codes " class=\"plate left\""
 
 -- words that end at their point
 abbrev pub ends_there : Style → Bool
-ends_there PlateBefore = true
+ends_there Before = true
 ends_there _ = false
 
 -- the room of a label
@@ -112,7 +111,7 @@ release_mark p =
 
 -- with the price
 unfoldable pub release_labels : Place → ℕ → List Label
-release_labels p price = label Strong (p.left + 50) (p.heights.middle + 80) (codes "reopens " ⊕ dollars_text price) [] ∷ []
+release_labels p price = label Strong (p.left + 50) (p.heights.middle + 80) (dollars_text price) [] ∷ []
 
 -- a bar in a lane
 unfoldable pub bar : List ℕ → Place → List ℕ
@@ -120,26 +119,23 @@ bar class p =
     codes "<rect class=\"" ⊕ class ⊕ codes "\" x=\"" ⊕ decimal p.left ⊕ codes "\" y=\"" ⊕ decimal p.heights.top
     ⊕ codes "\" width=\"" ⊕ decimal (p.right - p.left) ⊕ codes "\" height=\"" ⊕ decimal (p.heights.bottom - p.heights.top) ⊕ codes "\"/>\n"
 
--- its stretch of the prices, behind them
-unfoldable pub stretch : List ℕ → Place → List ℕ
-stretch class p =
-    codes "<rect class=\"" ⊕ class ⊕ codes " behind\" x=\"" ⊕ decimal p.left ⊕ codes "\" y=\"300\" width=\"" ⊕ decimal (p.right - p.left)
+-- its stretch of the prices, grey and without hatching
+unfoldable pub stretch : Place → List ℕ
+stretch p =
+    codes "<rect class=\"behind\" x=\"" ⊕ decimal p.left ⊕ codes "\" y=\"300\" width=\"" ⊕ decimal (p.right - p.left)
     ⊕ codes "\" height=\"2600\"/>\n"
 
--- a bar's words begin with its moment
+-- a bar's words begin with its moment, and end with a blank that keeps the next ones apart
 abbrev pub begun : ℕ → List ℕ → List ℕ
-begun moment words = time_text moment ⊕ codes " " ⊕ words
+begun moment words = time_text moment ⊕ words ⊕ codes " "
 
--- words in the lane of a bar, with a newline
+-- words below a bar, with a newline
 abbrev pub lane_label : Style → ℕ → Place → List ℕ → Label
-lane_label style x p words = label style x (p.heights.top + 54) words (codes "\n")
+lane_label style x p words = label style x (p.heights.bottom + 44) words (codes "\n")
 
--- a bar's words stand behind it where there is room, else before it, else over it
+-- a bar's words begin where it begins, and on the right of the picture they end where it ends
 unfoldable pub bar_label : Place → List ℕ → Label
-bar_label p words =
-    if nat_le p.right 5500 then lane_label Plate (p.right + 20) p words
-    else if nat_le 1600 p.left then lane_label PlateBefore (p.left - 20) p words
-    else lane_label Plate (p.left + 20) p words
+bar_label p words = if nat_le p.left 5000 then lane_label Plain p.left p words else lane_label Before p.right p words
 
 -- the one label of a bar
 abbrev pub bar_labels : Place → ℕ → List ℕ → List Label
@@ -149,34 +145,30 @@ bar_labels p moment words = bar_label p (begun moment words) ∷ []
 abbrev pub phase_begin : Phase → Place → List ℕ
 phase_begin phases.LimitLow p = bar (codes "limit") p
 phase_begin phases.LimitHigh p = bar (codes "limit") p
-phase_begin phases.Paused p = stretch (codes "pause") p ⊕ bar (codes "pause") p
-phase_begin phases.Closing p = stretch (codes "pause") p ⊕ bar (codes "pause") p
-phase_begin phases.Halted p = stretch (codes "halt") p ⊕ bar (codes "halt") p
+phase_begin phases.Paused p = stretch p ⊕ bar (codes "pause") p
+phase_begin phases.Closing p = stretch p ⊕ bar (codes "pause") p
+phase_begin phases.Halted p = stretch p ⊕ bar (codes "halt") p
 phase_begin _ p = []
 
 -- the words of their bars
 abbrev pub phase_labels : Phase → Place → ℕ → List Label
-phase_labels phases.LimitLow p moment = bar_labels p moment (codes "lower band")
-phase_labels phases.LimitHigh p moment = bar_labels p moment (codes "upper band")
+phase_labels phases.LimitLow p moment = bar_labels p moment (codes " lower band")
+phase_labels phases.LimitHigh p moment = bar_labels p moment (codes " upper band")
 phase_labels phases.Paused p moment = bar_labels p moment []
-phase_labels phases.Closing p moment = bar_labels p moment (codes "to the close")
+phase_labels phases.Closing p moment = bar_labels p moment (codes " to the close")
 phase_labels phases.Halted p moment = bar_labels p moment []
 phase_labels _ p moment = []
 
 -- the words of a market-wide halt
 abbrev pub level_text : Level → List ℕ
-level_text levels.One = codes "Level 1"
-level_text levels.Two = codes "Level 2"
-level_text levels.Three = codes "Level 3"
+level_text levels.One = codes " Level 1"
+level_text levels.Two = codes " Level 2"
+level_text levels.Three = codes " Level 3"
 
 -- the words of a short sale restriction
 abbrev pub short_text : ShortKind → List ℕ
-short_text kinds.Triggered = codes "triggered"
-short_text kinds.Carried = codes "carried from the day before"
-
--- a restriction lasts to the end of its day, so its words stand over the bar
-unfoldable pub short_labels : Place → ShortKind → ℕ → List Label
-short_labels p kind moment = lane_label Plate (p.left + 20) p (begun moment (short_text kind)) ∷ []
+short_text kinds.Triggered = codes " triggered"
+short_text kinds.Carried = codes " carried from the day before"
 
 -- what a message draws before its labels
 abbrev pub element_begin : Message → Place → List ℕ
@@ -185,7 +177,7 @@ element_begin (Collar s round lower upper) p = codes "<g>" ⊕ collar_lines p
 element_begin (Release s price) p = codes "<g>" ⊕ release_mark p
 element_begin (State s phase) p = phase_begin phase p
 element_begin (Straddle s true) p = bar (codes "straddle") p
-element_begin (Breaker level index) p = stretch (codes "breaker") p ⊕ bar (codes "breaker") p
+element_begin (Breaker level index) p = stretch p ⊕ bar (codes "breaker") p
 element_begin (Short s kind) p = bar (codes "short") p
 element_begin _ p = []
 
@@ -197,7 +189,7 @@ element_labels (Release s price) moment p = release_labels p price
 element_labels (State s phase) moment p = phase_labels phase p moment
 element_labels (Straddle s true) moment p = bar_labels p moment []
 element_labels (Breaker level index) moment p = bar_labels p moment (level_text level)
-element_labels (Short s kind) moment p = short_labels p kind moment
+element_labels (Short s kind) moment p = bar_labels p moment (short_text kind)
 element_labels _ moment p = []
 
 -- what it draws behind them

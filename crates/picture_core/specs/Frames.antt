@@ -13,15 +13,16 @@ half_hour count = 32400000000000 + 1800000000000 * count
 unfoldable pub half_hour_text : ℕ → List ℕ
 half_hour_text count = with_digits 2 (9 + count / 2) ⊕ codes ":" ⊕ with_digits 2 (count % 2 * 30)
 
--- its tick, with its words below the prices
-unfoldable pub time_tick : ℕ → List ℕ
-time_tick count =
-    codes "<path class=\"grid\" d=\"M" ⊕ decimal (x_of (half_hour count)) ⊕ codes " 300V2920\"/><text class=\"time\" x=\""
-    ⊕ decimal (x_of (half_hour count)) ⊕ codes "\" y=\"2985\">" ⊕ half_hour_text count ⊕ codes "</text>\n"
+-- its tick down to a frame's lower edge, with its words below that
+unfoldable pub time_tick : ℕ → ℕ → List ℕ
+time_tick bottom count =
+    codes "<path class=\"grid\" d=\"M" ⊕ decimal (x_of (half_hour count)) ⊕ codes " 300V" ⊕ decimal (bottom + 20)
+    ⊕ codes "\"/><text class=\"time\" x=\"" ⊕ decimal (x_of (half_hour count)) ⊕ codes "\" y=\"" ⊕ decimal (bottom + 85) ⊕ codes "\">"
+    ⊕ half_hour_text count ⊕ codes "</text>\n"
 
 -- the ticks of all half hours, up to 16:30
-abbrev pub time_ticks : List ℕ
-time_ticks = flat_map time_tick (range_with_len 0 16)
+abbrev pub time_ticks : ℕ → List ℕ
+time_ticks bottom = flat_map (time_tick bottom) (range_with_len 0 16)
 
 -- 1, 2 and 5 times a power of ten
 abbrev pub steps_at : ℕ → List ℕ

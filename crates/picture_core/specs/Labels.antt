@@ -38,11 +38,11 @@ is_markup byte = byte == 38 || (byte == 60 || (byte == 62 || (byte == 34 || byte
 abbrev pub character_text : ℕ → List ℕ
 character_text byte = if is_markup byte then codes "&#" ⊕ decimal byte ⊕ codes ";" else if byte == 0 then [] else encode_utf8 byte
 
--- the name that a message tells, else the one that was told before
-abbrev pub name_after : List ℕ → Message → List ℕ
-name_after text (Listed symbol name) = flat_map character_text name
-name_after text _ = text
+-- the name that a message tells of a symbol, behind a blank, else the one that was told before
+abbrev pub name_after : ℕ → List ℕ → Message → List ℕ
+name_after symbol text (Listed s name) = if s == symbol then codes " " ⊕ flat_map character_text name else text
+name_after symbol text _ = text
 
 -- the name of the symbol, where a listing tells it
-unfoldable pub name_text : List Stamped → List ℕ
-name_text messages = fold (λ text x. name_after text x.message) [] messages
+unfoldable pub name_text : ℕ → List Stamped → List ℕ
+name_text symbol messages = fold (λ text x. name_after symbol text x.message) [] messages

@@ -2,7 +2,6 @@ pub mod Shown
 pub mod Texts
 pub mod Labels
 pub mod Days
-pub mod Reads
 pub mod Spans
 pub mod Scales
 pub mod Places
@@ -10,8 +9,14 @@ pub mod Rooms
 pub mod Elements
 pub mod Frames
 pub mod DataEnd
+pub mod Stops
+pub mod Tables
+pub mod Heads
 pub mod Pictures
+pub mod Market
+pub mod Reads
 pub mod Words
+pub mod Laws
 pub mod Runs
 pub mod Outcomes
 pub mod Told

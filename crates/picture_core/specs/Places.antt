@@ -29,9 +29,9 @@ lane_of (Breaker level index) = 4
 lane_of (Short s kind) = 5
 lane_of _ = 0
 
--- a lane is 70 high, and the next one begins 90 below it
+-- a bar is 60 high, and has room for words below it: the next lane's begins 130 below it
 abbrev pub in_lane : ℕ → Heights
-in_lane lane = record { top = 3060 + 90 * lane; middle = 3060 + 90 * lane; bottom = 3130 + 90 * lane }
+in_lane lane = record { top = 3060 + 130 * lane; middle = 3060 + 130 * lane; bottom = 3120 + 130 * lane }
 
 -- what has prices stands at their heights, and all else in its lane
 abbrev pub heights_of : Axis → Message → Heights
@@ -54,9 +54,9 @@ places_of axis last (x ∷ later) = place_of axis last x later ∷ places_of axi
 -- heights are within the picture
 pub record AreWithin (heights : Heights) : Type 0 where
   pub below : 300 ≤ heights.top
-  pub top : heights.top ≤ 3580
-  pub middle : heights.middle ≤ 3580
-  pub bottom : heights.bottom ≤ 3580
+  pub top : heights.top ≤ 3770
+  pub middle : heights.middle ≤ 3770
+  pub bottom : heights.bottom ≤ 3770
 
 -- a place is within the picture
 pub record IsWithin (place : Place) : Type 0 where

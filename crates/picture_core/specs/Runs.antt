@@ -5,12 +5,11 @@ use Rattle.host_core.specs.declared.status.Status.TheVariants.{Done, Usage, Read
 use Rattle.host_core.specs.Outside.{Rose}
 use Rattle.host_core.specs.Streams.{AppendsPart}
 use Rattle.picture_core.specs.Texts.{IsBadAt}
-use Rattle.picture_core.specs.Days.{Days}
-use Rattle.picture_core.specs.Reads.{TellsDay, LacksDay}
-use Rattle.picture_core.specs.Pictures.{picture_of}
+use Rattle.picture_core.specs.Reads.{Tells, LacksDay, LacksSymbol}
 use Rattle.picture_core.specs.Told.{help_text}
 use Rattle.picture_core.specs.declared.outcome.Outcome.{Outcome}
-use Rattle.picture_core.specs.declared.outcome.Outcome.TheVariants.{Ended, NoDay}
+use Rattle.picture_core.specs.declared.outcome.Outcome.TheVariants.{Ended, NoDay, NoSymbol}
+use Rattle.picture_core.specs.declared.words.Symbol.{Symbol}
 use Rattle.picture_core.specs.declared.words.Command.{Command}
 use Rattle.picture_core.specs.declared.words.Command.TheVariants.{Help, Draw}
 
@@ -31,16 +30,18 @@ pub record IsSent (text : List ℕ) (outcome : Outcome) (before after : Option (
   pub part : outcome ≡ Ended SendFault → AppendsPart before after text
   pub ends : (outcome ≡ Ended Done) ⊎ (outcome ≡ Ended SendFault)
 
--- a day of a symbol was drawn: the one of that number, else the last one
-pub record Drawn (symbol : ℕ) (wanted : Option ℕ) (outcome : Outcome) (old new : Streams) : Type 0 where
+-- a day of a symbol or of the market was drawn: the one of that number, else the last one
+pub record Drawn (symbol : Option Symbol) (wanted : Option ℕ) (outcome : Outcome) (old new : Streams) : Type 0 where
   -- the lines of the input print frames that tell that day, and its picture was written, no byte more and none less
-  pub exact : outcome ≡ Ended Done → IfSome old.input (λ text. (days : Days) × TellsDay wanted text days × Appends old.output new.output (picture_of symbol wanted days))
+  pub exact : outcome ≡ Ended Done → IfSome old.input (λ text. (picture : List ℕ) × Tells symbol wanted text picture × Appends old.output new.output picture)
   -- where the writer failed, a part of that picture from its begin on
-  pub part : outcome ≡ Ended SendFault → IfSome old.input (λ text. (days : Days) × TellsDay wanted text days × AppendsPart old.output new.output (picture_of symbol wanted days))
+  pub part : outcome ≡ Ended SendFault → IfSome old.input (λ text. (picture : List ℕ) × Tells symbol wanted text picture × AppendsPart old.output new.output picture)
   -- the line of that number is the first that prints none
   pub bad : (number : ℕ) → outcome ≡ Ended (BadText number) → IfSome old.input (λ text. IsBadAt number text)
-  -- the frames that they print don't tell that day
+  -- the frames that they print tell nothing of that day
   pub no_day : outcome ≡ NoDay → IfSome old.input (LacksDay wanted)
+  -- or nothing of the symbol on that day
+  pub no_symbol : outcome ≡ NoSymbol → IfSome old.input (LacksSymbol symbol wanted)
   -- else nothing is written
   pub quiet : (outcome ≡ Ended Done → ⊥) → (outcome ≡ Ended SendFault → ⊥) → new.output ≡ old.output
   -- a fault is told only where reading or writing told an error

@@ -4,7 +4,7 @@ ghost use Rattle.std.specs.Prelude.{◌≡◌, [], IfOk, OnOk, codes};
 ghost use Rattle.std.specs.String.{string_bytes};
 ghost use Rattle.picture_core.specs.Places.{IsWithin};
 ghost use Rattle.picture_core.specs.Labels.{◌⊕◌};
-ghost use Rattle.picture_core.specs.Elements.{label, class_of, ends_there, label_text, drawn_label, with_label, drawn_labels, with_labels, line, band_lines, price_label, band_labels, collar_lines, collar_labels, release_mark, release_labels, bar, stretch, lane_label, bar_label, bar_labels, phase_begin, phase_labels, level_text, short_text, short_labels, drawn, element_text, rooms_after};
+ghost use Rattle.picture_core.specs.Elements.{label, class_of, ends_there, label_text, drawn_label, with_label, drawn_labels, with_labels, line, band_lines, price_label, band_labels, collar_lines, collar_labels, release_mark, release_labels, bar, stretch, lane_label, bar_label, bar_labels, phase_begin, phase_labels, level_text, short_text, drawn, element_text, rooms_after};
 
 use crate::label::{price, time};
 use crate::place::Place;
@@ -17,14 +17,12 @@ use wire_out::{Message, ShortKind, Stamped};
 /// How words stand in the picture.
 #[derive(Clone, Copy, PartialEq, Eq)]
 pub enum Style {
-    /// Beside a line, from a point on.
+    /// From a point on.
     Plain,
-    /// In bold letters, from a point on.
+    /// Up to a point.
+    Before,
+    /// From a point on, in bold letters with a white edge.
     Strong,
-    /// On a white ground, from a point on.
-    Plate,
-    /// On a white ground, up to a point.
-    PlateBefore,
 }
 
 impl Style {
@@ -34,9 +32,8 @@ impl Style {
     {
         match self {
             Style::Plain => "",
+            Style::Before => " class=\"left\"",
             Style::Strong => " class=\"strong\"",
-            Style::Plate => " class=\"plate\"",
-            Style::PlateBefore => " class=\"plate left\"",
         }
     }
 
@@ -44,7 +41,7 @@ impl Style {
     fn ends_there(self) -> bool
         ensures { result ≡ ends_there self }
     {
-        matches!(self, Style::PlateBefore)
+        matches!(self, Style::Before)
     }
 }
 
@@ -214,7 +211,7 @@ fn collar(alloc: Global, rooms: &mut Rooms, place: &Place, round: u16) -> Result
     Ok(format!(in alloc; "<g>{lines}{labels}</g>\n")?)
 }
 
-/// A reopening price as a cross in a circle.
+/// A reopening price as a point in a circle.
 #[tactic(auto, unfolding(crate::specs::Elements::release_mark))]
 fn release_mark(alloc: Global, place: &Place) -> Result<String, NoMemory>
     ensures { IfOk result (λ text. string_bytes text ≡ release_mark place.now) }
@@ -226,7 +223,7 @@ fn release_mark(alloc: Global, place: &Place) -> Result<String, NoMemory>
     )?)
 }
 
-/// A reopening price as a cross in a circle, with the price.
+/// A reopening price as a point in a circle, with the price.
 #[tactic(auto, unfolding(crate::specs::Elements::drawn, crate::specs::Elements::release_labels))]
 fn release(
     alloc: Global,
@@ -241,8 +238,7 @@ fn release(
     let mark = release_mark(alloc, place)?;
     let beside = place.left + 50;
     let under = place.heights.middle + 80;
-    let reopening = price(alloc, units)?;
-    let words = format!(in alloc; "reopens {reopening}")?;
+    let words = price(alloc, units)?;
     let words = label(
         alloc,
         rooms,
@@ -273,19 +269,19 @@ fn bar(alloc: Global, style: &str, place: &Place) -> Result<String, NoMemory>
     )?)
 }
 
-/// A stretch of the prices, behind them.
+/// A stretch of the prices, grey behind them.
 #[tactic(auto, unfolding(crate::specs::Elements::stretch))]
-fn stretch(alloc: Global, style: &str, place: &Place) -> Result<String, NoMemory>
-    ensures { IfOk result (λ text. string_bytes text ≡ stretch style.now place.now) }
+fn stretch(alloc: Global, place: &Place) -> Result<String, NoMemory>
+    ensures { IfOk result (λ text. string_bytes text ≡ stretch place.now) }
 {
     let left = place.left;
     let width = place.right.saturating_sub(left);
     Ok(format!(in alloc;
-        "<rect class=\"{style} behind\" x=\"{left}\" y=\"300\" width=\"{width}\" height=\"2600\"/>\n"
+        "<rect class=\"behind\" x=\"{left}\" y=\"300\" width=\"{width}\" height=\"2600\"/>\n"
     )?)
 }
 
-/// Words in the lane of a bar.
+/// Words below a bar.
 fn lane_label(
     alloc: Global,
     rooms: &mut Rooms,
@@ -298,11 +294,11 @@ fn lane_label(
     ensures text { IfOk result (λ text. string_bytes text ≡ drawn_label rooms.old (lane_label style x place.now words.now)) }
     ensures taken { OnOk result (rooms.new ≡ with_label rooms.old (lane_label style x place.now words.now)) }
 {
-    let y = place.heights.top + 54;
+    let y = place.heights.bottom + 44;
     label(alloc, rooms, style, x, y, words, "\n")
 }
 
-/// The words of a bar: behind it where there is room, else before it, else over it.
+/// The words of a bar: from its begin on, and on the right of the picture up to its end.
 #[tactic(auto, unfolding(crate::specs::Elements::bar_label))]
 fn bar_label(
     alloc: Global,
@@ -314,13 +310,10 @@ fn bar_label(
     ensures text { IfOk result (λ text. string_bytes text ≡ drawn_label rooms.old (bar_label place.now words.now)) }
     ensures taken { OnOk result (rooms.new ≡ with_label rooms.old (bar_label place.now words.now)) }
 {
-    if place.right <= 5500 {
-        lane_label(alloc, rooms, Style::Plate, place.right + 20, place, words)
-    } else if place.left >= 1600 {
-        let x = place.left.saturating_sub(20);
-        lane_label(alloc, rooms, Style::PlateBefore, x, place, words)
+    if place.left <= 5000 {
+        lane_label(alloc, rooms, Style::Plain, place.left, place, words)
     } else {
-        lane_label(alloc, rooms, Style::Plate, place.left + 20, place, words)
+        lane_label(alloc, rooms, Style::Before, place.right, place, words)
     }
 }
 
@@ -340,7 +333,7 @@ fn named(
 {
     let bar = bar(alloc, style, place)?;
     let begin = time(alloc, moment)?;
-    let words = format!(in alloc; "{begin} {words}")?;
+    let words = format!(in alloc; "{begin}{words} ")?;
     let words = bar_label(alloc, rooms, place, words.as_str())?;
     Ok(format!(in alloc; "{bar}{words}")?)
 }
@@ -356,10 +349,10 @@ fn shaded(
     words: &str,
 ) -> Result<String, NoMemory>
     requires { IsWithin place.now }
-    ensures text { IfOk result (λ text. string_bytes text ≡ drawn rooms.old (stretch style.now place.now ⊕ bar style.now place.now) (bar_labels place.now moment words.now) []) }
+    ensures text { IfOk result (λ text. string_bytes text ≡ drawn rooms.old (stretch place.now ⊕ bar style.now place.now) (bar_labels place.now moment words.now) []) }
     ensures taken { OnOk result (rooms.new ≡ with_labels rooms.old (bar_labels place.now moment words.now)) }
 {
-    let behind = stretch(alloc, style, place)?;
+    let behind = stretch(alloc, place)?;
     let bar = named(alloc, rooms, style, place, moment, words)?;
     Ok(format!(in alloc; "{behind}{bar}")?)
 }
@@ -377,10 +370,10 @@ fn phase(
     ensures taken { OnOk result (rooms.new ≡ with_labels rooms.old (phase_labels phase place.now moment)) }
 {
     match phase {
-        Phase::LimitLow => named(alloc, rooms, "limit", place, moment, "lower band"),
-        Phase::LimitHigh => named(alloc, rooms, "limit", place, moment, "upper band"),
+        Phase::LimitLow => named(alloc, rooms, "limit", place, moment, " lower band"),
+        Phase::LimitHigh => named(alloc, rooms, "limit", place, moment, " upper band"),
         Phase::Paused => shaded(alloc, rooms, "pause", place, moment, ""),
-        Phase::Closing => shaded(alloc, rooms, "pause", place, moment, "to the close"),
+        Phase::Closing => shaded(alloc, rooms, "pause", place, moment, " to the close"),
         Phase::Halted => shaded(alloc, rooms, "halt", place, moment, ""),
         Phase::Shut | Phase::Trading | Phase::Stopped | Phase::Closed => nothing(alloc),
     }
@@ -394,13 +387,13 @@ fn nothing(alloc: Global) -> Result<String, NoMemory>
 }
 
 /// The words of a market-wide halt.
-fn level_text(level: Level) -> &'static str
+pub fn level_text(level: Level) -> &'static str
     ensures { result.now ≡ level_text level }
 {
     match level {
-        Level::One => "Level 1",
-        Level::Two => "Level 2",
-        Level::Three => "Level 3",
+        Level::One => " Level 1",
+        Level::Two => " Level 2",
+        Level::Three => " Level 3",
     }
 }
 
@@ -409,31 +402,9 @@ fn short_text(kind: ShortKind) -> &'static str
     ensures { result.now ≡ short_text kind }
 {
     match kind {
-        ShortKind::Triggered => "triggered",
-        ShortKind::Carried => "carried from the day before",
+        ShortKind::Triggered => " triggered",
+        ShortKind::Carried => " carried from the day before",
     }
-}
-
-/// The restriction lasts to the end of its day, so its words stand over the bar.
-#[tactic(auto, unfolding(crate::specs::Elements::drawn, crate::specs::Elements::short_labels))]
-fn short(
-    alloc: Global,
-    rooms: &mut Rooms,
-    place: &Place,
-    kind: ShortKind,
-    moment: Moment,
-) -> Result<String, NoMemory>
-    requires { IsWithin place.now }
-    ensures text { IfOk result (λ text. string_bytes text ≡ drawn rooms.old (bar (codes "short") place.now) (short_labels place.now kind moment) []) }
-    ensures taken { OnOk result (rooms.new ≡ with_labels rooms.old (short_labels place.now kind moment)) }
-{
-    let bar = bar(alloc, "short", place)?;
-    let begin = time(alloc, moment)?;
-    let words = short_text(kind);
-    let words = format!(in alloc; "{begin} {words}")?;
-    let x = place.left + 20;
-    let words = lane_label(alloc, rooms, Style::Plate, x, place, words.as_str())?;
-    Ok(format!(in alloc; "{bar}{words}")?)
 }
 
 /// What a message draws at its place, with its words where they stand over none that are drawn.
@@ -462,7 +433,9 @@ pub fn element(
         Message::Breaker { level, .. } => {
             shaded(alloc, rooms, "breaker", place, x.moment, level_text(level))
         }
-        Message::Short { kind, .. } => short(alloc, rooms, place, kind, x.moment),
+        Message::Short { kind, .. } => {
+            named(alloc, rooms, "short", place, x.moment, short_text(kind))
+        }
         Message::Straddle { on: false, .. } | Message::Listed { .. } | Message::MarketResume => {
             nothing(alloc)
         }

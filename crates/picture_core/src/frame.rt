@@ -1,11 +1,11 @@
 //! The frame of the picture: its axes, its lanes and its legend.
 
-ghost use Rattle.std.specs.Prelude.{◌≡◌, ◌*◌, ◌<◌, ◌≤◌, ◌++◌, IfSome, IfOk, OnOk};
+ghost use Rattle.std.specs.Prelude.{◌≡◌, ◌*◌, ◌<◌, ◌≤◌, ◌++◌, ◌^◌, IfSome, IfOk, OnOk};
 ghost use Rattle.std.specs.List.{find};
 ghost use Rattle.std.specs.String.{string_bytes};
 ghost use Rattle.picture_core.specs.Scales.{x_of, IsAxis};
 ghost use Rattle.picture_core.specs.Frames.{half_hour, half_hour_text, time_tick, time_ticks, steps, reaches, step_of, price_tick, tick_within, ticks_by, price_ticks};
-ghost use Rattle.picture_core.specs.Pictures.{style, hatchings, names};
+ghost use Rattle.picture_core.specs.Heads.{style, hatchings, names};
 
 use crate::axis::{Axis, y_of};
 use crate::label::dollars;
@@ -14,7 +14,7 @@ use std::alloc::Global;
 
 /// How things are drawn, told apart by lines and hatching and not by colour.
 const STYLE: &str =
-    "<style>text{font:52px sans-serif}.title{font-size:84px;font-weight:bold}.strong{font-weight:bold}.time{text-anchor:middle}.left{text-anchor:end}.nothing{font-size:84px;text-anchor:middle}.plate,.strong{paint-order:stroke;stroke:#fff;stroke-width:16px}path{fill:none;stroke:#000}.grid{stroke:#bbb;stroke-width:3}.band{stroke-width:11}.reference{stroke-width:7;stroke-dasharray:36 18}.collar{stroke-width:12;stroke-dasharray:10 12}.release{fill:#fff;stroke:#000;stroke-width:9}rect{stroke:#000;stroke-width:4}.page,.untold{fill:#fff;stroke:none}.frame{fill:none;stroke-width:5}.end{stroke-width:7;stroke-dasharray:28 10 6 10}.limit{fill:#000}.straddle{fill:url(#dots)}.pause{fill:url(#slanted)}.halt{fill:url(#crossed)}.breaker{fill:url(#upright)}.short{fill:url(#level)}.behind{opacity:.3}</style>\n";
+    "<style>text{font:52px sans-serif}.title{font-size:84px;font-weight:bold}.strong{font-weight:bold;paint-order:stroke;stroke:#fff;stroke-width:16px}.time{text-anchor:middle}.left{text-anchor:end}path{fill:none;stroke:#000}.grid{stroke:#bbb;stroke-width:3}.band{stroke-width:11}.reference{stroke-width:7;stroke-dasharray:36 18}.collar{stroke-width:12;stroke-dasharray:10 12}.release{fill:#fff;stroke:#000;stroke-width:9}.end{stroke-width:7;stroke-dasharray:28 10 6 10}rect{stroke:#000;stroke-width:4}.page,.untold{fill:#fff;stroke:none}.frame{fill:none;stroke-width:5}.limit{fill:#000}.straddle{fill:url(#dots)}.pause{fill:url(#slanted)}.halt{fill:url(#crossed)}.breaker{fill:url(#upright)}.short{fill:url(#level)}.behind{fill:#000;stroke:none;opacity:.13}</style>\n";
 
 /// The hatchings.
 const HATCHINGS: &str =
@@ -22,10 +22,10 @@ const HATCHINGS: &str =
 
 /// The frame with the names of its lanes and the legend.
 const NAMES: &str =
-    "<rect class=\"frame\" x=\"800\" y=\"300\" width=\"5400\" height=\"2600\"/><g class=\"left\"><text x=\"770\" y=\"250\">dollars</text><text x=\"770\" y=\"3114\">Limit state</text><text x=\"770\" y=\"3204\">Straddle state</text><text x=\"770\" y=\"3294\">Trading pause</text><text x=\"770\" y=\"3384\">Regulatory halt</text><text x=\"770\" y=\"3474\">Market-wide halt</text><text x=\"770\" y=\"3564\">Short sale restriction</text></g>\n<g><path class=\"band\" d=\"M800 3740H1000\"/><text x=\"1030\" y=\"3758\">price bands</text><path class=\"reference\" d=\"M1550 3740H1750\"/><text x=\"1780\" y=\"3758\">reference price</text><path class=\"collar\" d=\"M2400 3740H2600\"/><text x=\"2630\" y=\"3758\">auction collars of round r0, r1, ..</text><circle class=\"release\" cx=\"3760\" cy=\"3740\" r=\"28\"/><circle cx=\"3760\" cy=\"3740\" r=\"8\"/><text x=\"3820\" y=\"3758\">reopening price</text><text x=\"4400\" y=\"3758\">hatched behind the prices: no trading</text><path class=\"end\" d=\"M5560 3700V3780\"/><text x=\"5590\" y=\"3758\">end of the data</text></g>\n";
+    "<rect class=\"frame\" x=\"800\" y=\"300\" width=\"5400\" height=\"2600\"/><g class=\"left\"><text x=\"770\" y=\"250\">dollars</text><text x=\"770\" y=\"3108\">Limit state</text><text x=\"770\" y=\"3238\">Straddle state</text><text x=\"770\" y=\"3368\">Trading pause</text><text x=\"770\" y=\"3498\">Regulatory halt</text><text x=\"770\" y=\"3628\">Market-wide halt</text><text x=\"770\" y=\"3758\">Short sale restriction</text></g>\n<g><path class=\"band\" d=\"M800 3930H1000\"/><text x=\"1030\" y=\"3948\">price bands</text><path class=\"reference\" d=\"M1550 3930H1750\"/><text x=\"1780\" y=\"3948\">reference price</text><path class=\"collar\" d=\"M2400 3930H2600\"/><text x=\"2630\" y=\"3948\">auction collars of round r0, r1, ..</text><circle class=\"release\" cx=\"3760\" cy=\"3930\" r=\"28\"/><circle cx=\"3760\" cy=\"3930\" r=\"8\"/><text x=\"3820\" y=\"3948\">reopening price</text><rect class=\"behind\" x=\"4400\" y=\"3895\" width=\"200\" height=\"70\"/><text x=\"4630\" y=\"3948\">no trading</text><path class=\"end\" d=\"M5100 3880V3980\"/><text x=\"5130\" y=\"3948\">end of the data</text></g>\n";
 
 /// How things are drawn.
-#[tactic(auto, unfolding(crate::specs::Pictures::style))]
+#[tactic(auto, unfolding(crate::specs::Heads::style))]
 pub fn style() -> &'static str
     ensures { result.now ≡ style }
 {
@@ -33,7 +33,7 @@ pub fn style() -> &'static str
 }
 
 /// The hatchings.
-#[tactic(auto, unfolding(crate::specs::Pictures::hatchings))]
+#[tactic(auto, unfolding(crate::specs::Heads::hatchings))]
 pub fn hatchings() -> &'static str
     ensures { result.now ≡ hatchings }
 {
@@ -41,7 +41,7 @@ pub fn hatchings() -> &'static str
 }
 
 /// The frame with the names of its lanes and the legend.
-#[tactic(auto, unfolding(crate::specs::Pictures::names))]
+#[tactic(auto, unfolding(crate::specs::Heads::names))]
 pub fn names() -> &'static str
     ensures { result.now ≡ names }
 {
@@ -68,25 +68,29 @@ fn half_hour_text(alloc: Global, count: u64) -> Result<String, NoMemory>
     Ok(format!(in alloc; "{hour:02}:{minute:02}")?)
 }
 
-/// A tick of the time axis.
+/// A tick of the time axis, down to a frame's lower edge.
 #[tactic(auto, unfolding(crate::specs::Frames::time_tick))]
-fn time_tick(alloc: Global, count: u64) -> Result<String, NoMemory>
-    requires { count ≤ 15 }
-    ensures { IfOk result (λ text. string_bytes text ≡ time_tick count) }
+fn time_tick(alloc: Global, bottom: u128, count: u64) -> Result<String, NoMemory>
+    requires low { bottom < 2 ^ 80 }
+    requires within { count ≤ 15 }
+    ensures { IfOk result (λ text. string_bytes text ≡ time_tick bottom count) }
 {
     let x = x_of_half_hour(count);
     let words = half_hour_text(alloc, count)?;
+    let end = bottom + 20;
+    let y = bottom + 85;
     Ok(format!(in alloc;
-        "<path class=\"grid\" d=\"M{x} 300V2920\"/><text class=\"time\" x=\"{x}\" y=\"2985\">{words}</text>\n"
+        "<path class=\"grid\" d=\"M{x} 300V{end}\"/><text class=\"time\" x=\"{x}\" y=\"{y}\">{words}</text>\n"
     )?)
 }
 
-/// Writes the ticks of all half hours.
-pub fn put_times(alloc: Global, text: &mut String) -> Result<(), NoMemory>
-    ensures { OnOk result (string_bytes text.new ≡ string_bytes text.old ++ time_ticks) }
+/// Writes the ticks of all half hours, down to a frame's lower edge.
+pub fn put_times(alloc: Global, text: &mut String, bottom: u128) -> Result<(), NoMemory>
+    requires { bottom < 2 ^ 80 }
+    ensures { OnOk result (string_bytes text.new ≡ string_bytes text.old ++ time_ticks bottom) }
 {
     for count in 0..16 {
-        text.push_str(time_tick(alloc, count)?.as_str())?;
+        text.push_str(time_tick(alloc, bottom, count)?.as_str())?;
     }
     Ok(())
 }

@@ -3,7 +3,7 @@
 ghost use Rattle.std.specs.Prelude.{◌≡◌, ◌++◌, IfOk, OnOk};
 ghost use Rattle.std.specs.List.{flat_map};
 ghost use Rattle.std.specs.String.{string_bytes};
-ghost use Rattle.picture_core.specs.Labels.{dollars_text, time_text, character_text, name_text};
+ghost use Rattle.picture_core.specs.Labels.{dollars_text, time_text, character_text, name_after, name_text};
 
 use price_core::{NoMemory, Price};
 use session_core::Moment;
@@ -64,17 +64,34 @@ fn put_name(text: &mut String, name: &[u8; 8]) -> Result<(), NoMemory>
     Ok(())
 }
 
-/// The name of the symbol, where a listing tells it; else no text.
+/// Takes the name that a message tells of a symbol, behind a blank.
+fn take_name(symbol: u16, text: &mut String, message: Message) -> Result<(), NoMemory>
+    ensures { OnOk result (string_bytes text.new ≡ name_after symbol (string_bytes text.old) message) }
+{
+    match message {
+        Message::Listed {
+            symbol: listed,
+            name,
+        } => {
+            if listed == symbol {
+                text.clear();
+                text.push(' ')?;
+                put_name(text, &name)?;
+            }
+            Ok(())
+        }
+        _ => Ok(()),
+    }
+}
+
+/// The name of the symbol behind a blank, where a listing tells it; else no text.
 #[tactic(auto, unfolding(crate::specs::Labels::name_text))]
-pub fn name(alloc: Global, messages: &[Stamped]) -> Result<String, NoMemory>
-    ensures { IfOk result (λ text. string_bytes text ≡ name_text messages.now) }
+pub fn name(alloc: Global, symbol: u16, messages: &[Stamped]) -> Result<String, NoMemory>
+    ensures { IfOk result (λ text. string_bytes text ≡ name_text symbol messages.now) }
 {
     let mut text = String::new(alloc);
     for x in messages {
-        if let Message::Listed { name, .. } = x.message {
-            text.clear();
-            put_name(&mut text, &name)?;
-        }
+        take_name(symbol, &mut text, x.message)?;
     }
     Ok(text)
 }

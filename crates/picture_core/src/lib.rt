@@ -1,4 +1,4 @@
-//! A picture of one symbol's day, drawn from published lines.
+//! Pictures of a day, of one symbol or of the market, drawn from published lines.
 #![tactic(auto)]
 
 mod axis;
@@ -6,8 +6,10 @@ mod data_end;
 mod day;
 mod element;
 mod frame;
+mod head;
 mod label;
 mod law;
+mod market;
 mod outcome;
 mod picture;
 mod place;
@@ -17,6 +19,8 @@ mod run;
 mod send;
 mod shown;
 mod span;
+mod stop;
+mod table;
 mod told;
 mod words;
 

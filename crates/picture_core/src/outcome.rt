@@ -12,6 +12,8 @@ pub enum Outcome {
     Ended(Status),
     /// The input has no such day.
     NoDay,
+    /// The day's lines tell nothing of that symbol.
+    NoSymbol,
 }
 
 impl Outcome {
@@ -22,6 +24,7 @@ impl Outcome {
         match self {
             Outcome::Ended(status) => status.code(),
             Outcome::NoDay => 12,
+            Outcome::NoSymbol => 13,
         }
     }
 }

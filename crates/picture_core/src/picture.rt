@@ -3,61 +3,65 @@
 ghost use Rattle.std.specs.Prelude.{◌≡◌, ◌++◌, IfOk, OnOk};
 ghost use Rattle.std.specs.String.{string_bytes};
 ghost use Rattle.picture_core.specs.Scales.{IsAxis};
-ghost use Rattle.picture_core.specs.Shown.{is_market, is_silent, last_moment, shown};
 ghost use Rattle.picture_core.specs.Places.{place_of};
 ghost use Rattle.picture_core.specs.Elements.{element_text, rooms_after};
-ghost use Rattle.picture_core.specs.DataEnd.{data_end};
-ghost use Rattle.picture_core.specs.Pictures.{title, head, elements_over, day_over, messages_text, silence, drawing, picture_of};
+ghost use Rattle.picture_core.specs.Pictures.{title, description, head, elements_over, day_over, messages_text, drawing, symbol_picture, picture_of};
 
 use crate::axis::{Axis, axis_of};
-use crate::data_end::data_end;
+use crate::data_end::{data_end, lanes_end};
 use crate::day::DayKeeper;
 use crate::element::element;
-use crate::frame::{hatchings, names, put_prices, put_times, style};
-use crate::label::name;
+use crate::frame::{names, put_prices, put_times};
+use crate::head::{opening, page};
+use crate::label::{name, time};
 use crate::place::place_of;
 use crate::room::Rooms;
 use crate::shown::{last_moment, shown};
+use crate::stop::{Stop, sentences, stops_of};
+use crate::table::{page_height, put_table};
 use price_core::NoMemory;
 use session_core::Moment;
 use std::alloc::Global;
-use wire_out::{Message, Stamped};
+use wire_out::Stamped;
 
-/// Whether a message is of the whole market.
-fn is_market(message: Message) -> bool
-    ensures { result ≡ is_market message }
-{
-    matches!(message, Message::Breaker { .. } | Message::MarketResume)
-}
-
-/// Whether no message is of the symbol.
-fn is_silent(messages: &[Stamped]) -> bool
-    ensures { result ≡ is_silent messages.now }
-{
-    messages.iter().all(|x| is_market(x.message))
-}
-
-/// The words over the picture.
+/// The symbol by its id and its name, and words for the day.
 #[tactic(auto, unfolding(crate::specs::Pictures::title))]
 fn title(alloc: Global, symbol: u16, day: &str, messages: &[Stamped]) -> Result<String, NoMemory>
     ensures { IfOk result (λ text. string_bytes text ≡ title symbol day.now messages.now) }
 {
-    let name = name(alloc, messages)?;
+    let name = name(alloc, symbol, messages)?;
+    Ok(format!(in alloc; "Symbol {symbol}{name}{day}")?)
+}
+
+/// What the picture shows, with its pauses and halts.
+#[tactic(auto, unfolding(crate::specs::Pictures::description))]
+fn description(alloc: Global, last: Moment, stops: &[Stop]) -> Result<String, NoMemory>
+    ensures { IfOk result (λ text. string_bytes text ≡ description last stops.now) }
+{
+    let end = time(alloc, last)?;
+    let sentences = sentences(alloc, stops)?;
     Ok(format!(in alloc;
-        "<text class=\"title\" x=\"800\" y=\"150\">Symbol {symbol} {name}{day}</text><text x=\"800\" y=\"230\">price bands, pauses, halts and restrictions of the day, Eastern time</text>\n"
+        "Price bands, auction collars, limit states, pauses, halts and restrictions of the day, Eastern time. The data ends at {end}.{sentences}"
     )?)
 }
 
-/// Begins a picture with its style, its frame and its title.
+/// Begins a picture of that height under that title, up to its frame.
 #[tactic(auto, unfolding(crate::specs::Pictures::head))]
-fn head(alloc: Global, symbol: u16, day: &str, messages: &[Stamped]) -> Result<String, NoMemory>
-    ensures { IfOk result (λ text. string_bytes text ≡ head symbol day.now messages.now) }
+fn head(
+    alloc: Global,
+    height: u128,
+    title: &str,
+    last: Moment,
+    stops: &[Stop],
+) -> Result<String, NoMemory>
+    ensures { IfOk result (λ text. string_bytes text ≡ head height title.now last stops.now) }
 {
-    let title = title(alloc, symbol, day, messages)?;
-    let (style, hatchings, names) = (style(), hatchings(), names());
-    Ok(format!(in alloc;
-        "<svg xmlns=\"http://www.w3.org/2000/svg\" width=\"1280\" height=\"770\" viewBox=\"0 0 6400 3850\">\n{style}{hatchings}<rect class=\"page\" width=\"6400\" height=\"3850\"/>\n{title}{names}"
-    )?)
+    let description = description(alloc, last, stops)?;
+    let opening = opening(alloc, height, title, description.as_str())?;
+    let words = "price bands, pauses, halts and restrictions of the day, Eastern time";
+    let page = page(alloc, height, title, words)?;
+    let names = names();
+    Ok(format!(in alloc; "{opening}{page}{names}")?)
 }
 
 /// Draws a message at its place, with those behind it as the later ones.
@@ -112,7 +116,8 @@ fn put_day(
     requires { IsAxis axis.now }
     ensures { OnOk result (string_bytes text.new ≡ string_bytes text.old ++ day_over axis.now last messages.now) }
 {
-    text.push_str(data_end(alloc, last)?.as_str())?;
+    text.push_str(data_end(alloc, 2900, last)?.as_str())?;
+    text.push_str(lanes_end(alloc, last)?.as_str())?;
     put_elements(alloc, text, axis, last, messages)
 }
 
@@ -135,37 +140,38 @@ fn put_messages(
     }
 }
 
-/// The words of a picture of a symbol of which nothing is said.
-#[tactic(auto, unfolding(crate::specs::Pictures::silence))]
-fn silence(alloc: Global, symbol: u16, messages: &[Stamped]) -> Result<String, NoMemory>
-    ensures { IfOk result (λ text. string_bytes text ≡ silence symbol messages.now) }
-{
-    if !is_silent(messages) {
-        return Ok(String::new(alloc));
-    }
-    Ok(format!(in alloc;
-        "<text class=\"nothing\" x=\"3500\" y=\"1600\">Nothing is said of symbol {symbol}</text>\n"
-    )?)
-}
-
-/// The picture of these messages up to the last moment, under words for the day.
+/// The picture of these messages up to the last moment, with the table of their pauses and halts, under that title.
 #[tactic(auto, unfolding(crate::specs::Pictures::drawing))]
 fn drawing(
     alloc: Global,
+    title: &str,
+    last: Moment,
+    messages: &[Stamped],
+    stops: &[Stop],
+) -> Result<String, NoMemory>
+    ensures { IfOk result (λ text. string_bytes text ≡ drawing title.now last messages.now stops.now) }
+{
+    let mut text = head(alloc, page_height(stops.len() as u64), title, last, stops)?;
+    put_times(alloc, &mut text, 2900)?;
+    put_messages(alloc, &mut text, last, messages)?;
+    put_table(alloc, &mut text, stops)?;
+    text.push_str("</svg>\n")?;
+    Ok(text)
+}
+
+/// The picture of a symbol's messages up to the last moment, under words for the day.
+fn symbol_picture(
+    alloc: Global,
     symbol: u16,
-    words: &str,
+    day: &str,
     last: Moment,
     messages: &[Stamped],
 ) -> Result<String, NoMemory>
-    ensures { IfOk result (λ text. string_bytes text ≡ drawing symbol words.now last messages.now) }
+    ensures { IfOk result (λ text. string_bytes text ≡ symbol_picture symbol day.now last messages.now) }
 {
-    let mut text = head(alloc, symbol, words, messages)?;
-    put_times(alloc, &mut text)?;
-    put_messages(alloc, &mut text, last, messages)?;
-    let silence = silence(alloc, symbol, messages)?;
-    text.push_str(silence.as_str())?;
-    text.push_str("</svg>\n")?;
-    Ok(text)
+    let title = title(alloc, symbol, day, messages)?;
+    let stops = stops_of(alloc, messages)?;
+    drawing(alloc, title.as_str(), last, messages, &stops)
 }
 
 /// The picture of a symbol's day as an SVG, of its messages and those of the market.
@@ -180,5 +186,5 @@ pub fn picture(
     let words = days.words(alloc, wanted)?;
     let day = days.messages();
     let messages = shown(alloc, symbol, day)?;
-    drawing(alloc, symbol, words.as_str(), last_moment(day), &messages)
+    symbol_picture(alloc, symbol, words.as_str(), last_moment(day), &messages)
 }

@@ -27,7 +27,7 @@ pub struct Place {
 }
 
 /// The x at which a span ends: where the data ends, where nothing ends it.
-fn right_of(last: Moment, left: u64, end: Option<Moment>) -> u64
+pub fn right_of(last: Moment, left: u64, end: Option<Moment>) -> u64
     requires { left ≤ 6200 }
     ensures exact { result ≡ right_of last left end }
     ensures forward { left ≤ result }
@@ -66,11 +66,11 @@ fn in_lane(lane: u64) -> Heights
     ensures exact { result ≡ in_lane lane }
     ensures within { AreWithin result }
 {
-    let top = 3060 + 90 * lane;
+    let top = 3060 + 130 * lane;
     Heights {
         top,
         middle: top,
-        bottom: top + 70,
+        bottom: top + 60,
     }
 }
 

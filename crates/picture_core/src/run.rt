@@ -1,30 +1,32 @@
 //! The top call: what the words ask for, done over a reader and a sink.
 
-ghost use Rattle.std.specs.Prelude.{◌≡◌, ◌≢◌, ◌⊎◌, [], List, Option, IfOk, IfErr, OnOk, IfSome, map};
+ghost use Rattle.std.specs.Prelude.{◌≡◌, ◌≢◌, ◌⊎◌, Some, None, [], List, Option, IfOk, IfErr, OnOk, IfSome, map};
 ghost use Rattle.std.specs.String.{string_bytes};
-ghost use Rattle.picture_core.specs.declared.outcome.Outcome.TheVariants.{Ended, NoDay};
+ghost use Rattle.picture_core.specs.declared.outcome.Outcome.TheVariants.{Ended, NoDay, NoSymbol};
 ghost use Rattle.picture_core.specs.declared.words.Command.{Command};
 ghost use Rattle.picture_core.specs.Words.{Asks};
-ghost use Rattle.picture_core.specs.Days.{Days};
-ghost use Rattle.picture_core.specs.Reads.{TellsDay, Lacks, Prevents};
+ghost use Rattle.picture_core.specs.Reads.{picture_on, Tells, Lacks, Prevents};
 ghost use Rattle.picture_core.specs.Pictures.{picture_of};
+ghost use Rattle.picture_core.specs.Market.{market_picture};
 ghost use Rattle.picture_core.specs.Told.{help_text};
 ghost use Rattle.picture_core.specs.Runs.{Drawn, Ran, streams};
 ghost use Rattle.host_core.specs.declared.status.Status.TheVariants.{ReadFault, NoMemory};
 ghost use Rattle.host_core.specs.Outside.{raised};
 
 use crate::day::DayKeeper;
+use crate::market::market_picture;
 use crate::outcome::Outcome;
 use crate::picture::picture;
 use crate::reading::read_days;
 use crate::send::send;
-use crate::words::{Command, command_of};
+use crate::shown::id_on;
+use crate::words::{Command, Symbol, command_of};
 use host_core::{LineSource, Sink, Status};
 use std::alloc::Global;
 
 /// What is written where help is asked for.
 const HELP: &str =
-    "chart <symbol> [--day <number>]: draws a day of the symbol of that id, 0 to 65535, as an SVG, from the lines of published frames on standard input; days are counted from 1, and without a number it is the last one\n";
+    "chart [<symbol>] [--day <number>]: draws a day of the symbol of that id, 0 to 65535, or of that name, or of the market, as an SVG, from the lines of published frames on standard input; days are counted from 1, and without a number it is the last one\n";
 
 /// How the program is called.
 #[tactic(auto, unfolding(crate::specs::Told::help_text))]
@@ -34,35 +36,79 @@ fn help() -> &'static str
     HELP
 }
 
-/// The picture of that symbol's day, where the day is there.
-fn drawn_of(
+/// The picture of the day of the symbol of that id.
+fn symbol_drawn(
     alloc: Global,
-    symbol: u16,
+    id: u16,
     wanted: Option<u64>,
     days: &DayKeeper,
 ) -> Result<String, Outcome>
-    ensures exact { IfOk result (λ picture. string_bytes picture ≡ picture_of symbol wanted days.now) }
-    ensures there { OnOk result (days.now.messages ≢ []) }
-    ensures absent { IfErr result (λ o. (o ≡ Ended NoMemory) ⊎ ((o ≡ NoDay) × (days.now.messages ≡ []))) }
+    ensures exact { IfOk result (λ text. string_bytes text ≡ picture_of id wanted days.now) }
+    ensures memory { IfErr result (λ o. o ≡ Ended NoMemory) }
 {
-    if days.messages().is_empty() {
-        return Err(Outcome::NoDay);
-    }
-    match picture(alloc, symbol, wanted, days) {
+    match picture(alloc, id, wanted, days) {
         Ok(text) => Ok(text),
         Err(_) => Err(Outcome::Ended(Status::NoMemory)),
     }
 }
 
-/// The picture of that symbol's day, once the input is read whole.
+/// The picture of the market's day.
+fn market_drawn(alloc: Global, wanted: Option<u64>, days: &DayKeeper) -> Result<String, Outcome>
+    ensures exact { IfOk result (λ text. string_bytes text ≡ market_picture wanted days.now) }
+    ensures memory { IfErr result (λ o. o ≡ Ended NoMemory) }
+{
+    match market_picture(alloc, wanted, days) {
+        Ok(text) => Ok(text),
+        Err(_) => Err(Outcome::Ended(Status::NoMemory)),
+    }
+}
+
+/// The picture of the symbol's day, where the symbol is there; without a symbol that of the market's day.
+fn picture_on(
+    alloc: Global,
+    symbol: Option<Symbol>,
+    wanted: Option<u64>,
+    days: &DayKeeper,
+) -> Result<String, Outcome>
+    ensures exact { IfOk result (λ text. picture_on symbol wanted days.now ≡ Some (string_bytes text)) }
+    ensures absent { IfErr result (λ o. (o ≡ Ended NoMemory) ⊎ ((o ≡ NoSymbol) × (picture_on symbol wanted days.now ≡ None))) }
+{
+    match symbol {
+        None => market_drawn(alloc, wanted, days),
+        Some(symbol) => match id_on(symbol, days.messages()) {
+            Some(id) => symbol_drawn(alloc, id, wanted, days),
+            None => Err(Outcome::NoSymbol),
+        },
+    }
+}
+
+/// The picture of a day, where the day is there.
+fn drawn_of(
+    alloc: Global,
+    symbol: Option<Symbol>,
+    wanted: Option<u64>,
+    days: &DayKeeper,
+) -> Result<String, Outcome>
+    ensures exact { IfOk result (λ text. picture_on symbol wanted days.now ≡ Some (string_bytes text)) }
+    ensures there { OnOk result (days.now.messages ≢ []) }
+    ensures absent { IfErr result (λ o. (o ≡ Ended NoMemory) ⊎ (((o ≡ NoDay) × (days.now.messages ≡ []))
+        ⊎ ((o ≡ NoSymbol) × (days.now.messages ≢ []) × (picture_on symbol wanted days.now ≡ None)))) }
+{
+    if days.messages().is_empty() {
+        return Err(Outcome::NoDay);
+    }
+    picture_on(alloc, symbol, wanted, days)
+}
+
+/// The picture of a day, once the input is read whole.
 fn drawn<R: LineSource>(
     alloc: Global,
-    symbol: u16,
+    symbol: Option<Symbol>,
     wanted: Option<u64>,
     reader: &mut R,
 ) -> Result<String, Outcome>
-    ensures exact { IfOk result (λ picture. IfSome (R.remaining reader.old) (λ text. (days : Days) × TellsDay wanted text days × (string_bytes picture ≡ picture_of symbol wanted days))) }
-    ensures absent { IfErr result (λ o. IfSome (R.remaining reader.old) (Lacks wanted o)) }
+    ensures exact { IfOk result (λ picture. IfSome (R.remaining reader.old) (λ text. Tells symbol wanted text (string_bytes picture))) }
+    ensures absent { IfErr result (λ o. IfSome (R.remaining reader.old) (Lacks symbol wanted o)) }
     ensures cause { IfErr result Prevents }
     ensures failed { IfErr result (λ o. o ≡ Ended ReadFault → R.failures reader.new ≡ raised (R.failures reader.old)) }
     ensures fine { OnOk result (R.failures reader.new ≡ R.failures reader.old) }
@@ -75,7 +121,7 @@ fn drawn<R: LineSource>(
 
 fn draw<R: LineSource, W: Sink>(
     alloc: Global,
-    symbol: u16,
+    symbol: Option<Symbol>,
     wanted: Option<u64>,
     reader: &mut R,
     sink: &mut W,

@@ -51,7 +51,7 @@ fn ends_breaker(later: Message) -> bool
 }
 
 /// Whether a later message ends what an earlier one says.
-fn ends(message: Message, later: Message) -> bool
+pub fn ends(message: Message, later: Message) -> bool
     ensures { result ≡ ends message later }
 {
     match message {

@@ -27,7 +27,7 @@ fn status_line(status: Status) -> Option<StatusLine>
     ensures { option_map words_of result ≡ status_line status }
 {
     match status {
-        Status::Usage => Some(StatusLine::plain("chart: usage: chart <symbol> [--day <number>]")),
+        Status::Usage => Some(StatusLine::plain("chart: usage: chart [<symbol>] [--day <number>]")),
         Status::ReadFault => Some(StatusLine::plain("chart: the input could not be read")),
         Status::SendFault => Some(StatusLine::plain("chart: the output could not be written")),
         Status::NoMemory => Some(StatusLine::plain("chart: out of memory")),
@@ -47,6 +47,7 @@ fn line(outcome: Outcome) -> Option<StatusLine>
     match outcome {
         Outcome::Ended(status) => status_line(status),
         Outcome::NoDay => Some(StatusLine::plain("chart: the input has no such day")),
+        Outcome::NoSymbol => Some(StatusLine::plain("chart: the day has no such symbol")),
     }
 }
 

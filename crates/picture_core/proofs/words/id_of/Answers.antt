@@ -1,6 +1,6 @@
 use Rattle.std.proofs.Common.{◌≡◌, rules, tests, arith}
 use Rattle.std.proofs.lemmas.Fmt.{parse-decimal}
-use Rattle.picture_core.proofs.words.symbol_of.Goals as goal
+use Rattle.picture_core.proofs.words.id_of.Goals as goal
 
 pub returns-in_default-clause-found : goal.returns-in_default-clause-found
 returns-in_default-clause-found c symbol small is =
