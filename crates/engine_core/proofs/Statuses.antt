@@ -7,8 +7,8 @@ use Rattle.host_core.specs.declared.status.Status.{Status}
 use Rattle.host_core.specs.declared.status.Status.TheVariants.{ReadFault, NoMemory}
 use Rattle.host_core.specs.Faults.{Causes}
 use Rattle.host_core.specs.Outside.{Outside}
-use Rattle.stream_core.specs.Ends.{answer_of}
-use Rattle.engine_core.specs.Ends.{IsEnd, Told}
+use Rattle.stream_core.specs.Ends.{IsEnd, answer_of}
+use Rattle.engine_core.specs.Ends.{Told}
 
 pub at_an_end : (result : Result Status Fault) (P : Status → Type 0) → IfOk result P → IsEnd (answer_of result) → P (answer_of result)
 at_an_end (Ok s) P p end = p

@@ -28,6 +28,10 @@ pub enum Status {
     NoMemory,
     /// A line or a frame of the input is not understood. Lines are counted from 1.
     BadText { line: u64 },
+    /// The last record of the journal is not a day.
+    NotAtDay,
+    /// A frame breaks a law of what is published, the first one of this number. Frames are counted from 1.
+    Breach { place: u64, law: u8 },
 }
 
 impl Status {
@@ -47,6 +51,8 @@ impl Status {
             Status::NoJournal => 9,
             Status::NoMemory => 10,
             Status::BadText { .. } => 11,
+            Status::NotAtDay => 12,
+            Status::Breach { .. } => 13,
         }
     }
 }

@@ -34,7 +34,7 @@ use Rattle.live_core.specs.declared.start.Serving.{Serving}
 use Rattle.live_core.specs.Safe.{Begin, Begins, start_of, IsSafe, IsSafeOrPending}
 use Rattle.recovery_core.specs.Damage.{IsDamagedAt, StopsAtDamage}
 use Rattle.recovery_core.specs.Ends.{TellsDamage}
-use Rattle.live_core.specs.Ends.{Answered, IsKept, IsUnserved}
+use Rattle.live_core.specs.Ends.{Answered, IsAnswer, IsKept, IsUnserved}
 use Rattle.live_core.specs.Written.{HasGrown}
 use Rattle.live_core.specs.Served.{Served}
 use Rattle.live_core.specs.InternalKeeping.{Regains, held_now}
@@ -43,6 +43,10 @@ use Rattle.live_core.specs.InternalServing.{IsSound, IsRestored, IsUnread, Serve
 use Rattle.recovery_core.proofs.OneDamage.{covers_held, covers_damaged, one_damage, lawful_undamaged}
 use Rattle.recovery_core.proofs.Recovering.{why_at}
 use Rattle.live_core.proofs.Restoring.{one_disk, unbegun}
+
+-- what is told is an answer
+answers : (status : Status) (old new : Outside) → Told status old new → IsAnswer status
+answers status old new told = grind arith
 
 -- The stops.
 
@@ -177,7 +181,7 @@ module _ (here : Type 0) (workers : ℕ) (from : Option ℕ) (batch most : ℕ) 
       send_cause = told_at SendFault;
       disk_cause = told_at DiskFault;
       memory = told_at NoMemory;
-      kind = record { understood = told_at Usage; no_text = λ line. told_at (BadText line) };
+      kind = answers status old new told;
       continues = continues;
     }
 

@@ -1,7 +1,7 @@
 -- What a session has read, kept and sent at its end.
-use Rattle.std.specs.Prelude.{◌≡◌, ◌≢◌, ℕ, List, Some}
+use Rattle.std.specs.Prelude.{◌≡◌, ℕ, List, Some}
 use Rattle.host_core.specs.declared.status.Status.{Status}
-use Rattle.host_core.specs.declared.status.Status.TheVariants.{Usage, Damaged, NoJournal, BadText}
+use Rattle.host_core.specs.declared.status.Status.TheVariants.{Done, Truncated, ReadFault, SendFault, DiskFault, SessionFull, Damaged, NoJournal, NoMemory}
 use Rattle.host_core.specs.Outside.{Outside, IsSettled}
 use Rattle.wire_in.specs.declared.record.Record.{Record}
 use Rattle.journal_core.specs.Layout.{Holds}
@@ -19,9 +19,17 @@ abbrev pub Answered : Begin → List ℕ → ℕ → Outside → Type 0
 Answered begin = engine.Answered (IsKept begin.capacity) (start_of begin)
 
 -- the answers of a session
-pub record IsAnswer (status : Status) : Type 0 where
-  pub understood : status ≢ Usage
-  pub no_text : (line : ℕ) → status ≢ BadText line
+abbrev pub IsAnswer : Status → Type 0
+IsAnswer Done = Unit {0}
+IsAnswer Truncated = Unit {0}
+IsAnswer ReadFault = Unit {0}
+IsAnswer SendFault = Unit {0}
+IsAnswer DiskFault = Unit {0}
+IsAnswer SessionFull = Unit {0}
+IsAnswer (Damaged at) = Unit {0}
+IsAnswer NoJournal = Unit {0}
+IsAnswer NoMemory = Unit {0}
+IsAnswer _ = ⊥
 
 -- no session was served: there is no journal, or it is damaged
 abbrev pub IsUnserved : Status → Type 0

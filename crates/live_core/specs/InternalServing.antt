@@ -11,10 +11,10 @@ use Rattle.journal_core.specs.Layout.{Holds, records_of}
 use Rattle.journal_core.specs.Scan.{HasRead, HasNoHeader}
 use Rattle.rulebook.specs.Admission.{IsLawful}
 use Rattle.engine_core.specs.declared.session.Session.{Session}
-use Rattle.engine_core.specs.Ends.{IsEnd, Told}
+use Rattle.engine_core.specs.Ends.{Told}
 use Rattle.engine_core.specs.Rounds.{RoundState}
 use Rattle.stream_core.specs.Taking.{ReadsAtMost}
-use Rattle.stream_core.specs.Ends.{end_of}
+use Rattle.stream_core.specs.Ends.{IsEnd, end_of}
 use Rattle.stream_core.specs.Pending.{SendsPrefix}
 use Rattle.engine_core.specs.Serving.{Reads, Leaves, IsReady}
 use Rattle.engine_core.specs.Sessions.{Start, Answered, Prompt, Starved}

@@ -7,9 +7,8 @@ use Rattle.wire_in.specs.Cutting.{bodies_of}
 use Rattle.wire_in.specs.declared.record.Record.{Record}
 use Rattle.journal_core.specs.Scan.{HasNoHeader}
 use Rattle.rulebook.specs.Sent.{sent_again, spelled}
-use Rattle.stream_core.specs.Ends.{end_of}
+use Rattle.stream_core.specs.Ends.{IsEnd, end_of}
 use Rattle.stream_core.specs.Taking.{ReadsAtMost}
-use Rattle.engine_core.specs.Ends.{IsEnd}
 use Rattle.stream_core.specs.Pending.{SendsPrefix, SentPrefix}
 use Rattle.engine_core.specs.Sessions.{Prompt, Starved, expected}
 use Rattle.live_core.specs.Safe.{Begin, Begins, start_of, IsSafe, IsSafeOrPending}

@@ -5,12 +5,13 @@ ghost use Rattle.host_core.specs.Outside.{Elapses, Continues};
 ghost use Rattle.host_core.specs.Faults.{Causes};
 ghost use Rattle.stream_core.specs.Pending.{SendsPrefix};
 ghost use Rattle.wire_in.specs.Cutting.{bodies_of};
-ghost use Rattle.engine_core.specs.Sessions.{Prompt, Starved};
-ghost use Rattle.stream_core.specs.Ends.{end_of};
+ghost use Rattle.stream_core.specs.Asking.{Prompt};
+ghost use Rattle.engine_core.specs.Sessions.{Starved};
+ghost use Rattle.stream_core.specs.Ends.{IsEnd, end_of};
 ghost use Rattle.stream_core.specs.Taking.{ReadsAtMost};
-ghost use Rattle.engine_core.specs.Ends.{IsEnd};
 ghost use Rattle.replay_core.specs.InternalSession.{IsFresh};
-ghost use Rattle.replay_core.specs.Replayed.{replay_text, replay_start, Answered, LeavesDisk, Replayed};
+ghost use Rattle.stream_core.specs.Answering.{HasAnswered};
+ghost use Rattle.replay_core.specs.Replayed.{replay_text, replay_start, IsAnswer, LeavesDisk, Replayed};
 
 use crate::keeper::NoKeeper;
 use engine_core::{Engine, Round, Session, serve_input};
@@ -78,14 +79,14 @@ fn answer_input<Rt: Threads + Sync, H: Host, G: Gate>(
     requires workers { (1 ≤ options.now.workers) × (options.now.workers ≤ 64) }
     requires bytes { options.now.bytes ≤ BYTES_MAX }
     ensures exact { (input : List ℕ) → (H.outside host.old).input ≡ Some input
-        → IfOk result (λ status. (status ≡ end_of options.now.bytes input) × Answered (H.outside host.old).sent input (min options.now.bytes (length input)) (H.outside host.new)) }
-    ensures end { IfOk result IsEnd }
+        → IfOk result (λ status. (status ≡ end_of options.now.bytes input) × HasAnswered replay_text (H.outside host.old).sent input (min options.now.bytes (length input)) (H.outside host.new)) }
+    ensures end { IfOk result (λ status. IsEnd status × IsAnswer status) }
     ensures unread { (input : List ℕ) → (H.outside host.old).input ≡ Some input → result ≡ Err Fault.Read
-        → (count : ℕ) × (count < options.now.bytes) × Answered (H.outside host.old).sent input count (H.outside host.new) }
+        → (count : ℕ) × (count < options.now.bytes) × HasAnswered replay_text (H.outside host.old).sent input count (H.outside host.new) }
     ensures moments { (input : List ℕ) → (H.outside host.old).input ≡ Some input
         → Elapses (H.outside host.old) (H.outside host.new) (SendsPrefix (H.outside host.old).sent (replay_text (take options.now.bytes input)) (H.outside host.old)) }
     ensures prompt { (input : List ℕ) → (H.outside host.old).input ≡ Some input
-        → Prompt (replay_start options.now.workers (H.outside host.old).sent) input (H.outside host.old).asks (H.outside host.new).asks }
+        → Prompt replay_text (H.outside host.old).sent input (H.outside host.old).asks (H.outside host.new).asks }
     ensures starved { (input : List ℕ) → (H.outside host.old).input ≡ Some input → result ≡ Err Fault.Memory
         → (host.new ≡ host.old) ⊎ Starved (replay_start options.now.workers (H.outside host.old).sent) (bodies_of (take options.now.bytes input)) (H.outside host.new) }
     ensures bytes { ReadsAtMost options.now.bytes (H.outside host.old).input (H.outside host.new).input }

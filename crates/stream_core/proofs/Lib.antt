@@ -3,3 +3,5 @@ pub mod Sending
 pub mod Taken
 pub mod Reading
 pub mod Asking
+pub mod Pieces
+pub mod Streamed

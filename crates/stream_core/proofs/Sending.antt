@@ -46,6 +46,10 @@ pub sends_on : {begin : Option (List ℕ)} {old mid new : Outside} {long : List 
     → (text more : List ℕ) → text ++ more ≡ long → Elapses mid new (SendsPrefix begin text mid) → Elapses old new (SendsPrefix begin long old)
 sends_on first text more is second = goes_on first second (λ image bytes stop. prefix_of_longer text more _ is image bytes (ended first stop.was).was stop)
 
+-- a run that sends a prefix of a text, and then another
+pub sends_whole : {begin : Option (List ℕ)} {old mid new : Outside} {text : List ℕ} → Elapses old mid (SendsPrefix begin text old) → Elapses mid new (SendsPrefix begin text mid) → Elapses old new (SendsPrefix begin text old)
+sends_whole {text = text} first second = sends_on first text [] (append-nil text) second
+
 -- a run that sends a prefix of a text
 pub sends_longer : {begin : Option (List ℕ)} {old new : Outside} (text more long : List ℕ) → text ++ more ≡ long
     → Elapses old new (SendsPrefix begin text old) → Elapses old new (SendsPrefix begin long old)

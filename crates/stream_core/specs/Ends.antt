@@ -14,6 +14,13 @@ end_of most input =
     else if length (rest_of input) == 0 then Done
     else Truncated
 
+-- the input was read to its end or to the most bytes
+abbrev pub IsEnd : Status → Type 0
+IsEnd Done = Unit {0}
+IsEnd Truncated = Unit {0}
+IsEnd SessionFull = Unit {0}
+IsEnd _ = ⊥
+
 -- the status of a run that answered its input so
 abbrev pub answer_of : Result Status Fault → Status
 answer_of (Ok status) = status

@@ -2,3 +2,5 @@ pub mod Pending
 pub mod Taking
 pub mod Asking
 pub mod Ends
+pub mod Answering
+pub mod Streamed

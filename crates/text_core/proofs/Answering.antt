@@ -15,16 +15,15 @@ use Rattle.text_core.specs.declared.translator.Translator.{Translator}
 use Rattle.stream_core.specs.Pending.{Expects}
 use Rattle.text_core.specs.Streams.{units_of, rest_of, last_unit, outputs, output_of, text_of}
 use Rattle.text_core.specs.InternalStreams.{Answers, Reads, IsOneLine}
-use Rattle.std.specs.Io.KnownBytes.{append_known}
 use Rattle.host_core.specs.Outside.{Outside, Elapses}
 use Rattle.stream_core.specs.Pending.{SendsPrefix}
-use Rattle.stream_core.proofs.Pending.{expects_same, expects_nothing}
+use Rattle.stream_core.proofs.Pending.{expects_same}
 use Rattle.text_core.proofs.Units.{units-append, line_units, line_rest, part_units, part_rest, is_bad, still_bad, one_good, one_bad, text_one, text_same, cut_output, outputs_last, cut_more}
 
-module _ {task : Task} {kind : Kind} {begin : Option (List ℕ)} {units : List (List ℕ)} {writer : Writer} {old : Option (List ℕ)} (answers : Answers task kind begin units writer old) where
+module _ {task : Task} {kind : Kind} {begin : Option (List ℕ)} {units : List (List ℕ)} {writer : Writer} {waiting : List ℕ} {old : Option (List ℕ)} (answers : Answers task kind begin units writer waiting old) where
   -- one unit more, which has a value
   pub answered_good : writer.bad ≡ false → (unit output : List ℕ) → Some output ≡ output_of task kind unit → (outbox : List ℕ) (sent : Option (List ℕ))
-      → Expects begin sent outbox (text_of task kind units ++ output) → Answers task kind begin (units ++ unit ∷ []) (record { outbox = outbox; number = writer.number + 1; bad = writer.bad }) sent
+      → Expects begin sent outbox (text_of task kind units ++ output) → Answers task kind begin (units ++ unit ∷ []) (record { number = writer.number + 1; bad = writer.bad }) outbox sent
   answered_good going unit output is outbox sent expects =
       let good_so_far : is_bad (output_of task kind) units ≡ false = sym answers.bad_is ∙ going in
       let one = one_good (output_of task kind) units unit output good_so_far (sym is) in
@@ -36,7 +35,7 @@ module _ {task : Task} {kind : Kind} {begin : Option (List ℕ)} {units : List (
 
   -- or one that has none
   pub answered_bad : writer.bad ≡ false → (unit : List ℕ) → None ≡ output_of task kind unit
-      → Answers task kind begin (units ++ unit ∷ []) (record { outbox = writer.outbox; number = writer.number; bad = true }) old
+      → Answers task kind begin (units ++ unit ∷ []) (record { number = writer.number; bad = true }) waiting old
   answered_bad going unit is =
       let one = one_bad (output_of task kind) units unit (sym answers.bad_is ∙ going) (sym is) in
       record {
@@ -55,55 +54,47 @@ gives_some gives true output bytes is done same = ap (λ (b : List ℕ). Some b)
 gives_some gives false output bytes is done same = absurd (true≢false (sym done))
 
 -- the same answers, where the last unit has the same output
-pub answers_last : {task : Task} {kind : Kind} {begin : Option (List ℕ)} {writer : Writer} {sent : Option (List ℕ)} (units : List (List ℕ)) (u v : List ℕ) → output_of task kind u ≡ output_of task kind v
-    → Answers task kind begin (units ++ u ∷ []) writer sent → Answers task kind begin (units ++ v ∷ []) writer sent
-answers_last {task} {kind} {begin} {writer} {sent} units u v same answers =
+pub answers_last : {task : Task} {kind : Kind} {begin : Option (List ℕ)} {writer : Writer} {waiting : List ℕ} {sent : Option (List ℕ)} (units : List (List ℕ)) (u v : List ℕ) → output_of task kind u ≡ output_of task kind v
+    → Answers task kind begin (units ++ u ∷ []) writer waiting sent → Answers task kind begin (units ++ v ∷ []) writer waiting sent
+answers_last {task} {kind} {begin} {writer} {waiting} {sent} units u v same answers =
     let outs = outputs_last (output_of task kind) units u v same in
     record {
       number_is = answers.number_is ∙ ap length outs;
       bad_is = answers.bad_is ∙ (λ i. nat_lt (length (outs i)) (counts i));
-      pending_is = subst (λ (t : List ℕ). Expects begin sent writer.outbox t) (text_same task kind (units ++ u ∷ []) (units ++ v ∷ []) outs) answers.pending_is;
+      pending_is = subst (λ (t : List ℕ). Expects begin sent waiting t) (text_same task kind (units ++ u ∷ []) (units ++ v ∷ []) outs) answers.pending_is;
     } where
       counts : length (units ++ u ∷ []) ≡ length (units ++ v ∷ [])
       counts = omega (arith, length-append units (u ∷ []), length-append units (v ∷ []))
 
 -- the same units
-pub answers_same : {task : Task} {kind : Kind} {begin : Option (List ℕ)} {writer : Writer} {sent : Option (List ℕ)} {a b : List (List ℕ)} → a ≡ b → Answers task kind begin a writer sent → Answers task kind begin b writer sent
-answers_same {task} {kind} {begin} {writer} {sent} same answers = subst (λ (units : List (List ℕ)). Answers task kind begin units writer sent) same answers
+pub answers_same : {task : Task} {kind : Kind} {begin : Option (List ℕ)} {writer : Writer} {waiting : List ℕ} {sent : Option (List ℕ)} {a b : List (List ℕ)} → a ≡ b → Answers task kind begin a writer waiting sent → Answers task kind begin b writer waiting sent
+answers_same {task} {kind} {begin} {writer} {waiting} {sent} same answers = subst (λ (units : List (List ℕ)). Answers task kind begin units writer waiting sent) same answers
 
 -- behind a bad unit nothing more is answered
-pub answers_more : {task : Task} {kind : Kind} {begin : Option (List ℕ)} {writer : Writer} {sent : Option (List ℕ)} (units more : List (List ℕ)) → writer.bad ≡ true
-    → Answers task kind begin units writer sent → Answers task kind begin (units ++ more) writer sent
-answers_more {task} {kind} {begin} {writer} {sent} units more bad answers =
+pub answers_more : {task : Task} {kind : Kind} {begin : Option (List ℕ)} {writer : Writer} {waiting : List ℕ} {sent : Option (List ℕ)} (units more : List (List ℕ)) → writer.bad ≡ true
+    → Answers task kind begin units writer waiting sent → Answers task kind begin (units ++ more) writer waiting sent
+answers_more {task} {kind} {begin} {writer} {waiting} {sent} units more bad answers =
     let still = still_bad (output_of task kind) units more (sym answers.bad_is ∙ bad) in
     record {
       number_is = answers.number_is ∙ ap length (sym still.0);
       bad_is = bad ∙ sym still.1;
-      pending_is = subst (λ (t : List ℕ). Expects begin sent writer.outbox t) (text_same task kind units (units ++ more) (sym still.0)) answers.pending_is;
+      pending_is = subst (λ (t : List ℕ). Expects begin sent waiting t) (text_same task kind units (units ++ more) (sym still.0)) answers.pending_is;
     }
 
--- after what waits was sent
-pub answers_sent : {task : Task} {kind : Kind} {begin : Option (List ℕ)} {writer : Writer} {sent : Option (List ℕ)} (units : List (List ℕ)) (outbox : List ℕ) (new : Option (List ℕ)) → Answers task kind begin units writer sent
-    → outbox ≡ [] → new ≡ append_known begin (text_of task kind units) → Answers task kind begin units (record { outbox = outbox; number = writer.number; bad = writer.bad }) new
-answers_sent units outbox new answers none is = record { number_is = answers.number_is; bad_is = answers.bad_is; pending_is = expects_nothing _ new outbox _ none is }
-
 -- what a call does for one of the two tasks
-abbrev pub Moves : Kind → Translator → Outside → Outside → Task → Type 0
-Moves kind translator old new task = (begin : Option (List ℕ)) (read : List ℕ) → Reads task kind begin read translator old.sent
+abbrev pub Moves : Kind → Translator → List ℕ → Outside → Outside → Task → Type 0
+Moves kind translator waiting old new task = (begin : Option (List ℕ)) (read : List ℕ) → Reads task kind begin read translator waiting old.sent
     → Elapses old new (SendsPrefix begin (text_of task kind (units_of task read)) old)
 
-abbrev pub ReadsOn : Kind → Translator → Translator → Option (List ℕ) → Option (List ℕ) → List ℕ → Task → Type 0
-ReadsOn kind translator after sent new taken task = (begin : Option (List ℕ)) (read : List ℕ) → Reads task kind begin read translator sent → Reads task kind begin (read ++ taken) after new
-
 -- what was sent stays so
-pub reads_still : {task : Task} {kind : Kind} {begin : Option (List ℕ)} {read : List ℕ} {translator : Translator} {sent : Option (List ℕ)} (same : Option (List ℕ)) → same ≡ sent
-    → Reads task kind begin read translator sent → Reads task kind begin read translator same
-reads_still {task} {kind} {begin} {read} {translator} same is reads = subst (λ (s : Option (List ℕ)). Reads task kind begin read translator s) (sym is) reads
+pub reads_still : {task : Task} {kind : Kind} {begin : Option (List ℕ)} {read : List ℕ} {translator : Translator} {waiting : List ℕ} {sent : Option (List ℕ)} (same : Option (List ℕ)) → same ≡ sent
+    → Reads task kind begin read translator waiting sent → Reads task kind begin read translator waiting same
+reads_still {task} {kind} {begin} {read} {translator} {waiting} same is reads = subst (λ (s : Option (List ℕ)). Reads task kind begin read translator waiting s) (sym is) reads
 
 -- bytes behind a bad unit are passed over
-pub reads_rest : {task : Task} {kind : Kind} {begin : Option (List ℕ)} {translator : Translator} {sent : Option (List ℕ)} (read more : List ℕ) → translator.writer.bad ≡ true
-    → Reads task kind begin read translator sent → Reads task kind begin (read ++ more) translator sent
-reads_rest {task} {kind} {begin} {translator} {sent} read more bad reads =
+pub reads_rest : {task : Task} {kind : Kind} {begin : Option (List ℕ)} {translator : Translator} {waiting : List ℕ} {sent : Option (List ℕ)} (read more : List ℕ) → translator.writer.bad ≡ true
+    → Reads task kind begin read translator waiting sent → Reads task kind begin (read ++ more) translator waiting sent
+reads_rest {task} {kind} {begin} {translator} {waiting} {sent} read more bad reads =
     let later = units-append task read more in
     record {
       answers = answers_same (sym later.1) (answers_more (units_of task read) later.0 bad reads.answers);
@@ -111,12 +102,12 @@ reads_rest {task} {kind} {begin} {translator} {sent} read more bad reads =
     }
 
 -- other bytes, which are the same
-pub reads_same : {task : Task} {kind : Kind} {begin : Option (List ℕ)} {translator : Translator} {sent : Option (List ℕ)} {a b : List ℕ} → a ≡ b
-    → Reads task kind begin a translator sent → Reads task kind begin b translator sent
-reads_same {task} {kind} {begin} {translator} {sent} same reads = subst (λ (read : List ℕ). Reads task kind begin read translator sent) same reads
+pub reads_same : {task : Task} {kind : Kind} {begin : Option (List ℕ)} {translator : Translator} {waiting : List ℕ} {sent : Option (List ℕ)} {a b : List ℕ} → a ≡ b
+    → Reads task kind begin a translator waiting sent → Reads task kind begin b translator waiting sent
+reads_same {task} {kind} {begin} {translator} {waiting} {sent} same reads = subst (λ (read : List ℕ). Reads task kind begin read translator waiting sent) same reads
 
 -- the frame that is begun
-pub frame_begun : {kind : Kind} {begin : Option (List ℕ)} {read : List ℕ} {translator : Translator} {sent : Option (List ℕ)} → Reads Print kind begin read translator sent → translator.writer.bad ≡ false
+pub frame_begun : {kind : Kind} {begin : Option (List ℕ)} {read : List ℕ} {translator : Translator} {waiting : List ℕ} {sent : Option (List ℕ)} → Reads Print kind begin read translator waiting sent → translator.writer.bad ≡ false
     → pending translator.cutter ≡ frames.rest_of read
 unfolding rest_of
 frame_begun reads going = reads.begun going
@@ -132,8 +123,8 @@ partial_units read taken held on part =
     on.bodies ∙ ap (λ (b : Bool). frames.bodies_of read ++ cond b (drop 1 held ∷ []) []) part ∙ append-nil (frames.bodies_of read)
 
 -- a frame more
-pub reads_frame : {kind : Kind} {begin : Option (List ℕ)} {sent : Option (List ℕ)} {translator : Translator} (read taken held body : List ℕ) → GoesOn read taken held → is_frame held ≡ true → framed body ≡ held
-    → translator.cutter ≡ held → Answers Print kind begin (units_of Print read ++ body ∷ []) translator.writer sent → Reads Print kind begin (read ++ taken) translator sent
+pub reads_frame : {kind : Kind} {begin : Option (List ℕ)} {waiting : List ℕ} {sent : Option (List ℕ)} {translator : Translator} (read taken held body : List ℕ) → GoesOn read taken held → is_frame held ≡ true → framed body ≡ held
+    → translator.cutter ≡ held → Answers Print kind begin (units_of Print read ++ body ∷ []) translator.writer waiting sent → Reads Print kind begin (read ++ taken) translator waiting sent
 unfolding rest_of
 reads_frame read taken held body on whole is cutter answers = record {
   answers = answers_same (sym (frame_units read taken held body on whole is)) answers;
@@ -141,8 +132,8 @@ reads_frame read taken held body on whole is cutter answers = record {
 }
 
 -- a part of one more
-pub reads_part : {kind : Kind} {begin : Option (List ℕ)} {sent : Option (List ℕ)} {translator : Translator} (read taken held : List ℕ) → GoesOn read taken held → is_frame held ≡ false
-    → translator.cutter ≡ held → Answers Print kind begin (units_of Print read) translator.writer sent → Reads Print kind begin (read ++ taken) translator sent
+pub reads_part : {kind : Kind} {begin : Option (List ℕ)} {waiting : List ℕ} {sent : Option (List ℕ)} {translator : Translator} (read taken held : List ℕ) → GoesOn read taken held → is_frame held ≡ false
+    → translator.cutter ≡ held → Answers Print kind begin (units_of Print read) translator.writer waiting sent → Reads Print kind begin (read ++ taken) translator waiting sent
 unfolding rest_of
 reads_part read taken held on part cutter answers = record {
   answers = answers_same (sym (partial_units read taken held on part)) answers;
@@ -158,17 +149,17 @@ whole_on read taken body none is =
       rest_of-append read taken ∙ ap frames.rest_of joined ∙ first.1,
     )
 
-pub reads_whole : {kind : Kind} {begin : Option (List ℕ)} {sent : Option (List ℕ)} {translator : Translator} (read taken body : List ℕ) → frames.rest_of read ≡ [] → framed body ≡ taken
-    → pending translator.cutter ≡ [] → Answers Print kind begin (units_of Print read ++ body ∷ []) translator.writer sent → Reads Print kind begin (read ++ taken) translator sent
+pub reads_whole : {kind : Kind} {begin : Option (List ℕ)} {waiting : List ℕ} {sent : Option (List ℕ)} {translator : Translator} (read taken body : List ℕ) → frames.rest_of read ≡ [] → framed body ≡ taken
+    → pending translator.cutter ≡ [] → Answers Print kind begin (units_of Print read ++ body ∷ []) translator.writer waiting sent → Reads Print kind begin (read ++ taken) translator waiting sent
 unfolding units_of rest_of
 reads_whole read taken body none is between answers =
     let on = whole_on read taken body none is in
     record { answers = answers_same (sym on.0) answers; begun = λ going. between ∙ sym on.1 }
 
 -- a line more, which gives what a unit gives
-pub reads_line : {kind : Kind} {begin : Option (List ℕ)} {sent : Option (List ℕ)} {translator : Translator} (read last unit : List ℕ) → IsOneLine last
+pub reads_line : {kind : Kind} {begin : Option (List ℕ)} {waiting : List ℕ} {sent : Option (List ℕ)} {translator : Translator} (read last unit : List ℕ) → IsOneLine last
     → output_of Pack kind unit ≡ output_of Pack kind (rest_of Pack read ++ last)
-    → translator.line ≡ [] → Answers Pack kind begin (units_of Pack read ++ unit ∷ []) translator.writer sent → Reads Pack kind begin (read ++ last ++ 10 ∷ []) translator sent
+    → translator.line ≡ [] → Answers Pack kind begin (units_of Pack read ++ unit ∷ []) translator.writer waiting sent → Reads Pack kind begin (read ++ last ++ 10 ∷ []) translator waiting sent
 reads_line {kind} read last unit one gives empty answers = record {
   answers = answers_same (sym (line_units read last one)) (answers_last (units_of Pack read) unit (rest_of Pack read ++ last) gives answers);
   begun = λ going. empty ∙ ap (λ (l : List ℕ). take 256 l) (sym (line_rest read last));
@@ -194,8 +185,8 @@ empty_is (b ∷ line) is = elim (eqb_tells (length (b ∷ line)) 0) [
 ]
 
 -- bytes of a line more
-pub reads_more : {kind : Kind} {begin : Option (List ℕ)} {sent : Option (List ℕ)} {translator : Translator} (read line bytes : List ℕ) → IsOneLine bytes → line ≡ take 256 (rest_of Pack read)
-    → translator.line ≡ take 256 (line ++ bytes) → Answers Pack kind begin (units_of Pack read) translator.writer sent → Reads Pack kind begin (read ++ bytes) translator sent
+pub reads_more : {kind : Kind} {begin : Option (List ℕ)} {waiting : List ℕ} {sent : Option (List ℕ)} {translator : Translator} (read line bytes : List ℕ) → IsOneLine bytes → line ≡ take 256 (rest_of Pack read)
+    → translator.line ≡ take 256 (line ++ bytes) → Answers Pack kind begin (units_of Pack read) translator.writer waiting sent → Reads Pack kind begin (read ++ bytes) translator waiting sent
 reads_more read line bytes one is kept answers = record {
   answers = answers_same (sym (part_units read bytes one)) answers;
   begun = λ going. kept ∙ ap (λ (l : List ℕ). take 256 (l ++ bytes)) is ∙ cut_more (rest_of Pack read) bytes ∙ ap (λ (l : List ℕ). take 256 l) (sym (part_rest read bytes one));
@@ -207,7 +198,7 @@ no_last line [] is empty = refl
 no_last line (b ∷ rest) is empty = absurd (omega (arith, ap length (sym is ∙ empty)))
 
 -- the last line
-pub last_line : {kind : Kind} {begin : Option (List ℕ)} {sent : Option (List ℕ)} {writer : Writer} (units : List (List ℕ)) (line rest : List ℕ) → line ≡ take 256 rest → 0 < length line
-    → Answers Pack kind begin (units ++ line ∷ []) writer sent → Answers Pack kind begin (units ++ last_unit Pack rest) writer sent
+pub last_line : {kind : Kind} {begin : Option (List ℕ)} {waiting : List ℕ} {sent : Option (List ℕ)} {writer : Writer} (units : List (List ℕ)) (line rest : List ℕ) → line ≡ take 256 rest → 0 < length line
+    → Answers Pack kind begin (units ++ line ∷ []) writer waiting sent → Answers Pack kind begin (units ++ last_unit Pack rest) writer waiting sent
 last_line units line [] is some answers = absurd (omega (arith, some, ap length is))
 last_line {kind} units line (b ∷ rest) is some answers = answers_last units line (b ∷ rest) (ap (output_of Pack kind) is ∙ cut_output kind (b ∷ rest)) answers

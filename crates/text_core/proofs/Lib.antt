@@ -2,6 +2,7 @@ pub mod Digits
 pub mod Plain
 pub mod Words
 pub mod Fields
+pub mod Values
 pub mod Records
 pub mod Frames
 pub mod Newlines
@@ -10,4 +11,3 @@ pub mod Answering
 pub mod Reading
 pub mod Packing
 pub mod Beginning
-pub mod Statuses

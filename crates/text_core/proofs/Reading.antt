@@ -1,41 +1,21 @@
 -- The input, read piece by piece, and the end of a stream.
 use Rattle.std.proofs.Common.{◌≡◌, ◌⊎◌, inl, inr, ℕ, ◌+◌, ◌-◌, ◌≤◌, cond, Bool, true, false, not, List, [], ◌++◌, length, take, drop, refl, sym, ap, subst, ◌∙◌, append_assoc, arith, true≢false}
-use Rattle.std.specs.Prelude.{Option, Some, option_map, nat_lt, nat_le, ◌&&◌}
-use Rattle.std.specs.Io.KnownBytes.{append_known}
+use Rattle.std.specs.Prelude.{Option, nat_lt, nat_le, ◌&&◌}
 use Rattle.std.proofs.Math.Seq.{take-add}
-use Rattle.std.proofs.lemmas.List.{append-nil, drop-drop, length-drop, take-append-drop, take_all}
+use Rattle.std.proofs.lemmas.List.{append-nil, take-append-drop, take_all}
 use Rattle.std.proofs.lemmas.Bool.Decides.{leb_tells}
 use Rattle.host_core.specs.declared.status.Status.{Status}
 use Rattle.host_core.specs.declared.status.Status.TheVariants.{SessionFull, BadText}
-use Rattle.host_core.specs.Outside.{Outside, Elapses}
-use Rattle.host_core.specs.Frames.{OnlySends}
-use Rattle.host_core.proofs.Moments.{further}
 use Rattle.text_core.specs.declared.kind.Kind.{Kind}
 use Rattle.text_core.specs.declared.task.Task.{Task}
 use Rattle.text_core.specs.declared.task.Task.TheVariants.{Print, Pack}
 use Rattle.text_core.specs.declared.writer.Writer.{Writer}
 use Rattle.text_core.specs.declared.translator.Translator.{Translator}
-use Rattle.stream_core.specs.Pending.{SendsPrefix}
-use Rattle.stream_core.specs.Taking.{TakesPiece, OnlyExchanges}
-use Rattle.text_core.specs.Streams.{units_of, rest_of, last_unit, outputs, output_of, text_of, text_for, units_within, end_of_good, end_of}
-use Rattle.stream_core.specs.Asking.{Prompt}
-use Rattle.text_core.specs.Translated.{Answered}
-use Rattle.text_core.specs.InternalStreams.{Answers, Begins, Reads, closed_units, end_of_input, ending_of}
+use Rattle.text_core.specs.Streams.{units_of, rest_of, last_unit, outputs, output_of, text_of, units_within, end_of_good, end_of}
+use Rattle.text_core.specs.InternalStreams.{Answers, Reads, closed_units, end_of_input, ending_of}
 use Rattle.wire_in.specs.Cutting.{pending}
 use Rattle.text_core.proofs.Answering.{answers_more}
-use Rattle.stream_core.proofs.Pending.{expects_nothing}
 use Rattle.text_core.proofs.Units.{IsPrefix, lt_tells, units-append, is_bad, still_bad, text_more, text_same}
-
-pub sends_exchange : {old new : Outside} → OnlySends old new → OnlyExchanges old new
-sends_exchange sends = record { disk = sends.disk; left = sends.left; disk_faults = sends.disk_faults; continues = sends.continues }
-
-pub exchanges_both : {old mid new : Outside} → OnlyExchanges old mid → OnlyExchanges mid new → OnlyExchanges old new
-exchanges_both first second = record {
-  disk = second.disk ∙ first.disk;
-  left = λ image left. first.left image (second.left image left);
-  disk_faults = second.disk_faults ∙ first.disk_faults;
-  continues = further first.continues second.continues;
-}
 
 -- the first bytes of an input, and more of them
 taken_more : (n m : ℕ) (input : List ℕ) → n ≤ m → take m input ≡ take n input ++ take (m - n) (drop n input)
@@ -146,9 +126,9 @@ module _ (task : Task) (most : ℕ) (input : List ℕ) where
         ]
 
     -- the status is the one that the input gives
-    pub ends_so : (writer : Writer) (begin sent : Option (List ℕ)) → (is_bad (output_of task kind) (units_of task (take read input)) ≡ true) ⊎ ((read ≡ length input) ⊎ (read ≡ most))
-        → Answers task kind begin closed writer sent → ending_of task writer (rest_of task (take read input)) read most ≡ end_of task kind most input
-    ends_so writer begin sent either answers =
+    pub ends_so : (writer : Writer) {begin sent : Option (List ℕ)} {waiting : List ℕ} → (is_bad (output_of task kind) (units_of task (take read input)) ≡ true) ⊎ ((read ≡ length input) ⊎ (read ≡ most))
+        → Answers task kind begin closed writer waiting sent → ending_of task writer (rest_of task (take read input)) read most ≡ end_of task kind most input
+    ends_so writer either answers =
         let agree = agrees either in
         let bad = answers.bad_is ∙ agree.bad in
         let number = answers.number_is ∙ ap length agree.same in
@@ -157,83 +137,13 @@ module _ (task : Task) (most : ℕ) (input : List ℕ) where
         ∙ pick (is_bad (output_of task kind) (units_within task most input)) (BadText (length (outputs (output_of task kind) (units_within task most input)) + 1))
         ending (end_of_good task most input) (λ good. same_end good either ∙ unhindered task)
 
--- A stream since it began: what was read and answered of it, what its stops may leave, when it asked, and how it came to
--- an end once it is closed.
-pub record Polls (task : Task) (kind : Kind) (begin : Option (List ℕ)) (input : List ℕ) (most read : ℕ) (on : Bool) (translator : Translator) (old now : Outside) : Type 0 where
-  pub reads : Reads task kind begin (take read input) translator now.sent
-  pub input_left : now.input ≡ Some (drop read input)
-  pub there : read ≤ length input
-  pub moments : Elapses old now (SendsPrefix begin (text_of task kind (units_within task most input)) old)
-  pub prompt : Prompt (text_for task kind) begin input old.asks now.asks
-  pub end : on ≡ false → (translator.writer.bad ≡ true) ⊎ ((read ≡ length input) ⊎ (read ≡ most))
-
--- all that was read was answered, once it was sent
-pub answered_by : {task : Task} {kind : Kind} {begin : Option (List ℕ)} {input : List ℕ} {most read : ℕ} {on : Bool} {translator : Translator} {old now : Outside} → Polls task kind begin input most read on translator old now
-    → (new : Outside) → new.input ≡ now.input → new.sent ≡ append_known begin (text_of task kind (units_of task (take read input))) → Answered task kind begin input read new
-answered_by polls new same sent = record { input_left = same ∙ polls.input_left; there = polls.there; sent = sent }
-
--- after what waits was sent
-pub reads_sent : {task : Task} {kind : Kind} {begin : Option (List ℕ)} {read : List ℕ} {translator : Translator} {sent : Option (List ℕ)} (outbox : List ℕ) (new : Option (List ℕ))
-    → Reads task kind begin read translator sent → outbox ≡ [] → new ≡ append_known begin (text_of task kind (units_of task read))
-    → Reads task kind begin read (record translator { writer = record translator.writer { outbox = outbox } }) new
-reads_sent {task} {kind} {begin} {read} {translator} outbox new reads none sent = record {
-  answers = record {
-    number_is = reads.answers.number_is;
-    bad_is = reads.answers.bad_is;
-    pending_is = expects_nothing begin new outbox (text_of task kind (units_of task read)) none sent;
-  };
-  begun = by task reads.begun;
-} where
-  by : (task : Task) → (translator.writer.bad ≡ false → Begins task translator (rest_of task read))
-      → translator.writer.bad ≡ false → Begins task (record translator { writer = record translator.writer { outbox = outbox } }) (rest_of task read)
-  by Print begun = begun
-  by Pack begun = begun
-
--- n bytes more were read
-module _ (input : List ℕ) (count : ℕ) {old mid : Option (List ℕ)} {most n : ℕ} {buffer : List ℕ} (left : old ≡ Some (drop count input)) (there : count ≤ length input) (takes : TakesPiece most old mid buffer n) where
-  pub still_there : count + n ≤ length input
-  still_there = omega (arith, takes.there (drop count input) left, there, length-drop count input)
-
-  pub piece_is : take count input ++ take n buffer ≡ take (count + n) input
-  piece_is = ap (λ (b : List ℕ). take count input ++ b) (takes.given (drop count input) left) ∙ sym (take-add count n input)
-
-  pub left_more : mid ≡ Some (drop (count + n) input)
-  left_more = takes.left ∙ ap (option_map (λ (bytes : List ℕ). drop n bytes)) left ∙ ap (λ (bytes : List ℕ). Some bytes) (drop-drop n count input)
-
-  -- none were, since the input is at its end or none may be
-  pub none_left : n ≡ 0 → (count ≡ length input) ⊎ (most ≡ 0)
-  none_left none = by (takes.end (drop count input) left none) where
-    by : (drop count input ≡ []) ⊎ (most ≡ 0) → (count ≡ length input) ⊎ (most ≡ 0)
-    by (inl nothing) = inl (omega (arith, there, length-drop count input, ap length nothing))
-    by (inr full) = inr full
-
--- a stream that doesn't go on read nothing, or met a bad unit
-pub closed_by : (n : ℕ) (bad : Bool) → nat_lt 0 n && not bad ≡ false → (bad ≡ true) ⊎ (n ≡ 0)
-closed_by n true closed = inl refl
-closed_by n false closed = elim (lt_tells 0 n) [ inl w ↦ absurd (true≢false (sym w.0 ∙ and_true (nat_lt 0 n) ∙ closed)) | inr w ↦ inr (omega (arith, w.1)) ] where
-  and_true : (b : Bool) → b ≡ b && true
-  and_true true = refl
-  and_true false = refl
-
-pub open_by : (n : ℕ) (bad : Bool) → nat_lt 0 n && not bad ≡ true → bad ≡ false
-open_by n false going = refl
-open_by n true going = absurd (true≢false (sym going ∙ and_false (nat_lt 0 n))) where
-  and_false : (b : Bool) → b && false ≡ false
-  and_false true = refl
-  and_false false = refl
-
 -- a bad unit among those that were read
-pub bad_units : {task : Task} {kind : Kind} {begin : Option (List ℕ)} {read : List ℕ} {translator : Translator} {sent : Option (List ℕ)} → Reads task kind begin read translator sent → translator.writer.bad ≡ true
+pub bad_units : {task : Task} {kind : Kind} {begin : Option (List ℕ)} {read : List ℕ} {translator : Translator} {waiting : List ℕ} {sent : Option (List ℕ)} → Reads task kind begin read translator waiting sent → translator.writer.bad ≡ true
     → is_bad (output_of task kind) (units_of task read) ≡ true
 bad_units reads bad = sym reads.answers.bad_is ∙ bad
 
--- how it came to an end
-pub ended_by : {task : Task} {kind : Kind} {begin : Option (List ℕ)} {input : List ℕ} {most read : ℕ} {on : Bool} {translator : Translator} {old now : Outside} → Polls task kind begin input most read on translator old now
-    → on ≡ false → (is_bad (output_of task kind) (units_of task (take read input)) ≡ true) ⊎ ((read ≡ length input) ⊎ (read ≡ most))
-ended_by polls closed = elim (polls.end closed) [ inl bad ↦ inl (bad_units polls.reads bad) | inr end ↦ inr end ]
-
 -- the frame that is begun at the end
-pub cutter_rest : (task : Task) {kind : Kind} {begin : Option (List ℕ)} {read : List ℕ} {translator : Translator} {sent : Option (List ℕ)} (cutter : List ℕ) (bad : Bool) → Reads task kind begin read translator sent
+pub cutter_rest : (task : Task) {kind : Kind} {begin : Option (List ℕ)} {read : List ℕ} {translator : Translator} {waiting : List ℕ} {sent : Option (List ℕ)} (cutter : List ℕ) (bad : Bool) → Reads task kind begin read translator waiting sent
     → cutter ≡ translator.cutter → (translator.writer.bad ≡ true → bad ≡ true) → bad ≡ false → task ≡ Print → pending cutter ≡ rest_of task read
 cutter_rest Print {translator = translator} cutter bad reads same still good print = ap (λ (c : List ℕ). pending c) same ∙ reads.begun (by translator.writer.bad refl) where
   by : (b : Bool) → translator.writer.bad ≡ b → translator.writer.bad ≡ false
@@ -242,14 +152,14 @@ cutter_rest Print {translator = translator} cutter bad reads same still good pri
 cutter_rest Pack cutter bad reads same still good print = absurd cc
 
 -- no last line is answered where a unit was bad, or the input has more
-pub closed_none : {task : Task} {kind : Kind} {begin : Option (List ℕ)} {read : List ℕ} {translator : Translator} {sent : Option (List ℕ)} (at_end bad : Bool) → at_end && not bad ≡ false → translator.writer.bad ≡ bad
-    → Reads task kind begin read translator sent → Answers task kind begin (closed_units task at_end read) translator.writer sent
+pub closed_none : {task : Task} {kind : Kind} {begin : Option (List ℕ)} {read : List ℕ} {translator : Translator} {waiting : List ℕ} {sent : Option (List ℕ)} (at_end bad : Bool) → at_end && not bad ≡ false → translator.writer.bad ≡ bad
+    → Reads task kind begin read translator waiting sent → Answers task kind begin (closed_units task at_end read) translator.writer waiting sent
 closed_none false bad closed is reads = reads.answers
 closed_none {task} {read = read} true true closed is reads = answers_more (units_of task read) (last_unit task (rest_of task read)) is reads.answers
 closed_none true false closed is reads = absurd (true≢false closed)
 
-pub closed_all : {task : Task} {kind : Kind} {begin sent : Option (List ℕ)} {writer : Writer} (read : List ℕ) (at_end bad : Bool) → at_end && not bad ≡ true
-    → Answers task kind begin (units_of task read ++ last_unit task (rest_of task read)) writer sent → Answers task kind begin (closed_units task at_end read) writer sent
+pub closed_all : {task : Task} {kind : Kind} {begin sent : Option (List ℕ)} {writer : Writer} {waiting : List ℕ} (read : List ℕ) (at_end bad : Bool) → at_end && not bad ≡ true
+    → Answers task kind begin (units_of task read ++ last_unit task (rest_of task read)) writer waiting sent → Answers task kind begin (closed_units task at_end read) writer waiting sent
 closed_all read true bad closed answers = answers
 closed_all read false bad closed answers = absurd (true≢false (sym closed))
 

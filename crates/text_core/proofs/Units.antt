@@ -20,14 +20,14 @@ use Rattle.text_core.specs.Streams.{lines_from, last_from, units_of, rest_of, be
 pub lt_tells : (a b : ℕ) → ((nat_lt a b ≡ true) × (a < b)) ⊎ ((nat_lt a b ≡ false) × (b ≤ a))
 lt_tells a b = elim (leb_tells (suc a) b) [ inl w ↦ inl w | inr w ↦ inr (w.0, omega (arith, w.1)) ]
 
-lines-append : (begun xs ys : List ℕ) → lines_from begun (xs ++ ys) ≡ lines_from begun xs ++ lines_from (last_from begun xs) ys
+pub lines-append : (begun xs ys : List ℕ) → lines_from begun (xs ++ ys) ≡ lines_from begun xs ++ lines_from (last_from begun xs) ys
 lines-append begun [] ys = refl
 lines-append begun (b ∷ xs) ys = elim (eqb_tells b 10) [
   | inl w ↦ rw w.0 (ap (λ (l : List (List ℕ)). begun ∷ l) (lines-append [] xs ys))
   | inr w ↦ rw w.0 (lines-append (begun ++ b ∷ []) xs ys)
 ]
 
-last-append : (begun xs ys : List ℕ) → last_from begun (xs ++ ys) ≡ last_from (last_from begun xs) ys
+pub last-append : (begun xs ys : List ℕ) → last_from begun (xs ++ ys) ≡ last_from (last_from begun xs) ys
 last-append begun [] ys = refl
 last-append begun (b ∷ xs) ys = elim (eqb_tells b 10) [
   | inl w ↦ rw w.0 (last-append [] xs ys)

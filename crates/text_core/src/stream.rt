@@ -1,18 +1,17 @@
 //! The two streams over a host: frames printed as lines, and lines packed as frames.
 
-ghost use Rattle.std.specs.Prelude.{◌≡◌, ◌≢◌, ◌+◌, ◌<◌, ◌≤◌, ◌^◌, ◌++◌, [], ℕ, Bool, List, Option, Some, true, false, Err, IfOk, IfErr, OnOk, OnErr, length, min, take, drop, nat_lt, not, ◌&&◌};
-ghost use Rattle.std.specs.Io.KnownBytes.{append_known};
+ghost use Rattle.std.specs.Prelude.{◌≡◌, ◌<◌, ◌≤◌, ◌^◌, ◌+◌, [], ℕ, List, Option, true, false, IfOk, IfErr, OnOk, length, not, refl, ◌&&◌};
 ghost use Rattle.host_core.specs.Outside.{Elapses};
 ghost use Rattle.host_core.specs.Frames.{OnlySends};
 ghost use Rattle.host_core.specs.Faults.{Causes};
 ghost use Rattle.wire_in.specs.Cutting.{pending};
 ghost use Rattle.text_core.specs.declared.task.Task.TheVariants as tasks;
-ghost use Rattle.stream_core.specs.Pending.{Expects, SendsPrefix};
-ghost use Rattle.stream_core.specs.Asking.{Prompt};
-ghost use Rattle.stream_core.specs.Taking.{ReadsAtMost, TakesPiece, OnlyExchanges};
-ghost use Rattle.text_core.specs.Streams.{units_of, rest_of, units_within, text_of, text_for, end_of};
-ghost use Rattle.text_core.specs.Translated.{Answered, IsEnd, IsAnswer, Translated, Printed, Packed, bytes_max};
-ghost use Rattle.text_core.specs.InternalStreams.{Answers, Reads, closed_units, ending_of};
+ghost use Rattle.stream_core.specs.Ends as ends;
+ghost use Rattle.stream_core.specs.Pending.{SendsPrefix};
+ghost use Rattle.stream_core.proofs.Sending.{sends_longer, sends_whole};
+ghost use Rattle.text_core.specs.Streams.{rest_of, text_of, text_for, end_of};
+ghost use Rattle.text_core.specs.Translated.{IsEnd, IsAnswer, Translated, Printed, Packed, bytes_max};
+ghost use Rattle.text_core.specs.InternalStreams.{Answers, Given, Reads, Rests, Translates, closed_units, ending_of, ends_before, fewer_left, rests_on, translates_sent, whole_text};
 
 use crate::kind::Kind;
 use crate::task::Task;
@@ -20,10 +19,18 @@ use crate::translator::Translator;
 use host_core::{Fault, Host, Status};
 use price_core::NoMemory;
 use std::alloc::Global;
-use stream_core::{Outbox, PIECE, answer_of, exchange};
+use stream_core::{Answerer, Outbox, PIECE, answer_input, answer_of};
 
 /// The most bytes that a command reads.
 const BYTES_MAX: u64 = 1_099_511_627_776;
+
+/// A stream on its way, what it is taken for, and what its lines are of.
+#[derive(Drop)]
+pub struct Translation {
+    pub task: Task,
+    pub kind: Kind,
+    pub translator: Translator,
+}
 
 /// Whether a last line is answered: at the end of the input, where no unit was bad.
 fn closes(at_end: bool, bad: bool) -> bool
@@ -37,13 +44,14 @@ fn close_at<H: Host>(
     translator: &mut Translator,
     task: Task,
     kind: Kind,
+    outbox: &mut Outbox,
     host: &mut H,
     at_end: bool,
 ) -> Result<(), Fault>
     requires few { translator.old.writer.number < 2 ^ 42 }
-    ensures answers { (begin : Option (List ℕ)) (read : List ℕ) → Reads task kind begin read translator.old (H.outside host.old).sent
-        → OnOk result (Answers task kind begin (closed_units task at_end read) translator.new.writer (H.outside host.new).sent) }
-    ensures moments { (begin : Option (List ℕ)) (read : List ℕ) → Reads task kind begin read translator.old (H.outside host.old).sent
+    ensures answers { (begin : Option (List ℕ)) (read : List ℕ) → Reads task kind begin read translator.old outbox.old (H.outside host.old).sent
+        → OnOk result (Answers task kind begin (closed_units task at_end read) translator.new.writer outbox.new (H.outside host.new).sent) }
+    ensures moments { (begin : Option (List ℕ)) (read : List ℕ) → Reads task kind begin read translator.old outbox.old (H.outside host.old).sent
         → Elapses (H.outside host.old) (H.outside host.new) (SendsPrefix begin (text_of task kind (closed_units task at_end read)) (H.outside host.old)) }
     ensures cutter { translator.new.cutter ≡ translator.old.cutter }
     ensures bad { translator.old.writer.bad ≡ true → translator.new.writer.bad ≡ true }
@@ -53,7 +61,7 @@ fn close_at<H: Host>(
     ensures fault { IfErr result (λ fault. fault ≡ Fault.Send) }
 {
     if closes(at_end, translator.writer.bad) {
-        return translator.close(task, kind, host);
+        return translator.close(task, kind, outbox, host);
     }
     Ok(())
 }
@@ -65,6 +73,7 @@ fn ending(translator: &Translator, task: Task, read: u64, most: u64) -> Status
     ensures answer { IsAnswer task result }
     ensures status { (bytes : List ℕ) → (translator.now.writer.bad ≡ false → task ≡ tasks.Print → pending translator.now.cutter ≡ rest_of task bytes)
         → result ≡ ending_of task translator.now.writer (rest_of task bytes) read most }
+    ensures good { ends.IsEnd result → translator.now.writer.bad ≡ false }
 {
     if translator.writer.bad {
         Status::BadText {
@@ -79,70 +88,110 @@ fn ending(translator: &Translator, task: Task, read: u64, most: u64) -> Status
     }
 }
 
-/// Whether more is to be read behind so many bytes.
-fn goes_on(count: usize, bad: bool) -> bool
-    ensures { result ≡ (nat_lt 0 count && not bad) }
-{
-    count > 0 && !bad
-}
+impl Answerer for Translation {
+    ghost Given = { Given };
 
-/// Translates an input that nothing was read of, up to its end, to so many bytes, or to its first bad unit.
-fn translate_input<H: Host>(
-    translator: &mut Translator,
-    task: Task,
-    kind: Kind,
-    host: &mut H,
-    buffer: &mut [u8],
-    most: u64,
-) -> Result<Status, Fault>
-    requires buffer { 0 < length buffer.old }
-    requires fresh { translator.old ≡ record { cutter = []; line = []; writer = record { outbox = []; number = 0; bad = false } } }
-    requires small { most < 2 ^ 41 }
-    ensures exact { (input : List ℕ) → (H.outside host.old).input ≡ Some input
-        → IfOk result (λ status. (status ≡ end_of task kind most input) × ((H.outside host.new).sent ≡ append_known (H.outside host.old).sent (text_of task kind (units_within task most input)))) }
-    ensures end { IfOk result (λ status. IsEnd status × IsAnswer task status) }
-    ensures unread { (input : List ℕ) → (H.outside host.old).input ≡ Some input → result ≡ Err Fault.Read
-        → (count : ℕ) × (count < most) × Answered task kind (H.outside host.old).sent input count (H.outside host.new) }
-    ensures moments { (input : List ℕ) → (H.outside host.old).input ≡ Some input
-        → Elapses (H.outside host.old) (H.outside host.new) (SendsPrefix (H.outside host.old).sent (text_of task kind (units_within task most input)) (H.outside host.old)) }
-    ensures prompt { (input : List ℕ) → (H.outside host.old).input ≡ Some input
-        → Prompt (text_for task kind) (H.outside host.old).sent input (H.outside host.old).asks (H.outside host.new).asks }
-    ensures bytes { ReadsAtMost most (H.outside host.old).input (H.outside host.new).input }
-    ensures keeps { OnlyExchanges (H.outside host.old) (H.outside host.new) }
-    ensures causes { Causes result (H.outside host.old) (H.outside host.new) }
-    ensures unkept { result ≢ Err Fault.Disk }
-    ensures unstarved { result ≢ Err Fault.Memory }
-{
-    let mut read = 0;
-    let mut open = true;
-    while open {
-        let room = buffer.len().min((most - read) as usize);
-        let count = exchange(&mut translator.writer.outbox, host, buffer, room)?;
-        translator.feed(task, kind, host, &buffer[..count])?;
-        open = goes_on(count, translator.writer.bad);
-        read += count as u64;
+    ghost input = { λ given. given.input };
+
+    ghost limit = { λ given. given.most };
+
+    ghost begin = { λ given. given.begin };
+
+    ghost text = { λ given read. text_for given.task given.kind read };
+
+    ghost whole = { λ given. whole_text given };
+
+    ghost end_of = { λ given. end_of given.task given.kind given.most given.input };
+
+    ghost may_end = { λ translation status. IsEnd status × IsAnswer translation.task status };
+
+    ghost reads = { λ translation given count waiting now. Translates given count waiting translation now };
+
+    ghost holds = { λ _ _ _ _. Unit {0} };
+
+    ghost ready = { λ translation _ more. translation.translator.writer.number + more < 2 ^ 42 };
+
+    ghost goes_on = { λ translation. not translation.translator.writer.bad };
+
+    ghost runs = { λ given _ old _ new. Elapses old new (SendsPrefix given.begin (whole_text given) old) };
+
+    ghost leaves = { λ given _ old _ new. Elapses old new (SendsPrefix given.begin (whole_text given) old) };
+
+    ghost starved = { λ _ _. ⊥ };
+
+    ghost does = { λ first old next new. Rests first next old new };
+
+    ghost fails = { ⊥ };
+
+    ghost starves = { ⊥ };
+
+    ghost expects = { λ _ _ _ _ _ translates. translates.reads.answers.pending_is };
+
+    ghost sent_on = { λ _ _ _ _ _ new translates _ sent. translates_sent new translates sent };
+
+    ghost held_on = { λ _ _ _ _ _ _ _ _. tt };
+
+    ghost ready_on = { λ _ _ _ _ _ ready. ready };
+
+    ghost ready_for_fewer = { λ translation _ fewer more le ready. fewer_left translation fewer more le ready };
+
+    ghost runs_sending = { λ _ _ _ _ _ _ translates run _. sends_longer _ translates.more _ translates.whole run };
+
+    ghost runs_on = { λ _ _ _ _ _ _ _ first second. sends_whole first second };
+
+    ghost leaves_on = { λ _ _ _ _ _ _ _ first second. sends_whole first second };
+
+    ghost leaves_so = { λ _ _ _ _ _ run. run };
+
+    ghost does_on = { λ _ _ _ _ _ _ first second. rests_on first second };
+
+    ghost does_exchange = { λ _ _ _ keeps. record { same = refl; keeps = keeps } };
+
+    ghost ends_on = { λ first next _ _ status does end. ends_before first next status does end };
+
+    fn goes_on(&self) -> bool {
+        !self.translator.writer.bad
     }
-    close_at(translator, task, kind, host, read < most)?;
-    let status = ending(translator, task, read, most);
-    translator.writer.outbox.flush(host)?;
-    Ok(status)
+
+    fn feed<H: Host>(
+        &mut self,
+        outbox: &mut Outbox,
+        host: &mut H,
+        piece: &[u8],
+    ) -> Result<(), Fault> {
+        self.translator
+            .feed(self.task, self.kind, outbox, host, piece)
+    }
+
+    fn finish<H: Host>(
+        &mut self,
+        outbox: &mut Outbox,
+        host: &mut H,
+        read: u64,
+        most: u64,
+    ) -> Result<Status, Fault> {
+        let (task, kind) = (self.task, self.kind);
+        close_at(&mut self.translator, task, kind, outbox, host, read < most)?;
+        let status = ending(&self.translator, task, read, most);
+        outbox.flush(host)?;
+        Ok(status)
+    }
 }
 
 /// What a command needs memory for: all of it is taken before the host is called.
 #[derive(Drop)]
 struct Room {
-    translator: Translator,
+    outbox: Outbox,
     buffer: Vec<u8>,
 }
 
 /// Takes the room of a command.
 fn take_room(alloc: Global) -> Result<Room, NoMemory>
-    ensures fresh { IfOk result (λ room. room.translator ≡ record { cutter = []; line = []; writer = record { outbox = []; number = 0; bad = false } }) }
+    ensures outbox { IfOk result (λ room. room.outbox ≡ []) }
     ensures buffer { IfOk result (λ room. length room.buffer.items ≡ 65536) }
 {
-    let outbox = Outbox::new(alloc)?;
     Ok(Room {
-        translator: Translator::new(outbox),
+        outbox: Outbox::new(alloc)?,
         buffer: vec![in alloc; 0; PIECE]?,
     })
 }
@@ -154,10 +203,14 @@ fn translate<H: Host>(alloc: Global, host: &mut H, task: Task, kind: Kind) -> St
     let Ok(mut room) = take_room(alloc) else {
         return Status::NoMemory;
     };
-    answer_of(translate_input(
-        &mut room.translator,
+    let mut translation = Translation {
         task,
         kind,
+        translator: Translator::new(),
+    };
+    answer_of(answer_input(
+        &mut translation,
+        &mut room.outbox,
         host,
         &mut room.buffer,
         BYTES_MAX,

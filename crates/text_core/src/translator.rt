@@ -22,8 +22,8 @@ use memchr::memchr;
 use stream_core::Outbox;
 use wire_in::Cutter;
 
-/// The frame that is begun, the first 256 bytes of the line that is begun, and what is answered: no longer line can be
-/// read.
+/// The frame that is begun, the first 256 bytes of the line that is begun, since no longer line can be read, and what is
+/// answered.
 #[derive(Drop)]
 pub struct Translator {
     pub cutter: Cutter,
@@ -46,7 +46,7 @@ fn whole_frame<'a>(cutter: &Cutter, piece: &'a [u8]) -> Option<&'a [u8]>
 }
 
 /// How long the line is that a newline ends first in a piece, without it.
-fn line_len(piece: &[u8]) -> Option<usize>
+pub fn line_len(piece: &[u8]) -> Option<usize>
     ensures within { IfSome result (λ n. n < length piece.now) }
     ensures line { IfSome result (λ n. IsOneLine (take n piece.now)) }
     ensures ended { IfSome result (λ n. take (n + 1) piece.now ≡ take n piece.now ++ 10 ∷ []) }
@@ -57,13 +57,13 @@ fn line_len(piece: &[u8]) -> Option<usize>
 
 impl Translator {
     /// Nothing was read yet.
-    pub fn new(outbox: Outbox) -> Translator
-        ensures { result ≡ record { cutter = []; line = []; writer = record { outbox = outbox; number = 0; bad = false } } }
+    pub fn new() -> Translator
+        ensures { result ≡ record { cutter = []; line = []; writer = record { number = 0; bad = false } } }
     {
         Translator {
             cutter: Cutter::new(),
             line: Line::new(),
-            writer: Writer::new(outbox),
+            writer: Writer::new(),
         }
     }
 
@@ -72,15 +72,16 @@ impl Translator {
     fn take_frame<H: Host>(
         &mut self,
         kind: Kind,
+        outbox: &mut Outbox,
         host: &mut H,
         piece: &[u8],
     ) -> Result<usize, Fault>
         requires open { self.old.writer.bad ≡ false }
         requires few { self.old.writer.number < 2 ^ 42 }
         requires some { 0 < length piece.now }
-        ensures reads { (begin : Option (List ℕ)) (read : List ℕ) → Reads tasks.Print kind begin read self.old (H.outside host.old).sent
-            → IfOk result (λ n. Reads tasks.Print kind begin (read ++ take n piece.now) self.new (H.outside host.new).sent) }
-        ensures moments { (begin : Option (List ℕ)) (read : List ℕ) → Reads tasks.Print kind begin read self.old (H.outside host.old).sent
+        ensures reads { (begin : Option (List ℕ)) (read : List ℕ) → Reads tasks.Print kind begin read self.old outbox.old (H.outside host.old).sent
+            → IfOk result (λ n. Reads tasks.Print kind begin (read ++ take n piece.now) self.new outbox.new (H.outside host.new).sent) }
+        ensures moments { (begin : Option (List ℕ)) (read : List ℕ) → Reads tasks.Print kind begin read self.old outbox.old (H.outside host.old).sent
             → Elapses (H.outside host.old) (H.outside host.new) (SendsPrefix begin (text_of tasks.Print kind (units_of tasks.Print read)) (H.outside host.old)) }
         ensures used { IfOk result (λ n. (0 < n) × (n ≤ length piece.now)) }
         ensures few { OnOk result (self.new.writer.number ≤ self.old.writer.number + 1) }
@@ -89,7 +90,7 @@ impl Translator {
         ensures fault { IfErr result (λ fault. fault ≡ Fault.Send) }
     {
         if let Some(body) = whole_frame(&self.cutter, piece) {
-            self.writer.answer(Task::Print, kind, host, body)?;
+            self.writer.answer(Task::Print, kind, outbox, host, body)?;
             return Ok(body.len() + 1);
         }
         let cut = self.cutter.take(piece);
@@ -97,18 +98,24 @@ impl Translator {
             return Ok(cut.used);
         }
         self.writer
-            .answer(Task::Print, kind, host, self.cutter.body())?;
+            .answer(Task::Print, kind, outbox, host, self.cutter.body())?;
         Ok(cut.used)
     }
 
     /// Packs the line that a newline ends, whose last bytes are these.
-    fn end_line<H: Host>(&mut self, kind: Kind, host: &mut H, last: &[u8]) -> Result<(), Fault>
+    fn end_line<H: Host>(
+        &mut self,
+        kind: Kind,
+        outbox: &mut Outbox,
+        host: &mut H,
+        last: &[u8],
+    ) -> Result<(), Fault>
         requires open { self.old.writer.bad ≡ false }
         requires few { self.old.writer.number < 2 ^ 42 }
         requires line { IsOneLine last.now }
-        ensures reads { (begin : Option (List ℕ)) (read : List ℕ) → Reads tasks.Pack kind begin read self.old (H.outside host.old).sent
-            → OnOk result (Reads tasks.Pack kind begin (read ++ last.now ++ 10 ∷ []) self.new (H.outside host.new).sent) }
-        ensures moments { (begin : Option (List ℕ)) (read : List ℕ) → Reads tasks.Pack kind begin read self.old (H.outside host.old).sent
+        ensures reads { (begin : Option (List ℕ)) (read : List ℕ) → Reads tasks.Pack kind begin read self.old outbox.old (H.outside host.old).sent
+            → OnOk result (Reads tasks.Pack kind begin (read ++ last.now ++ 10 ∷ []) self.new outbox.new (H.outside host.new).sent) }
+        ensures moments { (begin : Option (List ℕ)) (read : List ℕ) → Reads tasks.Pack kind begin read self.old outbox.old (H.outside host.old).sent
             → Elapses (H.outside host.old) (H.outside host.new) (SendsPrefix begin (text_of tasks.Pack kind (units_of tasks.Pack read)) (H.outside host.old)) }
         ensures few { OnOk result (self.new.writer.number ≤ self.old.writer.number + 1) }
         ensures keeps { OnlySends (H.outside host.old) (H.outside host.new) }
@@ -116,24 +123,30 @@ impl Translator {
         ensures fault { IfErr result (λ fault. fault ≡ Fault.Send) }
     {
         if self.line.is_empty() {
-            return self.writer.answer(Task::Pack, kind, host, last);
+            return self.writer.answer(Task::Pack, kind, outbox, host, last);
         }
         self.line.keep(last);
         self.writer
-            .answer(Task::Pack, kind, host, self.line.as_slice())?;
+            .answer(Task::Pack, kind, outbox, host, self.line.as_slice())?;
         self.line.clear();
         Ok(())
     }
 
     /// Takes bytes up to the end of a line or of the piece, and packs the line if it is whole. Answers how many bytes it
     /// took. A line that lies whole in the piece is packed where it lies.
-    fn take_line<H: Host>(&mut self, kind: Kind, host: &mut H, piece: &[u8]) -> Result<usize, Fault>
+    fn take_line<H: Host>(
+        &mut self,
+        kind: Kind,
+        outbox: &mut Outbox,
+        host: &mut H,
+        piece: &[u8],
+    ) -> Result<usize, Fault>
         requires open { self.old.writer.bad ≡ false }
         requires few { self.old.writer.number < 2 ^ 42 }
         requires some { 0 < length piece.now }
-        ensures reads { (begin : Option (List ℕ)) (read : List ℕ) → Reads tasks.Pack kind begin read self.old (H.outside host.old).sent
-            → IfOk result (λ n. Reads tasks.Pack kind begin (read ++ take n piece.now) self.new (H.outside host.new).sent) }
-        ensures moments { (begin : Option (List ℕ)) (read : List ℕ) → Reads tasks.Pack kind begin read self.old (H.outside host.old).sent
+        ensures reads { (begin : Option (List ℕ)) (read : List ℕ) → Reads tasks.Pack kind begin read self.old outbox.old (H.outside host.old).sent
+            → IfOk result (λ n. Reads tasks.Pack kind begin (read ++ take n piece.now) self.new outbox.new (H.outside host.new).sent) }
+        ensures moments { (begin : Option (List ℕ)) (read : List ℕ) → Reads tasks.Pack kind begin read self.old outbox.old (H.outside host.old).sent
             → Elapses (H.outside host.old) (H.outside host.new) (SendsPrefix begin (text_of tasks.Pack kind (units_of tasks.Pack read)) (H.outside host.old)) }
         ensures used { IfOk result (λ n. (0 < n) × (n ≤ length piece.now)) }
         ensures few { OnOk result (self.new.writer.number ≤ self.old.writer.number + 1) }
@@ -145,7 +158,7 @@ impl Translator {
             self.line.keep(piece);
             return Ok(piece.len());
         };
-        self.end_line(kind, host, &piece[..len])?;
+        self.end_line(kind, outbox, host, &piece[..len])?;
         Ok(len + 1)
     }
 
@@ -154,15 +167,16 @@ impl Translator {
         &mut self,
         task: Task,
         kind: Kind,
+        outbox: &mut Outbox,
         host: &mut H,
         piece: &[u8],
     ) -> Result<usize, Fault>
         requires open { self.old.writer.bad ≡ false }
         requires few { self.old.writer.number < 2 ^ 42 }
         requires some { 0 < length piece.now }
-        ensures reads { (begin : Option (List ℕ)) (read : List ℕ) → Reads task kind begin read self.old (H.outside host.old).sent
-            → IfOk result (λ n. Reads task kind begin (read ++ take n piece.now) self.new (H.outside host.new).sent) }
-        ensures moments { (begin : Option (List ℕ)) (read : List ℕ) → Reads task kind begin read self.old (H.outside host.old).sent
+        ensures reads { (begin : Option (List ℕ)) (read : List ℕ) → Reads task kind begin read self.old outbox.old (H.outside host.old).sent
+            → IfOk result (λ n. Reads task kind begin (read ++ take n piece.now) self.new outbox.new (H.outside host.new).sent) }
+        ensures moments { (begin : Option (List ℕ)) (read : List ℕ) → Reads task kind begin read self.old outbox.old (H.outside host.old).sent
             → Elapses (H.outside host.old) (H.outside host.new) (SendsPrefix begin (text_of task kind (units_of task read)) (H.outside host.old)) }
         ensures used { IfOk result (λ n. (0 < n) × (n ≤ length piece.now)) }
         ensures few { OnOk result (self.new.writer.number ≤ self.old.writer.number + 1) }
@@ -171,8 +185,8 @@ impl Translator {
         ensures fault { IfErr result (λ fault. fault ≡ Fault.Send) }
     {
         match task {
-            Task::Print => self.take_frame(kind, host, piece),
-            Task::Pack => self.take_line(kind, host, piece),
+            Task::Print => self.take_frame(kind, outbox, host, piece),
+            Task::Pack => self.take_line(kind, outbox, host, piece),
         }
     }
 
@@ -181,14 +195,15 @@ impl Translator {
         &mut self,
         task: Task,
         kind: Kind,
+        outbox: &mut Outbox,
         host: &mut H,
         piece: &[u8],
     ) -> Result<(), Fault>
         requires open { self.old.writer.bad ≡ false }
         requires few { self.old.writer.number + length piece.now < 2 ^ 42 }
-        ensures reads { (begin : Option (List ℕ)) (read : List ℕ) → Reads task kind begin read self.old (H.outside host.old).sent
-            → OnOk result (Reads task kind begin (read ++ piece.now) self.new (H.outside host.new).sent) }
-        ensures moments { (begin : Option (List ℕ)) (read : List ℕ) → Reads task kind begin read self.old (H.outside host.old).sent
+        ensures reads { (begin : Option (List ℕ)) (read : List ℕ) → Reads task kind begin read self.old outbox.old (H.outside host.old).sent
+            → OnOk result (Reads task kind begin (read ++ piece.now) self.new outbox.new (H.outside host.new).sent) }
+        ensures moments { (begin : Option (List ℕ)) (read : List ℕ) → Reads task kind begin read self.old outbox.old (H.outside host.old).sent
             → Elapses (H.outside host.old) (H.outside host.new) (SendsPrefix begin (text_of task kind (units_of task (read ++ piece.now))) (H.outside host.old)) }
         ensures few { OnOk result (self.new.writer.number ≤ self.old.writer.number + length piece.now) }
         ensures keeps { OnlySends (H.outside host.old) (H.outside host.new) }
@@ -197,18 +212,23 @@ impl Translator {
     {
         let mut at = 0;
         while at < piece.len() && !self.writer.bad {
-            at += self.advance(task, kind, host, &piece[at..])?;
+            at += self.advance(task, kind, outbox, host, &piece[at..])?;
         }
         Ok(())
     }
 
     /// Packs the last line of a text, which has no newline, if there is one.
-    fn close_line<H: Host>(&mut self, kind: Kind, host: &mut H) -> Result<(), Fault>
+    fn close_line<H: Host>(
+        &mut self,
+        kind: Kind,
+        outbox: &mut Outbox,
+        host: &mut H,
+    ) -> Result<(), Fault>
         requires open { self.old.writer.bad ≡ false }
         requires few { self.old.writer.number < 2 ^ 42 }
-        ensures answers { (begin : Option (List ℕ)) (read : List ℕ) → Reads tasks.Pack kind begin read self.old (H.outside host.old).sent
-            → OnOk result (Answers tasks.Pack kind begin (units_of tasks.Pack read ++ last_unit tasks.Pack (streams.rest_of tasks.Pack read)) self.new.writer (H.outside host.new).sent) }
-        ensures moments { (begin : Option (List ℕ)) (read : List ℕ) → Reads tasks.Pack kind begin read self.old (H.outside host.old).sent
+        ensures answers { (begin : Option (List ℕ)) (read : List ℕ) → Reads tasks.Pack kind begin read self.old outbox.old (H.outside host.old).sent
+            → OnOk result (Answers tasks.Pack kind begin (units_of tasks.Pack read ++ last_unit tasks.Pack (streams.rest_of tasks.Pack read)) self.new.writer outbox.new (H.outside host.new).sent) }
+        ensures moments { (begin : Option (List ℕ)) (read : List ℕ) → Reads tasks.Pack kind begin read self.old outbox.old (H.outside host.old).sent
             → Elapses (H.outside host.old) (H.outside host.new) (SendsPrefix begin (text_of tasks.Pack kind (units_of tasks.Pack read)) (H.outside host.old)) }
         ensures cutter { self.new.cutter ≡ self.old.cutter }
         ensures few { OnOk result (self.new.writer.number ≤ self.old.writer.number + 1) }
@@ -220,16 +240,22 @@ impl Translator {
             return Ok(());
         }
         self.writer
-            .answer(Task::Pack, kind, host, self.line.as_slice())
+            .answer(Task::Pack, kind, outbox, host, self.line.as_slice())
     }
 
     /// Answers the last line of a text, which has no newline, if there is one.
-    pub fn close<H: Host>(&mut self, task: Task, kind: Kind, host: &mut H) -> Result<(), Fault>
+    pub fn close<H: Host>(
+        &mut self,
+        task: Task,
+        kind: Kind,
+        outbox: &mut Outbox,
+        host: &mut H,
+    ) -> Result<(), Fault>
         requires open { self.old.writer.bad ≡ false }
         requires few { self.old.writer.number < 2 ^ 42 }
-        ensures answers { (begin : Option (List ℕ)) (read : List ℕ) → Reads task kind begin read self.old (H.outside host.old).sent
-            → OnOk result (Answers task kind begin (units_of task read ++ last_unit task (streams.rest_of task read)) self.new.writer (H.outside host.new).sent) }
-        ensures moments { (begin : Option (List ℕ)) (read : List ℕ) → Reads task kind begin read self.old (H.outside host.old).sent
+        ensures answers { (begin : Option (List ℕ)) (read : List ℕ) → Reads task kind begin read self.old outbox.old (H.outside host.old).sent
+            → OnOk result (Answers task kind begin (units_of task read ++ last_unit task (streams.rest_of task read)) self.new.writer outbox.new (H.outside host.new).sent) }
+        ensures moments { (begin : Option (List ℕ)) (read : List ℕ) → Reads task kind begin read self.old outbox.old (H.outside host.old).sent
             → Elapses (H.outside host.old) (H.outside host.new) (SendsPrefix begin (text_of task kind (units_of task read)) (H.outside host.old)) }
         ensures cutter { self.new.cutter ≡ self.old.cutter }
         ensures few { OnOk result (self.new.writer.number ≤ self.old.writer.number + 1) }
@@ -239,7 +265,7 @@ impl Translator {
     {
         match task {
             Task::Print => Ok(()),
-            Task::Pack => self.close_line(kind, host),
+            Task::Pack => self.close_line(kind, outbox, host),
         }
     }
 }

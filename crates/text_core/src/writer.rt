@@ -16,21 +16,19 @@ use crate::task::Task;
 use host_core::{Fault, Host};
 use stream_core::Outbox;
 
-/// What waits to be sent, how many units were answered, and whether the one behind them was bad.
+/// How many units were answered, and whether the one behind them was bad.
 #[derive(Drop)]
 pub struct Writer {
-    pub outbox: Outbox,
     pub number: u64,
     pub bad: bool,
 }
 
 impl Writer {
     /// Nothing was answered yet.
-    pub fn new(outbox: Outbox) -> Writer
-        ensures { result ≡ record { outbox = outbox; number = 0; bad = false } }
+    pub fn new() -> Writer
+        ensures { result ≡ record { number = 0; bad = false } }
     {
         Writer {
-            outbox,
             number: 0,
             bad: false,
         }
@@ -41,15 +39,16 @@ impl Writer {
         &mut self,
         task: Task,
         kind: Kind,
+        outbox: &mut Outbox,
         host: &mut H,
         unit: &[u8],
     ) -> Result<(), Fault>
         requires open { self.old.bad ≡ false }
         requires few { self.old.number < 2 ^ 42 }
         requires short { task ≡ tasks.Print → length unit.now ≤ 255 }
-        ensures answers { (begin : Option (List ℕ)) (units : List (List ℕ)) → Answers task kind begin units self.old (H.outside host.old).sent
-            → OnOk result (Answers task kind begin (units ++ unit.now ∷ []) self.new (H.outside host.new).sent) }
-        ensures moments { (begin : Option (List ℕ)) (units : List (List ℕ)) → Answers task kind begin units self.old (H.outside host.old).sent
+        ensures answers { (begin : Option (List ℕ)) (units : List (List ℕ)) → Answers task kind begin units self.old outbox.old (H.outside host.old).sent
+            → OnOk result (Answers task kind begin (units ++ unit.now ∷ []) self.new outbox.new (H.outside host.new).sent) }
+        ensures moments { (begin : Option (List ℕ)) (units : List (List ℕ)) → Answers task kind begin units self.old outbox.old (H.outside host.old).sent
             → Elapses (H.outside host.old) (H.outside host.new) (SendsPrefix begin (text_of task kind units) (H.outside host.old)) }
         ensures few { OnOk result (self.new.number ≤ self.old.number + 1) }
         ensures keeps { OnlySends (H.outside host.old) (H.outside host.new) }
@@ -61,7 +60,7 @@ impl Writer {
             self.bad = true;
             return Ok(());
         }
-        self.outbox.append_bytes(host, output.as_slice())?;
+        outbox.append_bytes(host, output.as_slice())?;
         self.number += 1;
         Ok(())
     }

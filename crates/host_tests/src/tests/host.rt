@@ -20,6 +20,8 @@ fn each_status_has_its_code(rt: HostRuntime) {
         (Status::NoJournal, 9),
         (Status::NoMemory, 10),
         (Status::BadText { line: 3 }, 11),
+        (Status::NotAtDay, 12),
+        (Status::Breach { place: 5, law: 3 }, 13),
     ] {
         assert!(rt; status.code() == want, "of {status:?}");
     }

@@ -8,4 +8,4 @@ returns-in-Print-clause-moments g c = λ begin read reads. sends_none (g.H.Host.
 
 pub returns-in-Pack-clause-moments : goal.returns-in-Pack-clause-moments
 returns-in-Pack-clause-moments g c =
-    subst (Moves c.args.kind c.args.self.now (g.H.Host.outside c.args.host.now) (g.H.Host.outside c.close_line.new.host)) (sym c.in-Pack.is) c.close_line.ensures.moments
+    subst (Moves c.args.kind c.args.self.now c.args.outbox.now (g.H.Host.outside c.args.host.now) (g.H.Host.outside c.close_line.new.host)) (sym c.in-Pack.is) c.close_line.ensures.moments
