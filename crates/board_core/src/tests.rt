@@ -1,10 +1,10 @@
-//! Tests of a board: two readers beside a writer, and each call once.
+//! Tests of a board: two readers beside a writer, as many readers and symbols as a board may have, and each call once.
 
-ghost use Rattle.std.specs.Prelude.{◌≡◌, ℕ, ◌+◌, ◌*◌, ◌<◌, ◌≤◌, ◌∷◌, [], All};
+ghost use Rattle.std.specs.Prelude.{◌≡◌, ℕ, ◌+◌, ◌*◌, ◌<◌, ◌≤◌, ◌∷◌, [], All, vec_capacity, vec_len};
 ghost use Rattle.wire_out.specs.declared.message.Message.TheVariants as messages;
 ghost use Rattle.price_core.specs.declared.quote.Cause.TheVariants as causes;
 ghost use Rattle.board_core.specs.Entries.{VersionsAtMost};
-ghost use Rattle.board_core.specs.Seats.{entries_of, symbols_of, IsWriterOf, IsReaderOf};
+ghost use Rattle.board_core.specs.Seats.{entries_of, symbols_of, IsFresh, IsWriterOf, IsReaderOf};
 
 use crate::board::{Board, ReaderSeat, WriterSeat};
 use crate::shown::{Edge, Shown};
@@ -246,4 +246,56 @@ fn publish_day(board: &Board, writer: &mut WriterSeat)
             price: Price::of(480_000),
         },
     );
+}
+
+/// The last symbol of a board of 16,384.
+const LAST: u16 = 16_383;
+
+/// Publishes that the last symbol trades.
+fn publish_last(board: &Board, writer: &mut WriterSeat)
+    requires writer { IsWriterOf board.now writer.old × (entries_of writer.old ≡ []) }
+    requires symbols { 16383 < symbols_of board.now }
+    ensures { IsWriterOf board.now writer.new }
+{
+    board.publish(
+        writer,
+        &Message::State {
+            symbol: LAST,
+            phase: Phase::Trading,
+        },
+    );
+}
+
+/// Each reader asks for the last symbol. Answers how many are shown that it trades, and the readers.
+fn ask_each(
+    board: &Board,
+    mut seats: Vec<ReaderSeat>,
+    mut asked: Vec<ReaderSeat>,
+) -> (u32, Vec<ReaderSeat>)
+    requires seats { All (IsFresh board.now) seats.items }
+    requires asked { asked.items ≡ [] }
+    requires room { vec_len seats ≤ vec_capacity asked }
+    requires symbols { 16383 < symbols_of board.now }
+    ensures { All (IsReaderOf board.now) result.1.items }
+{
+    let mut trading: u32 = 0;
+    while let Some(mut seat) = seats.pop() {
+        let found = board.state(&mut seat, u32::from(LAST));
+        trading = trading.saturating_add(u32::from(found == shown(1, Phase::Trading, false)));
+        asked.push_reserved(seat);
+    }
+    (trading, asked)
+}
+
+#[test]
+fn each_of_64_readers_is_shown_the_last_of_16384_symbols(rt: HostRuntime) -> Result<(), Fail> {
+    let asked = Vec::with_capacity(rt.alloc(), 64)?;
+    let Ok((board, mut writer, seats)) = Board::new(rt.alloc(), 16_384, 64) else {
+        panic!(rt; "there is no memory")
+    };
+    publish_last(&board, &mut writer);
+    let (trading, asked) = ask_each(&board, seats, asked);
+    board.close(writer, asked);
+    assert!(rt; trading == 64);
+    Ok(())
 }

@@ -1,2 +1,5 @@
 pub mod Rows
 pub mod Readers
+pub mod Listed
+pub mod Tallies
+pub mod Words

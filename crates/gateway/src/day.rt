@@ -134,7 +134,7 @@ pub fn run_day<R: Threads + Sync>(
 ) -> Result<Day, NoMemory>
     requires stocks { stocks ≤ 16384 }
     requires messages { All (CanPublish 16384) messages.now × (length messages.now < 2 ^ 34 - 1) }
-    // No version that a reader asked for was lower than the one before.
+    // Neither reader counted a version that fell.
     ensures fallen { IfOk result (λ day. (day.first.fallen ≡ 0) × (day.second.fallen ≡ 0)) }
     ensures count { IfOk result (λ day. vec_len day.rows ≡ stocks) }
     // Each row is what the messages made last of its stock.

@@ -2,6 +2,7 @@
 
 ghost use Rattle.std.specs.Prelude.{◌≡◌, ◌<◌, ◌≤◌, IfOk};
 ghost use Rattle.board_core.specs.Seats.{symbols_of, IsFresh};
+ghost use Rattle.gateway.specs.Tallies.{counted};
 
 use board_core::{Board, ReaderSeat};
 use price_core::{NoMemory, Side};
@@ -34,7 +35,7 @@ pub struct Reader {
 
 /// Counts an answer of that version behind one of the other.
 fn count(tally: &mut Tally, before: u64, version: u64)
-    ensures { before ≤ version → tally.new.fallen ≡ tally.old.fallen }
+    ensures { tally.new ≡ counted before version tally.old }
 {
     tally.answers = tally.answers.saturating_add(1);
     if version != before {

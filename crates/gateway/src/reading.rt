@@ -1,6 +1,7 @@
 //! Published frames, read into the messages of a day.
 
-ghost use Rattle.std.specs.Prelude.{◌≡◌, ◌+◌, ◌%◌, ◌^◌, ◌≤◌, IsTrue, All, IfOk, OnOk, vec_len};
+ghost use Rattle.std.specs.Prelude.{◌≡◌, ◌↔◌, ◌+◌, ◌%◌, ◌^◌, ◌≤◌, IsTrue, All, IfOk, OnOk, max, vec_len};
+ghost use Rattle.gateway.specs.Listed.{above_listed, stocks_listed};
 ghost use Rattle.gateway.specs.Rows.{CanPublish};
 
 use crate::error::GatewayError;
@@ -16,14 +17,14 @@ const MESSAGES: usize = 1 << 33;
 
 /// Whether a price is a whole number of cents.
 fn is_whole(price: Price) -> bool
-    ensures { IsTrue result → price % 100 ≡ 0 }
+    ensures { IsTrue result ↔ (price % 100 ≡ 0) }
 {
     price.units() % 100 == 0
 }
 
 /// Whether a board may publish a message: its stock has a place there, and its bands are of whole cents.
 fn can_publish(message: &Message) -> bool
-    ensures { IsTrue result → CanPublish 16384 message.now }
+    ensures { IsTrue result ↔ CanPublish 16384 message.now }
 {
     match *message {
         Message::Band {
@@ -76,15 +77,30 @@ pub fn read_messages(alloc: Global, bytes: &[u8]) -> Result<Vec<Message>, Gatewa
     Ok(messages)
 }
 
-/// How many stocks the messages list, at most as many as a board may have.
+/// One above the id that a message lists, 0 where it lists none.
+fn above_listed(message: &Message) -> u32
+    ensures { result ≡ above_listed message.now }
+{
+    match *message {
+        Message::Listed { symbol, .. } => u32::from(symbol) + 1,
+        _ => 0,
+    }
+}
+
+/// The greater of a number and of one above the id that a message lists.
+fn with_listed(stocks: u32, message: &Message) -> u32
+    ensures { result ≡ max stocks (above_listed message.now) }
+{
+    stocks.max(above_listed(message))
+}
+
+/// One above the greatest id that the messages list, 0 where they list none.
 pub fn stocks_of(messages: &[Message]) -> u32
-    ensures { result ≤ 16384 }
+    ensures { result ≡ stocks_listed messages.now }
 {
     let mut stocks = 0;
     for message in messages {
-        if let Message::Listed { symbol, .. } = *message {
-            stocks = stocks.max((u32::from(symbol) + 1).min(STOCKS));
-        }
+        stocks = with_listed(stocks, message);
     }
     stocks
 }

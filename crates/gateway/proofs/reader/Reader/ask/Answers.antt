@@ -5,6 +5,7 @@ use Rattle.board_core.specs.declared.entry.Entry.TheVariants.{Band}
 use Rattle.board_core.specs.Seats.{answers_of}
 use Rattle.gateway.specs.declared.reader.Seen.{Seen}
 use Rattle.gateway.specs.Readers.{IsVersionSeen, AreSeen}
+use Rattle.gateway.proofs.Listings.{not_fallen}
 use Rattle.gateway.proofs.Watching.{still_version, not_lower, both_seen, all_seen, there}
 use Rattle.gateway.proofs.reader.Reader.ask.Goals as goal
 
@@ -29,6 +30,7 @@ returns-clause-reader c =
       stocks = r.stocks;
       count = r.count;
       seen = subst (λ es. AreSeen es (set seen k x)) (sym answers) (all_seen (d ∷ b ∷ []) old seen k x r.seen (both_seen old k c.edge-low.result c.edge-high.result x refl refl));
-      fallen = c.count-2.ensures high ∙ (c.count.ensures low ∙ r.fallen);
+      fallen = not_fallen before.high c.edge-high.result.version c.count.new.tally c.count-2.new.tally c.count-2.ensures high
+          ∙ (not_fallen before.low c.edge-low.result.version c.args.self.now.tally c.count.new.tally c.count.ensures low ∙ r.fallen);
       notes = c.edge-high.ensures.notes ∙ (c.edge-low.ensures.notes ∙ r.notes);
     }

@@ -1,0 +1,5 @@
+pub mod Rows
+pub mod Screened
+pub mod InternalRows
+pub mod InternalDesk
+pub mod InternalScreens
