@@ -1,0 +1,9 @@
+pub mod Listed
+pub mod Readings
+pub mod Ending
+pub mod Appending
+pub mod Crossing
+pub mod Texting
+pub mod Streaming
+pub mod Found
+pub mod Quiet

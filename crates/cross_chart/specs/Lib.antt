@@ -1,0 +1,10 @@
+pub mod Words
+pub mod Lines
+pub mod InternalReading
+pub mod Sketches
+pub mod Reads
+pub mod Axes
+pub mod Curves
+pub mod Pictures
+pub mod Told
+pub mod Runs
