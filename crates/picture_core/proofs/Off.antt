@@ -83,7 +83,7 @@ bar_off k left right words lane from to =
     let p : Place = record { left = left; right = right; heights = in_lane k } in
     one (is_off lane from to) (bar_label p words)
     (off_bar (bar_label p words) lane from to
-    (stands_either (nat_le left 5000) (lane_label Plain left p words) (lane_label Before right p words) (inr (k, omega arith)) (inr (k, omega arith))))
+    (stands_either (nat_le left 5000) (lane_label Plain (left + 10) p words) (lane_label Before right p words) (inr (k, omega arith)) (inr (k, omega arith))))
 
 -- a label that high is off each bar
 over : (l : Label) (lane from to : ℕ) → l.y ≤ 2980 → is_off lane from to l ≡ true
@@ -109,8 +109,8 @@ collar_off : (axis : Axis) (left right round lower upper : ℕ) (lane from to : 
     ≡ true
 unfolding collar_labels
 collar_off axis left right round lower upper lane from to =
-    let top = label Plain left (y_of axis upper - 20) (round_text round) [] in
-    let bottom = label Plain left (y_of axis lower + 70) (round_text round) [] in
+    let top = label Plain (left + 10) (y_of axis upper - 20) (round_text round) [] in
+    let bottom = label Plain (left + 10) (y_of axis lower + 70) (round_text round) [] in
     let a = y_within axis upper in let c = y_within axis lower in
     two (is_off lane from to) top bottom (over top lane from to (omega arith)) (over bottom lane from to (omega arith))
 

@@ -101,7 +101,7 @@ round_text round = codes "r" ⊕ decimal round
 -- over the upper line and below the lower one
 unfoldable pub collar_labels : Place → ℕ → List Label
 collar_labels p round =
-    label Plain p.left (p.heights.top - 20) (round_text round) [] ∷ label Plain p.left (p.heights.bottom + 70) (round_text round) [] ∷ []
+    label Plain (p.left + 10) (p.heights.top - 20) (round_text round) [] ∷ label Plain (p.left + 10) (p.heights.bottom + 70) (round_text round) [] ∷ []
 
 -- a reopening price as a point in a circle
 unfoldable pub release_mark : Place → List ℕ
@@ -135,7 +135,7 @@ lane_label style x p words = label style x (p.heights.bottom + 44) words (codes 
 
 -- a bar's words begin where it begins, and on the right of the picture they end where it ends
 unfoldable pub bar_label : Place → List ℕ → Label
-bar_label p words = if nat_le p.left 5000 then lane_label Plain p.left p words else lane_label Before p.right p words
+bar_label p words = if nat_le p.left 5000 then lane_label Plain (p.left + 10) p words else lane_label Before p.right p words
 
 -- the one label of a bar
 abbrev pub bar_labels : Place → ℕ → List ℕ → List Label

@@ -190,7 +190,7 @@ fn collar_labels(
     ensures text { IfOk result (λ text. string_bytes text ≡ drawn_labels rooms.old (collar_labels place.now round)) }
     ensures taken { OnOk result (rooms.new ≡ with_labels rooms.old (collar_labels place.now round)) }
 {
-    let x = place.left;
+    let x = place.left + 10;
     let above = place.heights.top.saturating_sub(20);
     let below = place.heights.bottom + 70;
     let words = format!(in alloc; "r{round}")?;
@@ -311,7 +311,7 @@ fn bar_label(
     ensures taken { OnOk result (rooms.new ≡ with_label rooms.old (bar_label place.now words.now)) }
 {
     if place.left <= 5000 {
-        lane_label(alloc, rooms, Style::Plain, place.left, place, words)
+        lane_label(alloc, rooms, Style::Plain, place.left + 10, place, words)
     } else {
         lane_label(alloc, rooms, Style::Before, place.right, place, words)
     }
