@@ -13,13 +13,16 @@ use Rattle.rehearse_core.specs.Rehearsed.{Rehearsed}
 use Rattle.live_core.specs.Served.{Served}
 use Rattle.replay_core.specs.Replayed.{Replayed}
 use Rattle.text_core.specs.Translated.{Printed, Packed}
+use Rattle.screen_core.specs.Screened.{Screened}
+use Rattle.auction_core.specs.Crossed.{HasCrossed}
+use Rattle.audit_core.specs.Audited.{Audited}
 use Rattle.words_core.specs.Asked.{Reads}
 use Rattle.words_core.specs.declared.asked.Asked.{Asked}
 use Rattle.words_core.specs.declared.asked.Asked.TheVariants as asked
 use Rattle.words_core.specs.declared.asked.WordsError.{WordsError}
 use Rattle.words_core.specs.declared.asked.WordsError.TheVariants as errors
 use Rattle.words_core.specs.declared.command.Command.{Command}
-use Rattle.words_core.specs.declared.command.Command.TheVariants.{Format, Serve, Replay, Status, Print, Pack, Generate}
+use Rattle.words_core.specs.declared.command.Command.TheVariants.{Format, Serve, Replay, Status, Print, Pack, Generate, Board, Cross, Audit}
 
 -- a generated day was sent, or its summary
 abbrev pub Generates : DayPlan → Bool → status.Status → Outside → Outside → Type 0
@@ -35,6 +38,9 @@ Ran unbegun Status status old new = Reported unbegun status old new
 Ran unbegun (Print kind) status old new = Printed unbegun kind status old new
 Ran unbegun (Pack kind) status old new = Packed unbegun kind status old new
 Ran unbegun (Generate seed symbols records workers summary) status old new = Generates (record { seed = seed; symbols = symbols; records = records }) summary status old new
+Ran unbegun (Board bytes) status old new = Screened unbegun bytes status old new
+Ran unbegun Cross status old new = HasCrossed status old new
+Ran unbegun Audit status old new = Audited status old new
 
 -- a text was sent, or the first of its bytes, and nothing else was done
 pub record Shown (text : List ℕ) (status : status.Status) (old new : Outside) : Type 0 where

@@ -11,6 +11,8 @@ ghost use Rattle.words_core.specs.Plain.{command_of};
 ghost use Rattle.gen_core.specs.Generated.{IsPlan};
 ghost use Rattle.command_core.specs.Runs.{Ran, Generates, Shown, Did, Obeyed};
 
+use auction_core::cross_stream;
+use audit_core::audit_stream;
 use gen_core::{DayPlan, send_day};
 use host_core::{Host, Status, send_all};
 use journal_core::format;
@@ -18,6 +20,7 @@ use live_core::{ServeOptions, serve};
 use rehearse_core::rehearse;
 use replay_core::{ReplayOptions, replay};
 use report_core::report;
+use screen_core::board_stream;
 use std::alloc::Global;
 use std::thread::Threads;
 use text_core::{pack_stream, print_stream};
@@ -106,6 +109,9 @@ fn obey<Rt: Threads + Sync, H: Host, G: Gate>(
             };
             generate(rt, alloc, host, gate, &plan, workers, summary)
         }
+        Command::Board { bytes } => board_stream(alloc, host, bytes),
+        Command::Cross => cross_stream(alloc, host),
+        Command::Audit => audit_stream(alloc, host),
     }
 }
 

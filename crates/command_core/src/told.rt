@@ -6,7 +6,7 @@ ghost use Rattle.std.specs.Process.{exit_status};
 ghost use Rattle.host_core.specs.Outside.{raised};
 ghost use Rattle.host_core.specs.Statuses.{code_of};
 ghost use Rattle.host_core.specs.Streams.{AppendsPart, words_of};
-ghost use Rattle.command_core.specs.Told.{line_of, told_of};
+ghost use Rattle.command_core.specs.Told.{broken_law, line_of, told_of};
 
 use host_core::{Sink, Status, StatusLine, tell_line};
 use std::io;
@@ -21,6 +21,22 @@ pub struct Ending {
     pub told: io::Result<()>,
 }
 
+/// What is told of a law of that number, up to the frame that breaks it.
+fn broken_law(law: u8) -> &'static str
+    ensures { result.now ≡ broken_law law }
+{
+    match law {
+        1 => "halts: law 1 is broken at frame ",
+        2 => "halts: law 2 is broken at frame ",
+        3 => "halts: law 3 is broken at frame ",
+        4 => "halts: law 4 is broken at frame ",
+        5 => "halts: law 5 is broken at frame ",
+        6 => "halts: law 6 is broken at frame ",
+        7 => "halts: law 7 is broken at frame ",
+        _ => "halts: a law is broken at frame ",
+    }
+}
+
 /// The line that tells of a status; none where all went well.
 pub fn status_line(status: Status) -> Option<StatusLine>
     ensures { option_map words_of result ≡ line_of status }
@@ -28,7 +44,7 @@ pub fn status_line(status: Status) -> Option<StatusLine>
     match status {
         Status::Done => None,
         Status::Usage => Some(StatusLine::plain(
-            "halts: usage: halts <journal> format|serve|replay|status|print|pack|generate",
+            "halts: usage: halts <journal> format|serve|replay|status|print|pack|generate|board|cross|audit",
         )),
         Status::Truncated => Some(StatusLine::plain("halts: the input ends inside a frame")),
         Status::ReadFault => Some(StatusLine::plain("halts: the input could not be read")),
@@ -50,6 +66,12 @@ pub fn status_line(status: Status) -> Option<StatusLine>
             before: "halts: line ",
             number: Some(line),
             after: " is not understood",
+        }),
+        Status::NotAtDay => Some(StatusLine::plain("halts: the last record is not a day")),
+        Status::Breach { place, law } => Some(StatusLine {
+            before: broken_law(law),
+            number: Some(place),
+            after: "",
         }),
     }
 }

@@ -1,5 +1,6 @@
 //! The whole program: words, an input and a disk in memory, and what is sent.
 
+mod audits;
 mod batches;
 mod bytes;
 mod ends;

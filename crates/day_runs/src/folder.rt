@@ -2,8 +2,9 @@
 
 use crate::day::Day;
 use crate::stated;
-use crate::text::{DayError, first_difference};
-use crate::way::{Outcome, Way};
+use crate::tally::{tell_difference, tell_tally};
+use crate::text::DayError;
+use crate::way::{Outcome, Way, is_one_day};
 use std::alloc::Global;
 use std::rt::Files;
 use std::thread::Threads;
@@ -30,16 +31,20 @@ fn read<Rt: Files + AllocGlobal>(rt: &Rt, name: &str) -> Result<Day, DayError> {
     Day::of(alloc, &lines, fs::read_to_string(rt, served.as_str())?)
 }
 
-/// Tells of the first line in which a way sends something else than is stated. Answers whether there is none.
-fn compare<Rt: Print>(rt: &Rt, name: &str, way: Way, outcome: &Outcome) -> io::Result<bool> {
-    if let Some(found) = first_difference(&outcome.stated, &outcome.sent) {
-        println!(rt; "{name}: {way}: line {}", found.line)?;
-        println!(rt; "  stated: {}", found.stated.unwrap_or("nothing"))?;
-        println!(rt; "  sent:   {}", found.sent.unwrap_or("nothing"))?;
+/// Tells of the first line in which a way sends something else than is stated, or of another end. Answers whether neither comes.
+fn compare<Rt: Print>(
+    rt: &Rt,
+    alloc: Global,
+    name: &str,
+    way: Way,
+    outcome: &Outcome,
+) -> io::Result<bool> {
+    let title = format!(in alloc; "{name}: {way}")?;
+    if !tell_difference(rt, &title, &outcome.stated, &outcome.sent)? {
         return Ok(false);
     }
     if !outcome.ends_as_stated {
-        println!(rt; "{name}: {way}: ends otherwise")?;
+        println!(rt; "{title}: ends otherwise")?;
     }
     Ok(outcome.ends_as_stated)
 }
@@ -53,7 +58,7 @@ fn try_way<Rt: Print + Threads + Sync>(
     way: Way,
 ) -> io::Result<bool> {
     match way.run(rt, alloc, day) {
-        Ok(outcome) => compare(rt, name, way, &outcome),
+        Ok(outcome) => compare(rt, alloc, name, way, &outcome),
         Err(error) => {
             println!(rt; "{name}: {way}: {error}")?;
             Ok(false)
@@ -90,6 +95,12 @@ fn ways_of(alloc: Global, day: &Day) -> Result<Vec<Way>, DayError> {
     }
     if frames <= PLAIN_MAX {
         ways.push(Way::Plain)?;
+    }
+    if day.limit.is_none() {
+        ways.push(Way::Board)?;
+    }
+    if is_one_day(alloc, day)? {
+        ways.push(Way::Audit)?;
     }
     Ok(ways)
 }
@@ -134,10 +145,5 @@ pub fn agree<Rt: Files + Print + AllocGlobal + Threads + Sync + Clone + Drop>(
             differ = differ.saturating_add(1);
         }
     }
-    match (days, differ) {
-        (0, _) => println!(rt; "there is no day")?,
-        (_, 0) => println!(rt; "each day agrees")?,
-        _ => println!(rt; "days that differ: {differ}")?,
-    }
-    Ok(days > 0 && differ == 0)
+    tell_tally(rt, "day", days, differ)
 }

@@ -1,10 +1,16 @@
-//! Worked days that stand in files: each is run in every way that the program has, and compared line by line.
+//! Worked days that stand in files: each is run in every way that the program has, and compared line by line. Files that say
+//! what a command answers are compared in the same way.
 #![tactic(auto)]
 
 mod day;
 mod folder;
+mod published;
+mod said;
+mod shown;
 mod stated;
+mod tally;
 mod text;
 mod way;
 
 pub use folder::agree;
+pub use said::{Command, files_agree};

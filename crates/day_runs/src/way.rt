@@ -1,9 +1,13 @@
 //! The ways to run a day.
 
 use crate::day::Day;
+use crate::published::{packed, printed, text_of};
+use crate::shown::board_lines;
 use crate::stated;
 use crate::text::DayError;
 use afresh_core::{afresh, is_lawful};
+use audit_core::audit_stream;
+use command_core::run;
 use host_core::Status;
 use journal_core::format;
 use live_core::{ServeOptions, serve};
@@ -12,7 +16,6 @@ use replay_core::{ReplayOptions, replay};
 use std::alloc::Global;
 use std::fmt::{self, Display, Formatter, Write};
 use std::thread::Threads;
-use text_core::{Kind, print_stream};
 use wire_in::{Record, decode};
 use wire_out::{Frame, Stamped, put_frame};
 use yard_core::OpenGate;
@@ -22,6 +25,9 @@ const BYTES_MAX: u64 = 1_099_511_627_776;
 
 /// The most records that a journal may take.
 const LIMIT_MAX: u64 = 2_000_000_000;
+
+/// The most bytes that a board reads.
+const BOARD_BYTES_MAX: u64 = 1_073_741_824;
 
 /// How many records a journal takes where nothing else is said.
 const LIMIT: u64 = 100_000_000;
@@ -36,6 +42,10 @@ pub enum Way {
     Cut { frames: usize, workers: u32 },
     /// The evaluation of the accepted records from the whole list, by the definitions alone.
     Plain,
+    /// An audit of the messages and refusals that are stated of one day.
+    Audit,
+    /// Where each symbol stands at the end.
+    Board,
 }
 
 impl Display for Way {
@@ -52,6 +62,8 @@ impl Display for Way {
                 )
             }
             Way::Plain => write!(f, "the plain evaluation"),
+            Way::Audit => write!(f, "audit"),
+            Way::Board => write!(f, "board"),
         }
     }
 }
@@ -63,16 +75,6 @@ pub struct Outcome {
     pub ends_as_stated: bool,
     pub stated: String,
     pub sent: String,
-}
-
-/// The lines of published frames.
-fn printed(alloc: Global, frames: &[u8]) -> Result<String, DayError> {
-    let mut printer = MemoryHost::new(alloc, frames, b"")?;
-    print_stream(alloc, &mut printer, Kind::Published);
-    let Ok(text) = str::from_utf8(printer.sent()) else {
-        return Err(DayError::NoText);
-    };
-    Ok(String::from_str(alloc, text)?)
 }
 
 /// An empty journal.
@@ -223,6 +225,12 @@ fn accepted(alloc: Global, day: &Day) -> Result<Vec<Record>, DayError> {
     Ok(records)
 }
 
+/// Whether one record that is accepted begins a day.
+pub fn is_one_day(alloc: Global, day: &Day) -> Result<bool, DayError> {
+    let records = accepted(alloc, day)?;
+    Ok(records.iter().filter(|x| x.is_day()).count() == 1)
+}
+
 /// The frames of messages, numbered from 1 on.
 fn numbered(alloc: Global, messages: &[Stamped]) -> Result<Vec<u8>, DayError> {
     let mut frames = Vec::new(alloc);
@@ -260,6 +268,32 @@ fn evaluate_plainly(alloc: Global, day: &Day) -> Result<Outcome, DayError> {
     })
 }
 
+/// Audits the messages and refusals that are stated of one day.
+fn audit_day(alloc: Global, day: &Day) -> Result<Outcome, DayError> {
+    let lines = stated::replayed(alloc, &day.served)?;
+    let mut host = MemoryHost::new(alloc, &packed(alloc, &lines)?, b"")?;
+    let end = audit_stream(alloc, &mut host);
+    let messages = stated::messages(alloc, &day.served)?;
+    Ok(Outcome {
+        ends_as_stated: end == Status::Done,
+        stated: format!(in alloc; "clean {}\n", messages.lines().count())?,
+        sent: text_of(alloc, host.sent())?,
+    })
+}
+
+/// Tells where each symbol of a day stands at its end.
+fn show_day<Rt: Threads + Sync>(rt: &Rt, alloc: Global, day: &Day) -> Result<Outcome, DayError> {
+    let bytes = format!(in alloc; "{}", day.most.min(BOARD_BYTES_MAX))?;
+    let words = ["board", "--bytes", bytes.as_str()];
+    let mut host = MemoryHost::new(alloc, &day.input, b"")?;
+    let end = run(rt, alloc, &words, &mut host, &OpenGate);
+    Ok(Outcome {
+        ends_as_stated: end == day.end,
+        stated: board_lines(alloc, &day.served)?,
+        sent: text_of(alloc, host.sent())?,
+    })
+}
+
 impl Way {
     /// Runs a day in this way.
     pub fn run<Rt: Threads + Sync>(
@@ -273,6 +307,8 @@ impl Way {
             Way::Replay { workers } => replay_day(rt, alloc, day, workers),
             Way::Cut { frames, workers } => serve_in_two(rt, alloc, day, frames, workers),
             Way::Plain => evaluate_plainly(alloc, day),
+            Way::Audit => audit_day(alloc, day),
+            Way::Board => show_day(rt, alloc, day),
         }
     }
 }

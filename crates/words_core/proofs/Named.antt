@@ -14,7 +14,7 @@ use Rattle.clap.specs.Words.{Text, fault_of, subcommand_of}
 use Rattle.clap.specs.declared.builder.value_parser.ValueParser.TheVariants.{Unsigned}
 use Rattle.words_core.specs.Numbers.{numeral_in}
 use Rattle.words_core.specs.Commands.{kind_of}
-use Rattle.words_core.specs.Line.{CommandLine, app_of_line, format_line, generate_line, replay_line, serve_line, text_line}
+use Rattle.words_core.specs.Line.{CommandLine, app_of_line, board_line, format_line, generate_line, replay_line, serve_line, text_line}
 use Rattle.words_core.specs.Asked.{command_found, kind_in, number_if_given, number_of}
 use Rattle.words_core.proofs.Passing.{AllTold, some_kind}
 use Rattle.words_core.proofs.Filling.{MayRead, Reads, Takes, default_there, has_default, level_told, may_read, there_reads}
@@ -116,6 +116,15 @@ generate_named = (
       (λ records. mapped _ _ (number_there c words told (codes "workers") 1 64 refl (λ v t. only t))))),
 )
 
+board_named : IsNamed (leaf board_line.top)
+board_named = (
+  refl,
+  λ help words e.
+      let c = (leaf board_line.top).rules in
+      let told = (level_told (leaf board_line.top) words refl e).0 in
+      mapped _ _ (number_there c words told (codes "bytes") 1 1073741824 refl (λ v t. only t)),
+)
+
 wanted : (given : Bool) → check_kinds false false (not given || false) ≡ [] → given ≡ true
 wanted true e = refl
 wanted false e = absurd (some_kind _ _ e)
@@ -139,7 +148,7 @@ pack_named : (line : CommandLine) → IsNamed (leaf (text_line (codes "pack") li
 pack_named line = (refl, λ help words e. mapped _ _ (kind_there line (codes "pack") words e))
 
 all_named : (line : CommandLine) → AllNamed (built (app_of_line line)).subs
-all_named line = (format_named, (serve_named, (replay_named, ((refl, λ help words e. refl), (print_named line, (pack_named line, (generate_named, ((refl, λ help. absurd (true≢false help)), tt))))))))
+all_named line = (format_named, (serve_named, (replay_named, ((refl, λ help words e. refl), (print_named line, (pack_named line, (generate_named, (board_named, ((refl, λ help words e. refl), ((refl, λ help words e. refl), ((refl, λ help. absurd (true≢false help)), tt)))))))))))
 
 pub names_a_command : (line : CommandLine) (words : List Text) → fault_of (app_of_line line) words ≡ [] → command_found (subcommand_of (app_of_line line) words) ≢ None
 names_a_command line words e none =

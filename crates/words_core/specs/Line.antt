@@ -67,6 +67,18 @@ abbrev pub generate_line : App
 generate_line =
     with_rule (with_rule (with_rule (with_rule (with_rule (new_app (codes "generate")) seed_option) symbols_option) records_option) workers_option) summary_option
 
+abbrev pub board_bytes_option : Rule
+board_bytes_option = with_default (codes "1073741824") (number_option (codes "bytes") 1 1073741824)
+
+abbrev pub board_line : App
+board_line = with_rule (new_app (codes "board")) board_bytes_option
+
+abbrev pub cross_line : App
+cross_line = new_app (codes "cross")
+
+abbrev pub audit_line : App
+audit_line = new_app (codes "audit")
+
 -- the program, of which one command is required; the words do not begin with its own name
 abbrev pub program : App
 program = on_top (λ s. record s { no_binary_name = true; has_version = true; subcommand_required = true }) (new_app (codes "halts"))
@@ -76,10 +88,17 @@ abbrev pub with_sessions : App
 with_sessions =
     with_subcommand (with_subcommand (with_subcommand (with_subcommand program format_line.top) serve_line.top) replay_line.top) status_line.top
 
+-- and with those that turn frames into lines and back
+abbrev pub with_texts : Bor (List (Bor Text)) → App
+with_texts kinds = with_subcommand (with_subcommand with_sessions (text_line (codes "print") kinds).top) (text_line (codes "pack") kinds).top
+
+-- and with those that generate a day and tell where its symbols stand
+abbrev pub with_days : Bor (List (Bor Text)) → App
+with_days kinds = with_subcommand (with_subcommand (with_texts kinds) generate_line.top) board_line.top
+
 -- the whole command line
 abbrev pub halts_line : Bor (List (Bor Text)) → App
-halts_line kinds =
-    with_subcommand (with_subcommand (with_subcommand with_sessions (text_line (codes "print") kinds).top) (text_line (codes "pack") kinds).top) generate_line.top
+halts_line kinds = with_subcommand (with_subcommand (with_days kinds) cross_line.top) audit_line.top
 
 -- the command line, wherever the two words of its kinds stand
 pub record CommandLine : Type 0 where

@@ -1,13 +1,13 @@
 -- Plain lines: a command, and then each of its options at most once, in any order, as the two words of its name and its
 -- value. The option --summary is one word. They ask for the command with these values, and with defaults for the rest.
-use Rattle.std.specs.Prelude.{ℕ, Bool, true, false, List, [], ◌∷◌, Option, Some, None, if◌then◌else◌, codes, option_map, option_and_then, unwrap_or, IfSome, ◌≤◌}
+use Rattle.std.specs.Prelude.{ℕ, Bool, true, false, List, [], ◌∷◌, Option, Some, None, if◌then◌else◌, codes, option_map, option_and_then, unwrap_or, IfSome, ◌≤◌, nat_le}
 use Rattle.std.specs.Str.{bytes_eq}
 use Rattle.words_core.specs.Commands.{verb_of, kind_of}
 use Rattle.words_core.specs.Numbers.{number_in}
 use Rattle.words_core.specs.declared.command.Command.{Command}
 use Rattle.words_core.specs.declared.command.Command.TheVariants as commands
 use Rattle.words_core.specs.declared.command.Verb.{Verb}
-use Rattle.words_core.specs.declared.command.Verb.TheVariants.{Format, Serve, Replay, Status, Print, Pack, Generate}
+use Rattle.words_core.specs.declared.command.Verb.TheVariants.{Format, Serve, Replay, Status, Print, Pack, Generate, Board, Cross, Audit}
 use Rattle.words_core.specs.declared.options.Options.{Options}
 
 -- no option was given
@@ -79,6 +79,9 @@ with_option Generate given name word =
     else if bytes_eq name (codes "--records") then with_records given word
     else if bytes_eq name (codes "--workers") then with_workers given word
     else None
+with_option Board given name word = if bytes_eq name (codes "--bytes") then with_bytes given word else None
+with_option Cross given name word = None
+with_option Audit given name word = None
 
 -- the options with --summary
 abbrev pub with_summary : Verb → Options → Option Options
@@ -96,6 +99,10 @@ options_of verb given (name ∷ value ∷ words) =
     if is_summary name then option_and_then (λ more. options_of verb more (value ∷ words)) (with_summary verb given)
     else option_and_then (λ more. options_of verb more words) (with_option verb given name value)
 
+-- a board reads no more bytes than that
+abbrev pub board_of : ℕ → Option Command
+board_of bytes = if nat_le bytes 1073741824 then Some (commands.Board bytes) else None
+
 -- a command with its options, of which `--kind` has no default
 abbrev pub command_with : Verb → Options → Option Command
 command_with Format given = Some (commands.Format (unwrap_or given.limit 100000000))
@@ -108,6 +115,9 @@ command_with Pack given = option_map (λ kind. commands.Pack kind) given.kind
 command_with Generate given =
     Some
     (commands.Generate (unwrap_or given.seed 1) (unwrap_or given.symbols 500) (unwrap_or given.records 400000) (unwrap_or given.workers 1) given.summary)
+command_with Board given = board_of (unwrap_or given.bytes 1073741824)
+command_with Cross given = Some commands.Cross
+command_with Audit given = Some commands.Audit
 
 -- the command of a plain line; none where the words are no such line
 abbrev pub command_of : List (List ℕ) → Option Command

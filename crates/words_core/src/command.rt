@@ -8,6 +8,9 @@ pub const LIMIT_MAX: u64 = 2_000_000_000;
 /// The most bytes that one run reads.
 pub const BYTES_MAX: u64 = 1_099_511_627_776;
 
+/// The most bytes that a board reads.
+pub const BOARD_BYTES_MAX: u64 = 1_073_741_824;
+
 /// The most workers of a run.
 pub const WORKERS_MAX: u64 = 64;
 
@@ -60,6 +63,14 @@ pub enum Command {
         workers: u32,
         summary: bool,
     },
+    /// Tells the last state and price bands of each symbol of the input, up to so many bytes, from 1 to 1,073,741,824.
+    Board {
+        bytes: u64,
+    },
+    /// Crosses the orders of the input.
+    Cross,
+    /// Audits the published frames of the input.
+    Audit,
 }
 
 /// The name of a command.
@@ -72,6 +83,9 @@ pub enum Verb {
     Print,
     Pack,
     Generate,
+    Board,
+    Cross,
+    Audit,
 }
 
 impl Verb {
@@ -90,6 +104,9 @@ impl Verb {
             "print" => Some(Verb::Print),
             "pack" => Some(Verb::Pack),
             "generate" => Some(Verb::Generate),
+            "board" => Some(Verb::Board),
+            "cross" => Some(Verb::Cross),
+            "audit" => Some(Verb::Audit),
             _ => None,
         }
     }

@@ -3,9 +3,11 @@
 ghost use Rattle.std.specs.Prelude.{◌≡◌, IfOk, codes, false};
 ghost use Rattle.clap.specs.Words.{App, Rule, app_of, rule_of, new_app, with_rule, with_subcommand, shape_of};
 ghost use Rattle.clap.specs.declared.builder.command.Command.TheViews.{out-Command as fields_of};
-ghost use Rattle.words_core.specs.Line.{number_option, with_default, workers_option, batch_option, bytes_option, kind_option, summary_option, format_line, serve_line, replay_line, status_line, text_line, seed_option, symbols_option, records_option, generate_line, program, with_sessions, halts_line};
+ghost use Rattle.words_core.specs.Line.{number_option, with_default, workers_option, batch_option, bytes_option, kind_option, summary_option, format_line, serve_line, replay_line, status_line, text_line, seed_option, symbols_option, records_option, generate_line, board_bytes_option, board_line, cross_line, audit_line, program, with_sessions, with_texts, with_days, halts_line};
 
-use crate::command::{BATCH_MAX, BYTES_MAX, LIMIT_MAX, RECORDS_MAX, SYMBOLS_MAX, WORKERS_MAX};
+use crate::command::{
+    BATCH_MAX, BOARD_BYTES_MAX, BYTES_MAX, LIMIT_MAX, RECORDS_MAX, SYMBOLS_MAX, WORKERS_MAX,
+};
 use clap::builder::ValueParser;
 use clap::{Arg, ArgAction, Command};
 use std::alloc::{AllocError, Global};
@@ -240,6 +242,71 @@ fn generate_line<'a>(alloc: Global) -> Result<Command<'a>, AllocError>
     with_option(generate, summary_option(alloc))
 }
 
+fn board_bytes_option<'a>(alloc: Global) -> Arg<'a>
+    ensures rule { rule_of result ≡ board_bytes_option }
+    ensures local { result.global ≡ false }
+{
+    number_option(
+        alloc,
+        "bytes",
+        1,
+        BOARD_BYTES_MAX,
+        "How many bytes of the input are read, from 1 to 1073741824",
+    )
+    .default_value("1073741824")
+}
+
+fn board_line<'a>(alloc: Global) -> Result<Command<'a>, AllocError>
+    ensures app { IfOk result (λ c. app_of c ≡ board_line) }
+    ensures local { IfOk result (λ c. (fields_of c).has_globals ≡ false) }
+{
+    with_option(
+        command(
+            alloc,
+            "board",
+            "Tells the last state and price bands of each symbol of the input, without a journal",
+        ),
+        board_bytes_option(alloc),
+    )
+}
+
+fn cross_line<'a>(alloc: Global) -> Command<'a>
+    ensures app { app_of result ≡ cross_line }
+    ensures local { (fields_of result).has_globals ≡ false }
+{
+    command(
+        alloc,
+        "cross",
+        "Tells the price at which the orders of an auction cross, and what each gets",
+    )
+}
+
+/// The laws of published frames, as the help of `audit` has them.
+const LAWS: &str = "\
+Laws of what is published on a day:
+  1  frames are numbered messages, from 1 on without a gap, and refusals
+  2  no moment is before that of the message before
+  3  out of a limit state a pause, or the wait for the close, comes after 15 seconds at the earliest, and trading before that
+  4  a reference price that moves does so by one per cent at least and 30 seconds after the last one at the earliest;
+     bands that the time of day changes keep the reference price, and are others
+  5  bands come while the stock trades, are whole cents, and lie a cent apart at least
+  6  an auction begins right behind the state of its pause; each round lasts five minutes, after which one collar at most
+     moves, outward, or the auction releases, and trading follows right behind
+  7  a market-wide halt has a greater level than each before it, and begins where none is in effect; the market resumes
+     15 minutes after one of Level 1 or 2";
+
+fn audit_line<'a>(alloc: Global) -> Command<'a>
+    ensures app { app_of result ≡ audit_line }
+    ensures local { (fields_of result).has_globals ≡ false }
+{
+    command(
+        alloc,
+        "audit",
+        "Tells whether published frames of one day keep the laws of what is published",
+    )
+    .after_help(LAWS)
+}
+
 /// The program without its commands.
 fn program<'a>(alloc: Global) -> Result<Command<'a>, AllocError>
     ensures app { IfOk result (λ c. app_of c ≡ program) }
@@ -274,9 +341,10 @@ fn with_sessions<'a>(alloc: Global) -> Result<Command<'a>, AllocError>
     )
 }
 
-/// The whole command line, with the words for kinds of lines.
-pub fn halts_line<'a>(alloc: Global, kinds: &'a [&'a str]) -> Result<Command<'a>, AllocError>
-    ensures app { IfOk result (λ c. app_of c ≡ halts_line kinds.entry) }
+/// The program with the commands for text besides.
+fn with_texts<'a>(alloc: Global, kinds: &'a [&'a str]) -> Result<Command<'a>, AllocError>
+    ensures app { IfOk result (λ c. app_of c ≡ with_texts kinds.entry) }
+    ensures local { IfOk result (λ c. (fields_of c).has_globals ≡ false) }
 {
     let halts = with_sessions(alloc)?;
     let print = text_line(
@@ -292,6 +360,24 @@ pub fn halts_line<'a>(alloc: Global, kinds: &'a [&'a str]) -> Result<Command<'a>
         "Packs a frame for each line of the input",
         kinds,
     )?;
-    let halts = with_command(halts, pack)?;
-    with_command(halts, generate_line(alloc)?)
+    with_command(halts, pack)
+}
+
+/// The program with the commands that generate a day and tell where its symbols stand besides.
+fn with_days<'a>(alloc: Global, kinds: &'a [&'a str]) -> Result<Command<'a>, AllocError>
+    ensures app { IfOk result (λ c. app_of c ≡ with_days kinds.entry) }
+    ensures local { IfOk result (λ c. (fields_of c).has_globals ≡ false) }
+{
+    let halts = with_texts(alloc, kinds)?;
+    let halts = with_command(halts, generate_line(alloc)?)?;
+    with_command(halts, board_line(alloc)?)
+}
+
+/// The whole command line, with the words for kinds of lines.
+pub fn halts_line<'a>(alloc: Global, kinds: &'a [&'a str]) -> Result<Command<'a>, AllocError>
+    ensures app { IfOk result (λ c. app_of c ≡ halts_line kinds.entry) }
+{
+    let halts = with_days(alloc, kinds)?;
+    let halts = with_command(halts, cross_line(alloc))?;
+    with_command(halts, audit_line(alloc))
 }

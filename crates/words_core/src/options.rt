@@ -1,11 +1,12 @@
 //! The options of a plain line.
 
-ghost use Rattle.std.specs.Prelude.{◌≡◌, IfSome, false};
-ghost use Rattle.words_core.specs.Plain.{no_options, with_limit, with_from, with_workers, with_batch, with_bytes, with_kind, with_seed, with_symbols, with_records, with_option, with_summary, command_with, IsWithin};
+ghost use Rattle.std.specs.Prelude.{◌≡◌, ◌≤◌, IfSome, false};
+ghost use Rattle.words_core.specs.Plain.{no_options, with_limit, with_from, with_workers, with_batch, with_bytes, with_kind, with_seed, with_symbols, with_records, with_option, with_summary, board_of, command_with, IsWithin};
 ghost use Rattle.words_core.specs.Commands.{IsInRange};
 
 use crate::command::{
-    BATCH_MAX, BYTES_MAX, Command, LIMIT_MAX, RECORDS_MAX, SYMBOLS_MAX, Verb, WORKERS_MAX, kind_of,
+    BATCH_MAX, BOARD_BYTES_MAX, BYTES_MAX, Command, LIMIT_MAX, RECORDS_MAX, SYMBOLS_MAX, Verb,
+    WORKERS_MAX, kind_of,
 };
 use crate::number::number_in;
 use text_core::Kind;
@@ -42,6 +43,18 @@ pub fn no_options() -> Options
         records: None,
         summary: false,
     }
+}
+
+/// A board of so many bytes, where it may read as many.
+fn board_of(bytes: u64) -> Option<Command>
+    requires least { 1 ≤ bytes }
+    ensures exact { result ≡ board_of bytes }
+    ensures range { IfSome result IsInRange }
+{
+    if bytes > BOARD_BYTES_MAX {
+        return None;
+    }
+    Some(Command::Board { bytes })
 }
 
 impl Options {
@@ -191,7 +204,7 @@ impl Options {
             (Verb::Serve, "--from") => self.with_from(word),
             (Verb::Serve | Verb::Replay | Verb::Generate, "--workers") => self.with_workers(word),
             (Verb::Serve, "--batch") => self.with_batch(word),
-            (Verb::Serve | Verb::Replay, "--bytes") => self.with_bytes(word),
+            (Verb::Serve | Verb::Replay | Verb::Board, "--bytes") => self.with_bytes(word),
             (Verb::Print | Verb::Pack, "--kind") => self.with_kind(word),
             (Verb::Generate, "--seed") => self.with_seed(word),
             (Verb::Generate, "--symbols") => self.with_symbols(word),
@@ -245,6 +258,9 @@ impl Options {
                 workers: self.workers.unwrap_or(1),
                 summary: self.summary,
             }),
+            Verb::Board => board_of(self.bytes.unwrap_or(BOARD_BYTES_MAX)),
+            Verb::Cross => Some(Command::Cross),
+            Verb::Audit => Some(Command::Audit),
         }
     }
 }

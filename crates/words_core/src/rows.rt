@@ -6,7 +6,8 @@ ghost use Rattle.words_core.specs.Commands.{IsInRange};
 ghost use Rattle.words_core.specs.Asked.{number_of, number_if_given, workers_in, bytes_in, kind_in, is_given, command_from, command_found};
 
 use crate::command::{
-    BATCH_MAX, BYTES_MAX, Command, LIMIT_MAX, RECORDS_MAX, SYMBOLS_MAX, Verb, WORKERS_MAX, kind_of,
+    BATCH_MAX, BOARD_BYTES_MAX, BYTES_MAX, Command, LIMIT_MAX, RECORDS_MAX, SYMBOLS_MAX, Verb,
+    WORKERS_MAX, kind_of,
 };
 use crate::number::numeral_in;
 use clap::ArgMatches;
@@ -119,6 +120,14 @@ fn generate_of(found: &ArgMatches<'_>) -> Option<Command>
     })
 }
 
+fn board_of(found: &ArgMatches<'_>) -> Option<Command>
+    ensures exact { result ≡ command_from Verb.Board (rows_of (found_of found.now)) }
+    ensures range { IfSome result IsInRange }
+{
+    let bytes = number_of(found, "bytes", 1, BOARD_BYTES_MAX)?;
+    Some(Command::Board { bytes })
+}
+
 fn command_from(verb: Verb, found: &ArgMatches<'_>) -> Option<Command>
     ensures exact { result ≡ command_from verb (rows_of (found_of found.now)) }
     ensures range { IfSome result IsInRange }
@@ -135,6 +144,9 @@ fn command_from(verb: Verb, found: &ArgMatches<'_>) -> Option<Command>
             kind: kind_in(found)?,
         }),
         Verb::Generate => generate_of(found),
+        Verb::Board => board_of(found),
+        Verb::Cross => Some(Command::Cross),
+        Verb::Audit => Some(Command::Audit),
     }
 }
 

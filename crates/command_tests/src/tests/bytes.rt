@@ -6,7 +6,7 @@ use std::test::Fail;
 use test_days::Session;
 
 /// A greeting of no records and no messages.
-const HELLO: &[u8] = b"\x11\x81\0\0\0\0\0\0\0\0\0\0\0\0\0\0\0\0";
+pub(super) const HELLO: &[u8] = b"\x11\x81\0\0\0\0\0\0\0\0\0\0\0\0\0\0\0\0";
 
 /// The day 2024-06-03 at 04:00:00, with a regular close, after an index close of 5,000.00.
 const DAY: &[u8] = b"\x13\x01\0\0\x0d\x18\xc2\xe2\x80\0\x07\xe8\x06\x03\x01\x02\0\x07\xa1\x20";
@@ -20,7 +20,8 @@ const ACK_1: &[u8] = b"\x09\x82\0\0\0\0\0\0\0\x01";
 const ACK_2: &[u8] = b"\x09\x82\0\0\0\0\0\0\0\x02";
 
 /// Level 1 is declared.
-const BREAKER: &[u8] = b"\x16\x18\0\0\0\0\0\0\0\x01\0\0\x20\xbd\xe7\x36\x40\0\x01\0\x07\x18\x68";
+pub(super) const BREAKER: &[u8] =
+    b"\x16\x18\0\0\0\0\0\0\0\x01\0\0\x20\xbd\xe7\x36\x40\0\x01\0\x07\x18\x68";
 
 const ACK_3: &[u8] = b"\x09\x82\0\0\0\0\0\0\0\x03";
 

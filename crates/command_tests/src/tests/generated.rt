@@ -98,16 +98,24 @@ fn counts_of(sent: &[u8]) -> [u32; 9] {
     of_type
 }
 
+/// How many messages were sent.
+pub(super) fn messages_of(sent: &[u8]) -> u32 {
+    let mut all = 0u32;
+    for count in counts_of(sent) {
+        all = all.wrapping_add(count);
+    }
+    all
+}
+
 /// What a summary says of messages that were sent.
 fn summed_up(alloc: Global, sent: &[u8]) -> Result<String, Fail> {
     let of_type = counts_of(sent);
-    let mut all = 0u32;
     let mut lines = String::new(alloc);
     for place in 0..9usize {
         let (word, count) = (WORDS[place], of_type[place]);
-        all = all.wrapping_add(count);
         lines.push_str(format!(in alloc; "{word} {count}\n")?.as_str())?;
     }
+    let all = messages_of(sent);
     Ok(format!(in alloc; "messages {all}\n{lines}")?)
 }
 

@@ -9,7 +9,7 @@ const LINES: &[(Status, &str)] = &[
     (Status::Done, ""),
     (
         Status::Usage,
-        "halts: usage: halts <journal> format|serve|replay|status|print|pack|generate\n",
+        "halts: usage: halts <journal> format|serve|replay|status|print|pack|generate|board|cross|audit\n",
     ),
     (Status::ReadFault, "halts: the input could not be read\n"),
     (
@@ -20,6 +20,39 @@ const LINES: &[(Status, &str)] = &[
     (
         Status::BadText { line: 2 },
         "halts: line 2 is not understood\n",
+    ),
+    (Status::NotAtDay, "halts: the last record is not a day\n"),
+    (
+        Status::Breach { place: 5, law: 1 },
+        "halts: law 1 is broken at frame 5\n",
+    ),
+    (
+        Status::Breach { place: 5, law: 2 },
+        "halts: law 2 is broken at frame 5\n",
+    ),
+    (
+        Status::Breach { place: 5, law: 3 },
+        "halts: law 3 is broken at frame 5\n",
+    ),
+    (
+        Status::Breach { place: 5, law: 4 },
+        "halts: law 4 is broken at frame 5\n",
+    ),
+    (
+        Status::Breach { place: 5, law: 5 },
+        "halts: law 5 is broken at frame 5\n",
+    ),
+    (
+        Status::Breach { place: 5, law: 6 },
+        "halts: law 6 is broken at frame 5\n",
+    ),
+    (
+        Status::Breach { place: 5, law: 7 },
+        "halts: law 7 is broken at frame 5\n",
+    ),
+    (
+        Status::Breach { place: 5, law: 8 },
+        "halts: a law is broken at frame 5\n",
     ),
 ];
 

@@ -1,4 +1,6 @@
-use Rattle.std.proofs.Common.{◌≡◌, sym, subst}
+use Rattle.std.proofs.Common.{◌≡◌, ℕ, List, sym, subst}
+use Rattle.auction_core.specs.Texts.{lines_of}
+use Rattle.auction_core.proofs.Texting.{lines_have_text}
 use Rattle.command_core.specs.Runs.{Ran}
 use Rattle.command_core.proofs.program.obey.Goals as goal
 
@@ -13,3 +15,8 @@ returns-in-Serve-clause-ran g c =
 pub returns-in-Replay-clause-ran : goal.returns-in-Replay-clause-ran
 returns-in-Replay-clause-ran g c =
     subst (λ x. Ran (c.replay.new.host ≡ c.args.host.now) x c.replay.result (g.H.Host.outside c.args.host.now) (g.H.Host.outside c.replay.new.host)) (sym c.in-Replay.is) c.replay.ensures.replayed
+
+pub returns-in-Cross-clause-continues : goal.returns-in-Cross-clause-continues
+returns-in-Cross-clause-continues g c =
+    let texts = λ (input : List ℕ). lines_have_text (lines_of input) in
+    (c.cross_stream.ensures.crossed (λ input. (texts input).0) (λ input. (texts input).1)).continues

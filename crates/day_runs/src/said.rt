@@ -1,0 +1,136 @@
+//! Files that say what a command answers.
+
+use crate::published::{packed, text_of};
+use crate::tally::{tell_difference, tell_tally};
+use crate::text::DayError;
+use command_core::{run, tell};
+use host_core::{Status, Stream};
+use memory_host::MemoryHost;
+use std::alloc::Global;
+use std::rt::Files;
+use std::thread::Threads;
+use std::{fs, io};
+use yard_core::OpenGate;
+
+/// A command that reads an input and nothing else.
+#[derive(Clone, Copy, Debug)]
+pub enum Command {
+    /// Of `NAME.published.lines`, whose frames it reads, `NAME.audit` says what it answers.
+    Audit,
+    /// Of the auction in `NAME.lines`, `NAME.cross` says what it answers.
+    Cross,
+}
+
+/// What a file says that a command answers, and what it answers.
+#[derive(Debug, Drop)]
+struct Said {
+    stated: String,
+    given: String,
+}
+
+impl Command {
+    /// The words that ask for it.
+    fn words(self) -> [&'static str; 1] {
+        match self {
+            Command::Audit => ["audit"],
+            Command::Cross => ["cross"],
+        }
+    }
+
+    /// How the name of a file ends that says what it answers.
+    fn ending(self) -> &'static str {
+        match self {
+            Command::Audit => ".audit",
+            Command::Cross => ".cross",
+        }
+    }
+
+    /// How the name of a file ends that says what it reads.
+    fn input_ending(self) -> &'static str {
+        match self {
+            Command::Audit => ".published.lines",
+            Command::Cross => ".lines",
+        }
+    }
+
+    /// The bytes that it reads of a file.
+    fn input(self, alloc: Global, text: &str) -> Result<Vec<u8>, DayError> {
+        match self {
+            Command::Audit => packed(alloc, text),
+            Command::Cross => Ok(Vec::from_slice(alloc, text.as_bytes())?),
+        }
+    }
+}
+
+/// What a command sends for an input, and behind it the line on standard error and the exit code of another end than Done.
+fn answer<Rt: Threads + Sync>(
+    rt: &Rt,
+    alloc: Global,
+    command: Command,
+    input: &[u8],
+) -> Result<String, DayError> {
+    let mut host = MemoryHost::new(alloc, input, b"")?;
+    let status = run(rt, alloc, &command.words(), &mut host, &OpenGate);
+    let sent = text_of(alloc, host.sent())?;
+    if status == Status::Done {
+        return Ok(sent);
+    }
+    let mut told = Vec::new(alloc);
+    tell(&mut Stream::new(&mut told), status)?;
+    let told = text_of(alloc, &told)?;
+    Ok(format!(in alloc; "{sent}{told}exit {}\n", status.code())?)
+}
+
+/// What a file says that a command answers of another file, and what it answers.
+fn said_of<Rt: Files + AllocGlobal + Threads + Sync>(
+    rt: &Rt,
+    command: Command,
+    name: &str,
+) -> Result<Said, DayError> {
+    let alloc = rt.alloc();
+    let input = format!(in alloc; "{name}{}", command.input_ending())?;
+    let stated = format!(in alloc; "{name}{}", command.ending())?;
+    let input = fs::read_to_string(rt, input.as_str())?;
+    let input = command.input(alloc, &input)?;
+    Ok(Said {
+        stated: fs::read_to_string(rt, stated.as_str())?,
+        given: answer(rt, alloc, command, &input)?,
+    })
+}
+
+/// Tells of the first line in which a command answers something else than a file says. Answers whether there is none.
+fn try_file<Rt: Files + Print + AllocGlobal + Threads + Sync>(
+    rt: &Rt,
+    command: Command,
+    name: &str,
+) -> io::Result<bool> {
+    match said_of(rt, command, name) {
+        Ok(said) => tell_difference(rt, name, &said.stated, &said.given),
+        Err(error) => {
+            println!(rt; "{name}: {error}")?;
+            Ok(false)
+        }
+    }
+}
+
+/// Compares what a command answers with each file that says so, in the folder that the program runs in. It tells of each
+/// difference, and then how many there are, or that the files agree. Answers whether there is a file, and none differs.
+pub fn files_agree<Rt: Files + Print + AllocGlobal + Threads + Sync + Clone + Drop>(
+    rt: &Rt,
+    command: Command,
+) -> io::Result<bool> {
+    let alloc = rt.alloc();
+    let (mut files, mut differ) = (0usize, 0usize);
+    for entry in fs::read_dir(rt, ".")? {
+        let entry = entry?;
+        let Some(name) = entry.file_name().strip_suffix(command.ending()) else {
+            continue;
+        };
+        let name = String::from_str(alloc, name)?;
+        files = files.saturating_add(1);
+        if !try_file(rt, command, name.as_str())? {
+            differ = differ.saturating_add(1);
+        }
+    }
+    tell_tally(rt, "file", files, differ)
+}
