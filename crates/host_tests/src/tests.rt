@@ -1,5 +1,6 @@
 //! Tests over real files and over memory.
 
+mod bases;
 mod disks;
 mod host;
 mod journal;

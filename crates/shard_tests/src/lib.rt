@@ -1,4 +1,4 @@
-//! Tests of work that threads share, and of blocks of records, in parts, by threads, and evaluated ahead.
+//! Tests of work that threads share, and of blocks of records, in parts and by threads.
 #![tactic(auto)]
 
 #[cfg(test)]

@@ -1,6 +1,5 @@
 //! Records in few words, on days of June 2024. Prices are ten-thousandths of a dollar.
 
-mod ahead;
 mod anew;
 mod blocks;
 mod drawn;

@@ -1,13 +1,16 @@
-//! Runs the worked days of its folder. It ends with 0 where each agrees in every way, and else with 1.
+//! Runs the worked days of its folder, and the worked audits and crosses of the folders in it. It ends with 0 where each agrees
+//! in every way, and else with 1.
 #![tactic(auto)]
 
-use day_runs::agree;
+use day_runs::{Command, agree, files_agree};
 use std::io;
 use std::process::ExitCode;
 
 fn main(rt: HostRuntime) -> io::Result<ExitCode> {
-    let agrees = agree(&rt)?;
-    Ok(if agrees {
+    let days = agree(&rt)?;
+    let audits = files_agree(&rt, Command::Audit)?;
+    let crosses = files_agree(&rt, Command::Cross)?;
+    Ok(if days && audits && crosses {
         ExitCode::SUCCESS
     } else {
         ExitCode::FAILURE

@@ -43,27 +43,34 @@ fn is_page<D: Disk>(alloc: Global, disk: &mut D, run: Range<usize>) -> io::Resul
     Ok(bytes == wanted && disk.len()? == PAGE as u64)
 }
 
+/// Whether these bytes stand on a disk from an offset on.
+fn has<D: Disk>(alloc: Global, disk: &mut D, at: u64, wanted: &[u8]) -> io::Result<bool> {
+    let mut bytes = Vec::from_elem(alloc, 0, wanted.len())?;
+    disk.read(at, &mut bytes)?;
+    Ok(bytes.as_slice() == wanted)
+}
+
+/// Writes the bytes of a page between two offsets.
+fn write_page<D: Disk>(alloc: Global, disk: &mut D, offsets: Range<usize>) -> io::Result<()> {
+    let at = offsets.start as u64;
+    let bytes = page(alloc, offsets, 0..0)?;
+    disk.write(at, &bytes)
+}
+
+/// True of a call that is done.
+fn done(answer: io::Result<()>) -> io::Result<bool> {
+    answer?;
+    Ok(true)
+}
+
 /// Whether a disk answers a call as wanted.
 fn is_answered<D: Disk>(alloc: Global, disk: &mut D, step: Step<'_>) -> io::Result<bool> {
     match step {
-        Write(at, bytes) => {
-            disk.write(at, bytes)?;
-            Ok(true)
-        }
-        Sync => {
-            disk.sync()?;
-            Ok(true)
-        }
-        Read(at, wanted) => {
-            let mut bytes = Vec::from_elem(alloc, 0, wanted.len())?;
-            disk.read(at, &mut bytes)?;
-            Ok(bytes.as_slice() == wanted)
-        }
+        Write(at, bytes) => done(disk.write(at, bytes)),
+        Sync => done(disk.sync()),
+        Read(at, wanted) => has(alloc, disk, at, wanted),
         Len(wanted) => Ok(disk.len()? == wanted),
-        WritePage(from, to) => {
-            disk.write(from as u64, &page(alloc, from..to, 0..0)?)?;
-            Ok(true)
-        }
+        WritePage(from, to) => done(write_page(alloc, disk, from..to)),
         IsPage(from, to) => is_page(alloc, disk, from..to),
     }
 }
@@ -88,4 +95,16 @@ pub fn refuse<R: Abort + AllocGlobal, D: Disk>(rt: &R, disk: &mut D, steps: &[St
             "step {place}"
         );
     }
+}
+
+/// Takes the steps one after the other, and none of the others is done. The disk is closed then.
+pub fn play_and_refuse<R: Abort + AllocGlobal, D: Disk + Drop>(
+    rt: &R,
+    mut disk: D,
+    done: &[Step<'_>],
+    refused: &[Step<'_>],
+) -> Result<(), Fail> {
+    play(rt, &mut disk, done)?;
+    refuse(rt, &mut disk, refused);
+    Ok(())
 }

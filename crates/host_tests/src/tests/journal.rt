@@ -1,11 +1,14 @@
 //! The journal, over memory and over real files.
 
-ghost use Rattle.std.specs.Prelude.{◌<◌, ◌≤◌, ◌+◌, IfOk, IsTrue, length};
+ghost use Rattle.std.specs.Prelude.{◌≡◌, ◌<◌, ◌≤◌, ◌+◌, true, IfOk, IsTrue, length};
+ghost use Rattle.wire_in.specs.Records.{is_day};
+ghost use Rattle.wire_in.specs.Spelling.{InRange};
 ghost use Rattle.memory_host.specs.Memory.{known};
 ghost use Rattle.journal_core.specs.Journal.{HasBytes};
 ghost use Rattle.journal_core.specs.Layout.{IsLimit};
 
-use host_core::{Held, Host, JournalFile, RealHost, Stream, SystemFiles};
+use super::bases::kept_day;
+use host_core::{Failed, Held, Host, JournalFile, RealHost, Stream, SystemFiles};
 use journal_core::{AppendError, Batch, FormatError, Journal, Scan, ScanError, format};
 use memory_host::{MemoryHost, Pick};
 use price_core::{Index, Price};
@@ -17,15 +20,12 @@ use std::test::Fail;
 use std::{fs, io};
 use wire_in::Record;
 
-/// A batch of the day 2024-06-03 with an index close of 5,000.00, at 04:00:00.
-fn day(alloc: Global) -> Result<Batch, Fail>
-    ensures { IfOk result (λ batch. 0 < length batch) }
+/// The regular day of a date at a moment, with the previous close of the index.
+fn day_at(moment: Moment, date: Date, index_close: Index) -> Record
+    ensures day { is_day result ≡ true }
+    ensures range { InRange result }
 {
-    let moment = Moment::new(14_400_000_000_000)?;
-    let date = Date::of(2024, 6, 3)?;
-    let index_close = Index::new(500_000)?;
-    let mut batch = Batch::new(alloc)?;
-    batch.push(Record::Day {
+    Record::Day {
         moment,
         day: Day {
             date,
@@ -33,7 +33,29 @@ fn day(alloc: Global) -> Result<Batch, Fail>
             profile: Profile::Since18,
         },
         index_close,
-    });
+    }
+}
+
+/// The day 2024-06-03 with an index close of 5,000.00, at 04:00:00.
+pub fn day_record() -> Result<Record, Fail>
+    ensures day { IfOk result (λ x. is_day x ≡ true) }
+    ensures range { IfOk result InRange }
+{
+    let moment = Moment::new(14_400_000_000_000)?;
+    let date = Date::of(2024, 6, 3)?;
+    let index_close = Index::new(500_000)?;
+    Ok(day_at(moment, date, index_close))
+}
+
+/// A batch of that day.
+pub fn day(alloc: Global) -> Result<Batch, Fail>
+    ensures { IfOk result (λ batch. 0 < length batch) }
+{
+    let moment = Moment::new(14_400_000_000_000)?;
+    let date = Date::of(2024, 6, 3)?;
+    let index_close = Index::new(500_000)?;
+    let mut batch = Batch::new(alloc)?;
+    batch.push(day_at(moment, date, index_close));
     Ok(batch)
 }
 
@@ -60,7 +82,7 @@ fn quotes(alloc: Global, count: usize) -> Result<Batch, Fail>
 }
 
 /// Reads a journal to its end.
-fn open<H: Host>(alloc: Global, host: &mut H) -> Result<Journal, ScanError>
+pub fn open<H: Host>(alloc: Global, host: &mut H) -> Result<Journal, ScanError>
     ensures whole { IfOk result (λ journal. IsTrue journal.whole) }
     ensures gate { IfOk result (λ journal. HasBytes (journal.gate + 1) (H.outside host.new).disk) }
 {
@@ -71,20 +93,20 @@ fn open<H: Host>(alloc: Global, host: &mut H) -> Result<Journal, ScanError>
 }
 
 /// How many records a disk holds.
-fn count_of(alloc: Global, disk: &[u8]) -> Result<u64, ScanError> {
+pub fn count_of(alloc: Global, disk: &[u8]) -> Result<u64, ScanError> {
     let mut host = MemoryHost::new(alloc, b"", disk)?;
     Ok(open(alloc, &mut host)?.count())
 }
 
 /// A journal with the host that keeps it.
 #[derive(Drop)]
-struct Kept {
-    host: MemoryHost,
-    journal: Journal,
+pub struct Kept {
+    pub host: MemoryHost,
+    pub journal: Journal,
 }
 
 /// An empty journal in memory that takes so many records.
-fn empty(alloc: Global, limit: u64) -> Result<Kept, Fail>
+pub fn empty(alloc: Global, limit: u64) -> Result<Kept, Fail>
     requires { IsLimit limit }
     ensures whole { IfOk result (λ kept. IsTrue kept.journal.whole) }
     ensures gate { IfOk result (λ kept. HasBytes (kept.journal.gate + 1) (known kept.host).disk) }
@@ -98,7 +120,7 @@ fn empty(alloc: Global, limit: u64) -> Result<Kept, Fail>
 #[test]
 fn a_fresh_journal_is_a_header_and_a_closed_gate(rt: HostRuntime) -> Result<(), Fail> {
     let kept = empty(rt.alloc(), 3)?;
-    let fresh = b"HALTJNL1\0\0\0\0\0\0\0\x03\0";
+    let fresh = b"HALTJNL2\0\0\0\0\0\0\0\x03\0";
     let count = count_of(rt.alloc(), fresh);
     assert!(rt; kept.host.disk() == fresh.as_slice() && count == Ok(0));
     Ok(())
@@ -106,19 +128,32 @@ fn a_fresh_journal_is_a_header_and_a_closed_gate(rt: HostRuntime) -> Result<(), 
 
 #[test]
 fn a_batch_is_a_gate_a_length_and_frames(rt: HostRuntime) -> Result<(), Fail> {
-    let mut kept = empty(rt.alloc(), 3)?;
-    let (day, more) = (day(rt.alloc())?, quotes(rt.alloc(), 3)?);
-    kept.journal.append(&mut kept.host, &day)?;
-    let full = kept.journal.append(&mut kept.host, &more);
+    let kept = kept_day(rt.alloc())?;
     let disk =
-        b"HALTJNL1\0\0\0\0\0\0\0\x03\x01\0\0\0\x14\x13\x01\0\0\x0d\x18\xc2\xe2\x80\0\x07\xe8\x06\x03\x01\x02\0\x07\xa1\x20\0";
+        b"HALTJNL2\0\0\0\0\0\0\0\x03\x01\0\0\0\x14\x13\x01\0\0\x0d\x18\xc2\xe2\x80\0\x07\xe8\x06\x03\x01\x02\0\x07\xa1\x20\0";
     let count = count_of(rt.alloc(), disk);
     assert!(rt; kept.host.disk() == disk.as_slice() && count == Ok(1));
-    assert!(rt; full == Err(AppendError::Full { limit: 3 }));
     Ok(())
 }
 
-/// How many records are left of a batch of 64, where the append is stopped at one of its four calls.
+/// Whether a batch finds no room in a journal.
+fn is_full(kept: &mut Kept, batch: &Batch, limit: u64) -> bool
+    requires whole { IsTrue kept.old.journal.whole }
+    requires some { 0 < length batch.now }
+    requires gate { HasBytes (kept.old.journal.gate + 1) (known kept.old.host).disk }
+{
+    kept.journal.append(&mut kept.host, batch) == Err(AppendError::Full { limit })
+}
+
+#[test]
+fn a_batch_that_finds_no_room_is_told(rt: HostRuntime) -> Result<(), Fail> {
+    let mut kept = kept_day(rt.alloc())?;
+    let more = quotes(rt.alloc(), 3)?;
+    assert!(rt; is_full(&mut kept, &more, 3));
+    Ok(())
+}
+
+/// How many records are left of a batch of 64, where the append is stopped at one of its four calls, or behind them.
 fn records_left(alloc: Global, stop: u64, pick: Pick) -> Result<u64, Fail> {
     let batch = quotes(alloc, 64)?;
     let mut kept = empty(alloc, 100)?;
@@ -127,7 +162,11 @@ fn records_left(alloc: Global, stop: u64, pick: Pick) -> Result<u64, Fail> {
     let stopped = kept.journal.append(&mut kept.host, &batch).is_err();
     let mut next = kept.host.crash(pick, b"")?;
     let count = open(alloc, &mut next)?.count();
-    Ok(if stopped { count } else { u64::MAX })
+    Ok(if stopped == (stop <= 4) {
+        count
+    } else {
+        u64::MAX
+    })
 }
 
 #[test]
@@ -145,52 +184,59 @@ fn a_stop_leaves_a_batch_whole_or_out(rt: HostRuntime) -> Result<(), Fail> {
         (4, Pick::Old, 0),
         (4, Pick::New, 64),
         (4, Pick::Bytes(0x55), 64),
+        (1, Pick::Bytes(0), 0),
+        (2, Pick::Bytes(0), 0),
+        // A gate byte of 0 is closed.
+        (3, Pick::Bytes(0), 0),
+        (4, Pick::Bytes(0), 0),
+        (5, Pick::Old, 64),
     ] {
         assert!(rt; records_left(rt.alloc(), stop, pick)? == want, "at {stop}");
     }
     Ok(())
 }
 
+/// A journal of the first version that takes 3 records: a clock in a batch whose gate is open, and a closed gate.
+const CLOCK: &[u8] =
+    b"HALTJNL1\0\0\0\0\0\0\0\x03\x55\0\0\0\x0a\x09\x07\0\0\x1f\x1a\xce\xd9\xf0\0\0";
+
+/// The first bytes of that journal, where it takes so many records and one byte is another.
+fn changed(alloc: Global, len: usize, limit: u32, at: usize, byte: u8) -> Result<Vec<u8>, Fail> {
+    let mut disk = Vec::new(alloc);
+    disk.extend_from_slice(&CLOCK[..12])?;
+    disk.extend_from_slice(&limit.to_be_bytes())?;
+    disk.extend_from_slice(&CLOCK[16..])?;
+    if at < disk.len() {
+        disk[at] = byte;
+    }
+    disk.truncate(len);
+    Ok(disk)
+}
+
 #[test]
 fn damage_is_told_with_its_offset(rt: HostRuntime) -> Result<(), Fail> {
-    for (disk, want) in [
-        (b"".as_slice(), Err(ScanError::NoJournal)),
-        (
-            b"HALTJNL1\0\0\0\0\0\0\0\x03".as_slice(),
-            Err(ScanError::NoJournal),
-        ),
-        (
-            b"HALTJNL2\0\0\0\0\0\0\0\x03\0".as_slice(),
-            Err(ScanError::NoJournal),
-        ),
-        (
-            b"HALTJNL1\0\0\0\0\0\0\0\0\0".as_slice(),
-            Err(ScanError::NoJournal),
-        ),
-        (
-            b"HALTJNL1\0\0\0\0\x77\x35\x94\x01\0".as_slice(),
-            Err(ScanError::NoJournal),
-        ),
-        (
-            b"HALTJNL1\0\0\0\0\0\0\0\x03\x01\0\0\0\0\0".as_slice(),
-            Err(ScanError::Damaged { at: 16 }),
-        ),
-        (
-            b"HALTJNL1\0\0\0\0\0\0\0\x03\x01\0\0\0\x02\x01\x0a\0".as_slice(),
-            Err(ScanError::Damaged { at: 16 }),
-        ),
-        (
-            b"HALTJNL1\0\0\0\0\0\0\0\x03\x55\0\0\0\x0a\x09\x07\0\0\x1f\x1a\xce\xd9\xf0\0\0".as_slice(),
-            Ok(1),
-        ),
-        (
-            b"HALTJNL1\0\0\0\0\0\0\0\x03\x55\0\0\0\x0a\x09\x07\0\0\x1f\x1a\xce\xd9\xf0\0".as_slice(),
-            Err(ScanError::Damaged { at: 31 }),
-        ),
+    for (len, limit, at, byte, want) in [
+        (0, 3, 16, 0, Err(ScanError::NoJournal)),
+        (16, 3, 16, 0, Err(ScanError::NoJournal)),
+        (17, 3, 7, b'3', Err(ScanError::NoJournal)),
+        (17, 0, 16, 0, Err(ScanError::NoJournal)),
+        (17, 2_000_000_001, 16, 0, Err(ScanError::NoJournal)),
+        (32, 3, 20, 0, Err(ScanError::Damaged { at: 16 })),
+        (32, 3, 22, 0x0a, Err(ScanError::Damaged { at: 16 })),
+        (28, 3, 16, 1, Err(ScanError::Damaged { at: 31 })),
+        (32, 3, 16, 0x55, Ok(1)),
+        (31, 3, 16, 0x55, Err(ScanError::Damaged { at: 31 })),
     ] {
-        assert!(rt; count_of(rt.alloc(), disk) == want);
+        let disk = changed(rt.alloc(), len, limit, at, byte)?;
+        assert!(rt; count_of(rt.alloc(), &disk) == want, "of {len} bytes");
     }
     Ok(())
+}
+
+#[test]
+fn a_frame_of_no_known_type_is_damage(rt: HostRuntime) {
+    let disk = b"HALTJNL1\0\0\0\0\0\0\0\x03\x01\0\0\0\x02\x01\x0a\0";
+    assert!(rt; count_of(rt.alloc(), disk) == Err(ScanError::Damaged { at: 16 }));
 }
 
 /// Appends a batch until the journal holds so many records.
@@ -218,7 +264,7 @@ fn a_long_journal_is_read_in_large_pieces(rt: HostRuntime) -> Result<(), Fail> {
     let before = kept.host.calls();
     let count = open(rt.alloc(), &mut kept.host)?.count();
     let calls = kept.host.calls().saturating_sub(before);
-    assert!(rt; count == 8_000 && calls == 4);
+    assert!(rt; count == 8_000 && calls == 6);
     Ok(())
 }
 
@@ -246,41 +292,67 @@ fn keep_day<H: Host>(alloc: Global, host: &mut H) -> Result<(), Fail> {
     Ok(())
 }
 
+/// Makes a file with a journal that takes 3 records, and appends a day.
+fn keep_day_in<F: Files>(files: &F, alloc: Global, path: &str) -> Result<(), Fail>
+where
+    F::File: FileExt + Held,
+{
+    // A file of an earlier run may stand there.
+    let _ = fs::remove_file(files, path);
+    keep_day(alloc, &mut over(files, path))
+}
+
+/// How many records the journal of a file holds, and how many it takes.
+fn count_in<F: Files>(files: &F, alloc: Global, path: &str) -> Result<(u64, u64), ScanError>
+where
+    F::File: FileExt + Held,
+{
+    let journal = open(alloc, &mut over(files, path))?;
+    Ok((journal.count(), journal.limit()))
+}
+
+/// Makes an empty journal of a file.
+fn format_in<F: Files>(files: &F, path: &str) -> Result<(), FormatError>
+where
+    F::File: FileExt + Held,
+{
+    format(&mut over(files, path), 5)
+}
+
 #[test]
 fn a_file_keeps_what_was_appended(rt: HostRuntime) -> Result<(), Fail> {
-    let path = "appended.journal";
-    // A file of an earlier run may stand there.
-    let _ = fs::remove_file(&rt, path);
-    keep_day(rt.alloc(), &mut over(&rt, path))?;
-    let journal = open(rt.alloc(), &mut over(&rt, path))?;
-    assert!(rt; journal.count() == 1 && journal.limit() == 3);
+    keep_day_in(&rt, rt.alloc(), "appended.journal")?;
+    assert!(rt; count_in(&rt, rt.alloc(), "appended.journal") == Ok((1, 3)));
     Ok(())
 }
 
 #[test]
 fn no_file_is_a_fault_of_the_disk(rt: HostRuntime) {
-    let mut host = over(&rt, "-");
-    let formatted = format(&mut host, 3);
-    let opened = open(rt.alloc(), &mut host).err();
-    assert!(rt; formatted == Err(FormatError::DiskFault) && opened == Some(ScanError::DiskFault));
+    assert!(rt; format_in(&rt, "-") == Err(FormatError::DiskFault));
+    assert!(rt; count_in(&rt, rt.alloc(), "-") == Err(ScanError::DiskFault));
+}
+
+/// The length of a file's disk.
+fn len_of<F: Files>(files: &F, path: &str) -> Result<u64, Failed>
+where
+    F::File: FileExt + Held,
+{
+    over(files, path).disk_len()
 }
 
 #[test]
 fn a_file_that_is_not_there_is_not_made(rt: HostRuntime) {
-    let mut host = over(&rt, "new.journal");
-    let len = host.disk_len();
-    let opened = open(rt.alloc(), &mut host).err();
-    assert!(rt; len == Ok(0) && opened == Some(ScanError::NoJournal));
-    assert!(rt; fs::remove_file(&rt, "new.journal").is_err());
+    let path = "new.journal";
+    assert!(rt; len_of(&rt, path) == Ok(0));
+    assert!(rt; count_in(&rt, rt.alloc(), path) == Err(ScanError::NoJournal));
+    assert!(rt; fs::remove_file(&rt, path).is_err());
 }
 
 #[test]
 fn a_journal_with_a_record_is_not_replaced(rt: HostRuntime) -> Result<(), Fail> {
     let path = "kept.journal";
-    let _ = fs::remove_file(&rt, path);
-    keep_day(rt.alloc(), &mut over(&rt, path))?;
-    let formatted = format(&mut over(&rt, path), 5);
-    let journal = open(rt.alloc(), &mut over(&rt, path))?;
-    assert!(rt; formatted == Err(FormatError::DiskFault) && journal.count() == 1);
+    keep_day_in(&rt, rt.alloc(), path)?;
+    assert!(rt; format_in(&rt, path) == Err(FormatError::DiskFault));
+    assert!(rt; count_in(&rt, rt.alloc(), path) == Ok((1, 3)));
     Ok(())
 }

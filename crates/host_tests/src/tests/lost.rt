@@ -1,9 +1,10 @@
 //! A file whose syncs fail.
 
 use super::disks::Step::{Len, Sync};
-use super::disks::{play, refuse};
+use super::disks::play_and_refuse;
 use host_core::{Failed, Host, JournalFile, Opens, RawFile, RealHost, Stream};
 use std::io;
+use std::process::Abort;
 use std::test::Fail;
 
 /// A file whose first sync fails, and each later one is done, as some systems do that have dropped what was written before.
@@ -71,14 +72,22 @@ impl Opens for LostFiles {
     }
 }
 
+/// A journal's file tells its length, and none of its syncs is done.
+fn file_loses<R: Abort + AllocGlobal, O: Opens + Drop>(rt: &R, files: O) -> Result<(), Fail> {
+    let file = JournalFile::new(files, "lost.bin");
+    play_and_refuse(rt, file, &[Len(0)], &[Sync, Sync])
+}
+
+/// Whether both of two syncs of a real host fail.
+fn host_loses<O: Opens + Drop>(files: O) -> bool {
+    let (input, output) = (Stream::new(io::empty()), Stream::new(io::sink()));
+    let mut host = RealHost::new(input, output, JournalFile::new(files, "lost.bin"));
+    host.disk_sync() == Err(Failed) && host.disk_sync() == Err(Failed)
+}
+
 #[test]
 fn a_sync_that_failed_is_not_passed_over(rt: HostRuntime) -> Result<(), Fail> {
-    let mut file = JournalFile::new(LostFiles, "lost.bin");
-    play(&rt, &mut file, &[Len(0)])?;
-    refuse(&rt, &mut file, &[Sync, Sync]);
-    let (input, output) = (Stream::new(io::empty()), Stream::new(io::sink()));
-    let mut host = RealHost::new(input, output, JournalFile::new(LostFiles, "lost.bin"));
-    let syncs = [host.disk_sync(), host.disk_sync()];
-    assert!(rt; syncs == [Err(Failed), Err(Failed)]);
+    file_loses(&rt, LostFiles)?;
+    assert!(rt; host_loses(LostFiles));
     Ok(())
 }

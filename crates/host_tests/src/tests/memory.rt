@@ -144,22 +144,40 @@ const WRITES: &[Step<'static>] = &[
     HasDisk(b"abXY12345"),
 ];
 
+/// What stands on the disk that a crash leaves: with no write that was not synced, with all of them, and with other bytes in
+/// their place, over an input.
+const OLD: &[Step<'static>] = &[HasDisk(b"abXYef")];
+
+const NEW: &[Step<'static>] = &[HasDisk(b"QbXY12345")];
+
+const TORN: &[Step<'static>] = &[
+    HasDisk(b"UbXYUUUUU"),
+    ReadInput(Ok(2), b"in\0"),
+    DiskRead(2, b"XYU"),
+];
+
+/// Takes steps over what a crash leaves.
+fn play_after<R: Abort>(
+    rt: &R,
+    host: &MemoryHost,
+    pick: Pick,
+    steps: &[Step<'_>],
+) -> Result<(), Fail> {
+    play(rt, &mut host.crash(pick, b"in")?, steps);
+    Ok(())
+}
+
+/// Takes the steps of each pick.
+fn play_each<R: Abort>(rt: &R, host: &MemoryHost) -> Result<(), Fail> {
+    play_after(rt, host, Pick::Old, OLD)?;
+    play_after(rt, host, Pick::New, NEW)?;
+    play_after(rt, host, Pick::Bytes(b'U'), TORN)
+}
+
 #[test]
 fn a_crash_leaves_the_picked_bytes(rt: HostRuntime) -> Result<(), Fail> {
     let mut host = MemoryHost::new(rt.alloc(), b"", b"abcdef")?;
     host.fail(Call::Write, 3)?;
     play(&rt, &mut host, WRITES);
-    let torn = [
-        HasDisk(b"UbXYUUUUU"),
-        ReadInput(Ok(2), b"in\0"),
-        DiskRead(2, b"XYU"),
-    ];
-    for (pick, input, left) in [
-        (Pick::Old, b"in".as_slice(), [HasDisk(b"abXYef")].as_slice()),
-        (Pick::New, b"", &[HasDisk(b"QbXY12345")]),
-        (Pick::Bytes(b'U'), b"in", &torn),
-    ] {
-        play(&rt, &mut host.crash(pick, input)?, left);
-    }
-    Ok(())
+    play_each(&rt, &host)
 }

@@ -1,36 +1,46 @@
 //! The journal's file over files that move a few bytes at a time.
 
-use super::disks::Step::{Len, Read, Sync, Write};
-use super::disks::{play, refuse};
+use super::disks::Step::{self, Len, Read, Sync, Write};
+use super::disks::play_and_refuse;
 use crate::ShortFiles;
-use host_core::{JournalFile, SystemFiles};
+use host_core::{Held, JournalFile, SystemFiles};
 use std::fs;
+use std::os::unix::fs::FileExt;
+use std::process::Abort;
+use std::rt::Files;
 use std::test::Fail;
+
+/// Bytes that are written over others, and read.
+const DONE: &[Step<'static>] = &[
+    Write(
+        0,
+        b"each of these bytes stands in its place, whatever a call moves",
+    ),
+    Write(8, b"THESE BYTES STAND"),
+    Sync,
+    Len(62),
+    Read(
+        0,
+        b"each of THESE BYTES STANDs in its place, whatever a call moves",
+    ),
+    Read(40, b" whatever a call moves"),
+];
+
+/// A read past the end.
+const REFUSED: &[Step<'static>] = &[Read(41, &[0; 22])];
+
+/// A file of a path does the steps.
+fn keeps_all<R: Abort + AllocGlobal, F: Files>(rt: &R, files: &F, path: &str) -> Result<(), Fail>
+where
+    F::File: FileExt + Held,
+{
+    let file = JournalFile::new(SystemFiles::new(files), path);
+    play_and_refuse(rt, file, DONE, REFUSED)
+}
 
 #[test]
 fn short_writes_and_reads_lose_nothing(rt: HostRuntime) -> Result<(), Fail> {
     // A file of an earlier run may stand there.
     let _ = fs::remove_file(&rt, "short.bin");
-    let files = ShortFiles::new(&rt);
-    let mut file = JournalFile::new(SystemFiles::new(&files), "short.bin");
-    play(
-        &rt,
-        &mut file,
-        &[
-            Write(
-                0,
-                b"each of these bytes stands in its place, whatever a call moves",
-            ),
-            Write(8, b"THESE BYTES STAND"),
-            Sync,
-            Len(62),
-            Read(
-                0,
-                b"each of THESE BYTES STANDs in its place, whatever a call moves",
-            ),
-            Read(40, b" whatever a call moves"),
-        ],
-    )?;
-    refuse(&rt, &mut file, &[Read(41, &[0; 22])]);
-    Ok(())
+    keeps_all(&rt, &ShortFiles::new(&rt), "short.bin")
 }

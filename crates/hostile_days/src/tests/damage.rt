@@ -22,7 +22,7 @@ fn number(bytes: &[u8]) -> u64 {
 fn limit_of(file: &[u8]) -> Option<u64> {
     let limit = number(file.get(8..16)?);
     let is_header = file.len() > 16
-        && file.starts_with(b"HALTJNL1")
+        && (file.starts_with(b"HALTJNL1") || file.starts_with(b"HALTJNL2"))
         && limit >= 1
         && limit <= 2_000_000_000;
     is_header.then_some(limit)
@@ -82,6 +82,40 @@ fn next_batch<'a, Rt: AllocGlobal + Threads + Sync>(
     Ok(is_held.then_some(after))
 }
 
+/// What the bytes behind a gate say of its block: whether it is a base, and how many bytes it has.
+fn mark_of(bytes: &[u8]) -> Option<(bool, usize)> {
+    let mark = number(bytes.get(1..5)?);
+    if mark >= 10 && mark <= 2_304 {
+        return Some((false, mark as usize));
+    }
+    let len = mark.checked_sub(2_147_483_648)?;
+    (len >= 40 && len <= 163_880).then_some((true, len as usize))
+}
+
+/// Where the way from gate to gate breaks off, or else the gate of the last base, whose bytes spell none here. None where it comes
+/// to a closed gate past batches alone.
+fn broken_at(file: &[u8], limit: u64) -> Option<usize> {
+    let (mut at, mut batches, mut is_behind, mut base) = (16usize, 0u64, false, None);
+    for _ in 0..file.len() {
+        let rest = file.get(at..).unwrap_or(&[]);
+        if rest.first() == Some(&0) {
+            return base;
+        }
+        let (is_base, len) = match mark_of(rest) {
+            Some((true, len)) if is_behind => (true, len),
+            Some((false, len)) if batches < limit => (false, len),
+            _ => return Some(at),
+        };
+        if is_base {
+            base = Some(at);
+        }
+        batches = batches.saturating_add(u64::from(!is_base));
+        is_behind = !is_base;
+        at = at.saturating_add(len).saturating_add(5);
+    }
+    Some(at)
+}
+
 /// How a session over a file ends, by the layout of a journal. Where it is done, the frames of the records are put behind those
 /// that are held.
 fn status_of<Rt: AllocGlobal + Threads + Sync>(
@@ -92,6 +126,9 @@ fn status_of<Rt: AllocGlobal + Threads + Sync>(
     let Some(limit) = limit_of(file) else {
         return Ok(Status::NoJournal);
     };
+    if let Some(at) = broken_at(file, limit) {
+        return Ok(Status::Damaged { at: at as u64 });
+    }
     let mut rest = file.get(16..).unwrap_or(&[]);
     for _ in 0..file.len() {
         if rest.first() == Some(&0) {

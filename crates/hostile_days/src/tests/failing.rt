@@ -4,12 +4,10 @@ use super::sent::{behind, body_of, first_frame, told};
 use super::{SERVE, Trouble, Way, expect, fresh, held_by, host_of, ran, reopened_day, run};
 use host_core::Status;
 use memory_host::{Call, MemoryHost};
-use session_core::Level;
 use std::process::Abort;
 use std::test::Fail;
 use std::thread::Threads;
 use test_days::Session;
-use test_days::lines::{at, breaker, day, tick};
 use wire_out::{Frame, get_frame};
 
 /// The status of a session in which such a call fails.
@@ -173,31 +171,4 @@ fn all_that_one_read_gave_is_answered_before_the_next_read_fails(
         )?;
     }
     Ok(())
-}
-
-/// A session that may read 21 bytes answers the frames in them, and is full.
-fn expect_full<Rt: Abort + AllocGlobal + Threads + Sync>(
-    rt: &Rt,
-    input: &[u8],
-    served: &[u8],
-) -> Result<(), Fail> {
-    let empty = fresh(rt.alloc(), 100)?;
-    let way = Way { bytes: 21, ..SERVE };
-    expect(rt, way, input, &empty, Status::SessionFull, served)
-}
-
-#[test]
-fn the_frames_before_the_most_bytes_are_answered(rt: HostRuntime) -> Result<(), Fail> {
-    let t = at(10, 0, 0);
-    let first = Session::of(rt.alloc(), &[day(3)])?;
-    let whole = Session::of(
-        rt.alloc(),
-        &[
-            day(3),
-            tick(t, 465_001),
-            tick(t, 465_000),
-            breaker(Level::One, 465_000),
-        ],
-    )?;
-    expect_full(&rt, &whole.input, &first.served)
 }

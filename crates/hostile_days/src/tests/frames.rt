@@ -239,26 +239,38 @@ impl Refusals {
     }
 }
 
+/// Frames of bodies of each type that are a byte shorter or longer.
+fn resize_all<R: Abort + AllocGlobal>(rt: &R, refusals: &mut Refusals) -> Result<(), Fail> {
+    refusals.add(rt, &[], Refusal::BadLength)?;
+    for kind in KINDS {
+        let body = body_of(kind);
+        assert!(rt; decode(&body[..body.len().min(255)]).is_ok());
+        refusals.resize(rt, body)?;
+    }
+    Ok(())
+}
+
 #[test]
 fn a_body_of_each_type_that_is_a_byte_shorter_or_longer_has_a_bad_length(
     rt: HostRuntime,
 ) -> Result<(), Fail> {
     let mut refusals = Refusals::new(rt.alloc())?;
-    refusals.add(&rt, &[], Refusal::BadLength)?;
-    for kind in KINDS {
-        let body = body_of(kind);
-        assert!(rt; decode(&body[..body.len().min(255)]).is_ok());
-        refusals.resize(&rt, body)?;
-    }
+    resize_all(&rt, &mut refusals)?;
     refusals.expect(&rt)
+}
+
+/// Frames of types that are none.
+fn misname_all<R: Abort + AllocGlobal>(rt: &R, refusals: &mut Refusals) -> Result<(), Fail> {
+    for kind in [0, 10, 17, 129, 255u8] {
+        refusals.misname(rt, kind)?;
+    }
+    Ok(())
 }
 
 #[test]
 fn a_type_that_is_none_is_refused_at_any_length(rt: HostRuntime) -> Result<(), Fail> {
     let mut refusals = Refusals::new(rt.alloc())?;
-    for kind in [0, 10, 17, 129, 255u8] {
-        refusals.misname(&rt, kind)?;
-    }
+    misname_all(&rt, &mut refusals)?;
     refusals.expect(&rt)
 }
 
@@ -301,18 +313,30 @@ const OUTSIDE: [(Kind, usize, usize, u64, u8); 35] = [
     (Indication, 19, 1, 3, 4),
 ];
 
+/// Frames of moments behind the last one of a day.
+fn write_late<R: Abort + AllocGlobal>(rt: &R, refusals: &mut Refusals) -> Result<(), Fail> {
+    for kind in KINDS {
+        refusals.write(rt, kind, 1, 8, LATE, 1)?;
+        refusals.write(rt, kind, 1, 8, u64::MAX, 1)?;
+    }
+    Ok(())
+}
+
+/// Frames of other values outside the ranges of their fields.
+fn write_outside<R: Abort + AllocGlobal>(rt: &R, refusals: &mut Refusals) -> Result<(), Fail> {
+    for (kind, at, width, value, field) in OUTSIDE {
+        refusals.write(rt, kind, at, width, value, field)?;
+    }
+    Ok(())
+}
+
 #[test]
 fn a_value_outside_the_range_of_its_field_is_told_with_the_field(
     rt: HostRuntime,
 ) -> Result<(), Fail> {
     let mut refusals = Refusals::new(rt.alloc())?;
-    for kind in KINDS {
-        refusals.write(&rt, kind, 1, 8, LATE, 1)?;
-        refusals.write(&rt, kind, 1, 8, u64::MAX, 1)?;
-    }
-    for (kind, at, width, value, field) in OUTSIDE {
-        refusals.write(&rt, kind, at, width, value, field)?;
-    }
+    write_late(&rt, &mut refusals)?;
+    write_outside(&rt, &mut refusals)?;
     refusals.expect(&rt)
 }
 
@@ -346,11 +370,17 @@ const FIRST_FAULTS: [(Kind, usize, u8); 26] = [
     (Indication, 19, 4),
 ];
 
+/// Frames of bodies with several faults.
+fn spoil_all<R: Abort + AllocGlobal>(rt: &R, refusals: &mut Refusals) -> Result<(), Fail> {
+    for (kind, at, field) in FIRST_FAULTS {
+        refusals.spoil(rt, body_of(kind), at, field)?;
+    }
+    Ok(())
+}
+
 #[test]
 fn of_several_faults_the_first_is_told(rt: HostRuntime) -> Result<(), Fail> {
     let mut refusals = Refusals::new(rt.alloc())?;
-    for (kind, at, field) in FIRST_FAULTS {
-        refusals.spoil(&rt, body_of(kind), at, field)?;
-    }
+    spoil_all(&rt, &mut refusals)?;
     refusals.expect(&rt)
 }

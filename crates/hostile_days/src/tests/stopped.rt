@@ -14,7 +14,7 @@ use test_days::Session;
 use test_days::lines::{at, clock};
 
 /// What a stop may leave of each piece that was written and not yet synced.
-const PICKS: [Pick; 3] = [Pick::Old, Pick::New, Pick::Bytes(0x55)];
+const PICKS: [Pick; 4] = [Pick::Old, Pick::New, Pick::Bytes(0x55), Pick::Bytes(0)];
 
 /// All records as one batch.
 const WHOLE: Way = Way {
@@ -68,6 +68,22 @@ fn expect_recovery<Rt: Abort + AllocGlobal + Threads + Sync>(
     expect_rest(rt, day, left.disk(), workers, least)
 }
 
+/// A session that was stopped has sent a prefix of the answers, and whatever it leaves is gone on from.
+fn expect_stop<Rt: Abort + AllocGlobal + Threads + Sync>(
+    rt: &Rt,
+    day: &Session,
+    host: &MemoryHost,
+    workers: u32,
+) -> Result<(), Fail> {
+    let sent = messages(rt.alloc(), host.sent())?;
+    let is_prefix = day.served.starts_with(host.sent()) && day.replayed.starts_with(&sent);
+    assert!(rt; is_prefix, "stopped at {}", host.calls());
+    for pick in PICKS {
+        expect_recovery(rt, day, host, workers, pick)?;
+    }
+    Ok(())
+}
+
 /// Serves the day up to a stop, and starts again over what it leaves. Answers whether the session was stopped.
 fn stopped_at<Rt: Abort + AllocGlobal + Threads + Sync>(
     rt: &Rt,
@@ -79,14 +95,7 @@ fn stopped_at<Rt: Abort + AllocGlobal + Threads + Sync>(
     let trouble = Trouble::Stops(nth);
     let mut host = host_of(rt.alloc(), Way { trouble, ..way }, &day.input, empty)?;
     let status = run(rt, way, &mut host);
-    assert!(rt; day.served.starts_with(host.sent()), "stopped at {nth}");
-    assert!(rt;
-        day.replayed
-            .starts_with(&messages(rt.alloc(), host.sent())?)
-    );
-    for pick in PICKS {
-        expect_recovery(rt, day, &host, way.workers, pick)?;
-    }
+    expect_stop(rt, day, &host, way.workers)?;
     Ok(status != Status::Done)
 }
 
@@ -147,6 +156,24 @@ fn expect_held<Rt: Abort + AllocGlobal + Threads + Sync>(
     Ok(())
 }
 
+/// A second session goes on over a host behind one that was disturbed, up to a stop where one is told. Answers whether the first
+/// one ended at a sync.
+fn goes_on_behind<Rt: Abort + AllocGlobal + Threads + Sync>(
+    rt: &Rt,
+    way: Way,
+    host: &mut MemoryHost,
+    stop: Option<u64>,
+) -> Result<bool, Fail> {
+    let first = run(rt, way, host);
+    let before = told(host.sent()).acknowledged;
+    let after = goes_on(rt, way, host, stop);
+    let is_greeted = first == Status::Done || stop.is_some() || after.held.is_some();
+    let is_answer = first == Status::Done || first == Status::DiskFault;
+    assert!(rt; is_answer && is_greeted && after.held.unwrap_or(u64::MAX) >= before);
+    expect_held(rt, host, before.max(after.acknowledged))?;
+    Ok(first != Status::Done)
+}
+
 /// A sync fails, and a second session goes on over the same host, up to a stop where one is told. Answers whether the first
 /// session ended at the sync.
 fn goes_on_with_writes_pending<Rt: Abort + AllocGlobal + Threads + Sync>(
@@ -159,14 +186,7 @@ fn goes_on_with_writes_pending<Rt: Abort + AllocGlobal + Threads + Sync>(
 ) -> Result<bool, Fail> {
     let trouble = Trouble::Fails(Call::Sync, sync);
     let mut host = host_of(rt.alloc(), Way { trouble, ..way }, &day.input, empty)?;
-    let first = run(rt, way, &mut host);
-    let before = told(host.sent()).acknowledged;
-    let after = goes_on(rt, way, &mut host, stop);
-    let is_greeted = first == Status::Done || stop.is_some() || after.held.is_some();
-    assert!(rt; first == Status::Done || first == Status::DiskFault);
-    assert!(rt; is_greeted && after.held.unwrap_or(u64::MAX) >= before);
-    expect_held(rt, &host, before.max(after.acknowledged))?;
-    Ok(first != Status::Done)
+    goes_on_behind(rt, way, &mut host, stop)
 }
 
 /// How many of the syncs below a number end a session where they fail. A second session goes on behind each.
@@ -220,6 +240,18 @@ fn day_of_64(alloc: Global) -> Result<Session, Fail> {
     Ok(Session::of(alloc, &lines)?)
 }
 
+/// Whatever a session leaves has all of 64 records or none.
+fn expect_all_or_none<Rt: Abort + AllocGlobal + Threads + Sync>(
+    rt: &Rt,
+    host: &MemoryHost,
+) -> Result<(), Fail> {
+    for pick in PICKS {
+        let held = held_by(rt, host.crash(pick, b"")?.disk())?;
+        assert!(rt; held == 0 || held == 64, "{held} are held");
+    }
+    Ok(())
+}
+
 /// Serves the day up to a stop, which leaves all of its records or none. Answers whether the session was stopped.
 fn leaves_all_or_none<Rt: Abort + AllocGlobal + Threads + Sync>(
     rt: &Rt,
@@ -233,11 +265,23 @@ fn leaves_all_or_none<Rt: Abort + AllocGlobal + Threads + Sync>(
     };
     let mut host = host_of(rt.alloc(), way, &day.input, empty)?;
     let status = run(rt, way, &mut host);
-    for pick in PICKS {
-        let held = held_by(rt, host.crash(pick, b"")?.disk())?;
-        assert!(rt; held == 0 || held == 64, "{held} after {nth}");
-    }
+    expect_all_or_none(rt, &host)?;
     Ok(status != Status::Done)
+}
+
+/// Stops the day at each of its calls: how many of them disturb it.
+fn stopped_in_turn<Rt: Abort + AllocGlobal + Threads + Sync>(
+    rt: &Rt,
+    day: &Session,
+    empty: &[u8],
+) -> Result<u64, Fail> {
+    let mut calls = 0u64;
+    for nth in 1..100u64 {
+        let is_stopped = leaves_all_or_none(rt, day, empty, nth)?;
+        calls = calls.saturating_add(u64::from(is_stopped));
+        stopped_at(rt, day, empty, SERVE, nth)?;
+    }
+    Ok(calls)
 }
 
 #[test]
@@ -245,11 +289,7 @@ fn a_stop_leaves_all_of_a_batch_of_64_records_or_none(rt: HostRuntime) -> Result
     let day = day_of_64(rt.alloc())?;
     let empty = fresh(rt.alloc(), 100)?;
     expect(&rt, SERVE, &day.input, &empty, Status::Done, &day.served)?;
-    let mut calls = 0u64;
-    for nth in 1..100u64 {
-        calls = calls.saturating_add(u64::from(leaves_all_or_none(&rt, &day, &empty, nth)?));
-        stopped_at(&rt, &day, &empty, SERVE, nth)?;
-    }
+    let calls = stopped_in_turn(&rt, &day, &empty)?;
     assert!(rt; calls > 8 && calls < 99);
     Ok(())
 }
