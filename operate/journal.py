@@ -10,15 +10,19 @@ import threading
 from ends import DONE, USAGE, Ended, Stop
 from kept import BLOCK, REFUSED, cut, frames_of, number_at
 
+# what the length of a base has more than its bytes
+BASE = 1 << 31
+
 
 def batches(path):
-    """Where the frames of each batch stand in the journal, and how many bytes they have."""
+    """Where the frames of each batch stand in the journal, and how many bytes they have. Bases are passed."""
     at = 16
     with open(path, "rb", buffering=0) as file:
         while (head := os.pread(file.fileno(), 5, at))[:1] not in (b"", b"\0"):
             size = int.from_bytes(head[1:], "big")
-            yield at + 5, size
-            at += 5 + size
+            if size < BASE:
+                yield at + 5, size
+            at += 5 + size % BASE
 
 
 def records_in(path, places):

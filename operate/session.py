@@ -171,7 +171,7 @@ class Session:
             messages.held = sent
         if held < answers.accepted or sent != messages.held:
             raise Stop(MISMATCH, "the journal has %d records and %d messages, and %s has %d and %d: it is not the journal of this "
-                       "folder, or its disk lost what it had confirmed" % (
+                       "folder, its disk lost what it had confirmed, or it was rolled before the folder had all messages" % (
                            held, sent, self.options.folder, answers.accepted, messages.held))
         if not desk.request.asked:
             self.settle(held, held - answers.accepted)

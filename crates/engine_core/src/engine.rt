@@ -114,8 +114,10 @@ impl Engine {
     /// The base of the records, which were all evaluated, and of which this day is the last one. By one worker.
     pub fn base(&self, alloc: Global, day: &Record) -> Result<Base, NoMemory>
         requires alone { workers_of self.now.evaluator ≡ 1 }
-        ensures { IfOk result (λ base. (capacity : ℕ) (earlier : List Record) → is_day day.now ≡ true
+        ensures base { IfOk result (λ base. (capacity : ℕ) (earlier : List Record) → is_day day.now ≡ true
             → Represents self.now capacity (day.now ∷ earlier) (day.now ∷ earlier) → base_of (day.now ∷ earlier) ≡ Some base) }
+        ensures numbers { IfOk result (λ base. (base.records ≡ self.now.evaluated) × (base.messages ≡ self.now.published)) }
+        ensures day { IfOk result (λ base. base.day ≡ day.now) }
     {
         self.evaluator
             .base(alloc, self.evaluated, self.published, day)
@@ -149,13 +151,15 @@ impl Engine {
     pub fn unite(&mut self, alloc: Global) -> Result<(), NoMemory>
         ensures represents { (capacity : ℕ) (accepted evaluated : List Record) → Represents self.old capacity accepted evaluated → IsIdle self.old.evaluator
             → OnOk result (Represents self.new capacity accepted evaluated) }
+        ensures stands { (capacity : ℕ) (accepted evaluated : List Record) → Stands self.old capacity accepted evaluated → IsIdle self.old.evaluator
+            → OnOk result (Stands self.new capacity accepted evaluated) }
         ensures idle { IsIdle self.old.evaluator → OnOk result (IsIdle self.new.evaluator) }
         ensures workers { OnOk result (workers_of self.new.evaluator ≡ 1) }
         ensures roomy { IsRoomy self.old → OnOk result (IsRoomy self.new) }
         ensures rest { self.new ≡ record self.old { evaluator = self.new.evaluator } }
         ensures alone { workers_of self.old.evaluator ≡ 1 → IsOk result }
         ensures working { OnOk result (IsWorking self.new.evaluator) }
-        ensures succeeds { (capacity : ℕ) (accepted evaluated : List Record) → Represents self.old capacity accepted evaluated → IsIdle self.old.evaluator
+        ensures succeeds { (capacity : ℕ) (accepted evaluated : List Record) → Stands self.old capacity accepted evaluated → IsIdle self.old.evaluator
             → IsWorking self.old.evaluator → IsOk result }
     {
         self.evaluator.unite(alloc)

@@ -1,6 +1,6 @@
 //! What is sent for a frame, appended to what waits.
 
-ghost use Rattle.std.specs.Prelude.{◌≡◌, ◌≢◌, ◌+◌, ◌*◌, ◌<◌, ◌≤◌, ◌^◌, ◌++◌, ◌∷◌, [], ℕ, Bool, List, Option, None, Ok, Err, IfErr, OnOk, length, vec_len};
+ghost use Rattle.std.specs.Prelude.{◌≡◌, ◌≢◌, ◌+◌, ◌*◌, ◌<◌, ◌≤◌, ◌^◌, ◌++◌, ◌∷◌, [], ℕ, Bool, List, Option, None, Ok, Err, IfErr, IsOk, OnOk, length, vec_len};
 ghost use Rattle.std.specs.Io.KnownBytes.{append_known};
 ghost use Rattle.host_core.specs.Outside.{Elapses};
 ghost use Rattle.host_core.specs.Frames.{OnlySends};
@@ -39,6 +39,7 @@ pub fn append_messages<H: Host>(
     ensures keeps { OnlySends (H.outside host.old) (H.outside host.new) }
     ensures causes { Causes result (H.outside host.old) (H.outside host.new) }
     ensures fault { IfErr result (λ fault. fault ≡ Fault.Send) }
+    ensures none { messages.now ≡ [] → (IsOk result) × (outbox.new ≡ outbox.old) × (host.new ≡ host.old) }
 {
     let mut number = before;
     for message in messages {
@@ -83,6 +84,7 @@ fn give_up<H: Host>(outbox: &mut Outbox, host: &mut H) -> Fault
     ensures cause { HasCause result (H.outside host.old) (H.outside host.new) }
     ensures unread { result ≢ Fault.Read }
     ensures unkept { result ≢ Fault.Disk }
+    ensures idle { outbox.old ≡ [] → (result ≡ Fault.Memory) × (host.new ≡ host.old) }
 {
     match outbox.flush(host) {
         Ok(()) => Fault::Memory,
@@ -120,6 +122,8 @@ pub fn evaluate<H: Host>(
     ensures causes { Causes result (H.outside host.old) (H.outside host.new) }
     ensures unread { result ≢ Err Fault.Read }
     ensures unkept { result ≢ Err Fault.Disk }
+    ensures unsent { OnOk result ((outbox.new ≡ outbox.old) × (host.new ≡ host.old)) }
+    ensures idle { outbox.old ≡ [] → (result ≢ Err Fault.Send) × (host.new ≡ host.old) }
     ensures roomy { IsRoomy engine.old → OnOk result (IsRoomy engine.new) }
     ensures starved { (begin : Option (List ℕ)) (text : List ℕ) → IsRoomy engine.old → Expects begin (H.outside host.old).sent outbox.old text
         → result ≡ Err Fault.Memory → IsShort (workers_of engine.old.evaluator) (Ok x.now) begin (H.outside host.new).sent text }

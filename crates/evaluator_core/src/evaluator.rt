@@ -73,8 +73,10 @@ impl Evaluator {
         day: &Record,
     ) -> Result<Base, NoMemory>
         requires alone { workers_of self.now ≡ 1 }
-        ensures { IfOk result (λ base. (earlier : List Record) → is_day day.now ≡ true → Represents self.now (day.now ∷ earlier) → records ≡ length (day.now ∷ earlier)
+        ensures base { IfOk result (λ base. (earlier : List Record) → is_day day.now ≡ true → Represents self.now (day.now ∷ earlier) → records ≡ length (day.now ∷ earlier)
             → messages ≡ length (messages_of (day.now ∷ earlier)) → base_of (day.now ∷ earlier) ≡ Some base) }
+        ensures numbers { IfOk result (λ base. (base.records ≡ records) × (base.messages ≡ messages)) }
+        ensures day { IfOk result (λ base. base.day ≡ day.now) }
     {
         match self {
             Evaluator::One(market) => market.base(alloc, records, messages, day),

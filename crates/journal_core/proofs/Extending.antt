@@ -1,30 +1,29 @@
 -- The file of a journal, batch by batch.
-use Rattle.std.proofs.Common.{◌≡◌, ◌≢◌, ℕ, suc, ◌+◌, ◌-◌, ◌≤◌, List, [], ◌∷◌, ◌++◌, length, take, drop, sym, ap, subst, ◌∙◌, arith, append_assoc, append-nil, length-append, length-take-le, length-drop, take_at, drop_at, take-append-drop, drop-drop, le_trans}
+use Rattle.std.proofs.Common.{◌≡◌, ◌≢◌, ℕ, suc, ◌+◌, ◌-◌, ◌≤◌, List, [], ◌∷◌, ◌++◌, length, take, drop, sym, ap, subst, ◌∙◌, arith, append_assoc, append-nil, length-append, length-take-le, take_at, drop_at, take-append-drop, drop-drop, le_trans}
 use Rattle.std.specs.Prelude.{Some, option_map, reverse, Result, Err}
-use Rattle.std.specs.List.{flat_map}
 use Rattle.std.proofs.lemmas.Grind.{flat_map-append}
-use Rattle.std.proofs.lemmas.List.{reverse-append}
 use Rattle.std.proofs.lemmas.List.Elements.{All-nil, All-cons, All-append}
-use Rattle.host_core.specs.Outside.{Outside, Rose, Torn, written}
+use Rattle.host_core.specs.Outside.{Outside, Rose, written}
 use Rattle.host_core.proofs.Moments.{rose_within}
 use Rattle.wire_in.specs.declared.record.Record.{Record}
 use Rattle.journal_core.specs.declared.error.AppendError.{AppendError}
 use Rattle.journal_core.specs.declared.error.AppendError.TheVariants.{Full, DiskFault}
-use Rattle.journal_core.specs.Layout.{IsBatch, HoldsTo, content, frames_of, records_of, stored_batch, with_batch}
+use Rattle.journal_core.specs.Layout.{IsBatch, HoldsTo, block_of, content, frames_of, records_of, stored_batch, with_batch}
 use Rattle.journal_core.specs.Journal.{JournalState, IsOfDisk}
+use Rattle.journal_core.proofs.Batches.{records_first}
 use Rattle.journal_core.proofs.Images.{room, from_gate}
 use Rattle.journal_core.proofs.OneList.{alone}
 use Rattle.journal_core.proofs.Offsets.{appended_holds}
 use Rattle.journal_core.specs.Extended.{opened_batches, HaveAtMost, IsExtended, Extends, IsGrown}
 use Rattle.host_core.proofs.Torns.{torn_whole, torn_within, torn_twice}
-use Rattle.journal_core.proofs.Appended.{stored_is}
+use Rattle.journal_core.proofs.Appended.{batch_may, stored_is}
 
 -- a closed gate over a closed gate
 same_gate : {capacity gate : ℕ} {held : List Record} {disk : List ℕ} → HoldsTo capacity gate held disk → written gate (0 ∷ []) disk ≡ disk
 same_gate {gate = gate} {disk = disk} holds =
-    let behind : drop (gate + 1) disk ≡ holds.rest = sym (drop-drop 1 gate disk) ∙ ap (drop 1) (from_gate holds.leads) in
+    let behind : drop (gate + 1) disk ≡ holds.rest = sym (drop-drop 1 gate disk) ∙ ap (drop 1) (from_gate holds.passes) in
     append_assoc (take gate disk) (0 ∷ []) (drop (gate + 1) disk)
-    ∙ ap (λ (l : List ℕ). take gate disk ++ l) (ap (λ (l : List ℕ). 0 ∷ l) behind ∙ sym (from_gate holds.leads))
+    ∙ ap (λ (l : List ℕ). take gate disk ++ l) (ap (λ (l : List ℕ). 0 ∷ l) behind ∙ sym (from_gate holds.passes))
     ∙ take-append-drop gate disk
 
 -- nothing was written
@@ -47,8 +46,8 @@ extends_by most old new journal batch few later of_disk valid is = record { late
   where
     grown : (capacity gate : ℕ) (held : List Record) (disk : List ℕ) → old.disk ≡ Some disk → HoldsTo capacity gate held disk → IsExtended capacity gate most held disk new.disk
     grown capacity gate held disk known holds =
-        let mine = (of_disk disk known).1.held in
-        let one = alone.batches disk capacity gate holds.batches holds.rest journal.capacity journal.gate mine.batches mine.rest holds.leads mine.leads in
+        let mine = of_disk disk known in
+        let one = alone.blocks disk capacity gate holds.blocks holds.rest journal.capacity journal.gate mine.blocks mine.rest holds.passes mine.passes in
         let made : new.disk ≡ Some (written journal.gate (stored_batch batch) disk) = is ∙ ap (option_map (written journal.gate (stored_batch batch))) known in
         let offset : gate + (length (frames_of batch) + 5) ≡ gate + length (opened_batches (batch ∷ [])) = omega (arith, ap length (append-nil (1 ∷ content batch))) in
         record {
@@ -58,7 +57,7 @@ extends_by most old new journal batch few later of_disk valid is = record { late
           file = made ∙ (λ i. Some (written (sym one.2 i) (stored_is batch i) disk));
           holds = subst (λ (b : List ℕ). HoldsTo capacity (gate + length (opened_batches (batch ∷ []))) (records_of (batch ∷ []) ++ held) (written gate b disk)) (stored_is batch)
               (subst (λ (r : List Record). HoldsTo capacity (gate + length (opened_batches (batch ∷ []))) (r ++ held) (written gate (stored_batch batch) disk)) (ap reverse (sym (append-nil batch)))
-              (subst (λ (g : ℕ). HoldsTo capacity g (with_batch held batch) (written gate (stored_batch batch) disk)) offset (appended_holds batch valid holds)));
+              (subst (λ (g : ℕ). HoldsTo capacity g (with_batch held batch) (written gate (stored_batch batch) disk)) offset (appended_holds (block_of batch) holds (batch_may batch holds.blocks held valid))));
         }
 
 -- batches behind batches
@@ -91,10 +90,6 @@ written_on gate first second disk within =
     one_more : (l : List ℕ) → length (l ++ 0 ∷ []) ≡ suc (length l)
     one_more l = omega (arith, length-append l (0 ∷ []))
 
-records_of-append : (a b : List (List Record)) → records_of (a ++ b) ≡ records_of b ++ records_of a
-records_of-append a b =
-    ap reverse (flat_map-append (λ (batch : List Record). batch) a b) ∙ reverse-append (flat_map (λ (batch : List Record). batch) a) (flat_map (λ (batch : List Record). batch) b)
-
 pub extends_on : (most : ℕ) (old mid new : Outside) → Extends most old mid → Extends most mid new → Extends most old new
 extends_on most old mid new first second = record { later = omega (arith, first.later, second.later); file = λ rose capacity gate held disk known holds. both rose capacity gate held disk known holds }
   where
@@ -107,12 +102,12 @@ extends_on most old mid new first second = record { later = omega (arith, first.
         let a = opened_batches one.batches in
         let b = opened_batches two.batches in
         let opened : opened_batches (one.batches ++ two.batches) ≡ a ++ b = flat_map-append (λ (batch : List Record). 1 ∷ content batch) one.batches two.batches in
-        let within : gate ≤ length disk = omega (arith, room holds.leads) in
+        let within : gate ≤ length disk = omega (arith, room holds.passes) in
         let image : written (gate + length a) (b ++ 0 ∷ []) (written gate (a ++ 0 ∷ []) disk) ≡ written gate (opened_batches (one.batches ++ two.batches) ++ 0 ∷ []) disk =
         written_on gate a b disk within ∙ ap (λ (l : List ℕ). written gate (l ++ 0 ∷ []) disk) (sym opened) in
         let offset : (gate + length a) + length b ≡ gate + length (opened_batches (one.batches ++ two.batches)) = omega (arith, ap length opened, length-append a b) in
         let records : records_of two.batches ++ (records_of one.batches ++ held) ≡ records_of (one.batches ++ two.batches) ++ held =
-        sym (append_assoc (records_of two.batches) (records_of one.batches) held) ∙ ap (λ (r : List Record). r ++ held) (sym (records_of-append one.batches two.batches)) in
+        sym (append_assoc (records_of two.batches) (records_of one.batches) held) ∙ ap (λ (r : List Record). r ++ held) (sym (records_first one.batches two.batches)) in
         record {
           batches = one.batches ++ two.batches;
           valid = All-append IsBatch one.batches two.batches one.valid two.valid;
@@ -143,8 +138,8 @@ grown_small fewer few g = record { next = g.next; holds = g.holds; behind = g.be
 
 pub only_disk : {T : Type 0} (result : Result T AppendError) (error : AppendError) → result ≡ Err error → (capacity : ℕ) → ((limit : ℕ) → result ≡ Err (Full limit) → limit ≡ capacity)
     → result ≢ Err (Full capacity) → result ≡ Err DiskFault
-only_disk result DiskFault is capacity limits room = is
-only_disk result (Full limit) is capacity limits room = absurd (room (is ∙ ap (λ (l : ℕ). Err (Full l)) (limits limit is)))
+only_disk result DiskFault is capacity limits fits = is
+only_disk result (Full limit) is capacity limits fits = absurd (fits (is ∙ ap (λ (l : ℕ). Err (Full l)) (limits limit is)))
 
 -- and batches that follow a batch grow the file from before it
 pub grown_behind : {capacity gate most : ℕ} {records : List Record} {pending : List (List Record)} {disk image : List ℕ} (batch : List Record) → gate ≤ length disk

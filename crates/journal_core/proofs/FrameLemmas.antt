@@ -1,6 +1,7 @@
 -- Records and their frames.
 use Rattle.std.proofs.Common.{◌≡◌, ℕ, suc, ◌+◌, ◌*◌, ◌<◌, ◌≤◌, List, [], ◌∷◌, ◌++◌, length, get_or, take, refl, inl, inr, sym, ap, subst, ◌∙◌, arith, append_assoc, length-append}
-use Rattle.std.specs.Prelude.{All, Ok}
+use Rattle.std.specs.Prelude.{All, Ok, true, false}
+use Rattle.std.specs.List.{flat_map}
 use Rattle.std.proofs.lemmas.List.{append-nil, take_more, get_or_past}
 use Rattle.std.proofs.lemmas.Bool.{cases_lt}
 use Rattle.std.proofs.lemmas.Grind.{flat_map-append}
@@ -13,7 +14,12 @@ use Rattle.wire_in.specs.Spelling.{InRange, body_of}
 use Rattle.wire_in.specs.Reading.{record_of}
 use Rattle.wire_in.proofs.DecodesOnly.{record_found}
 use Rattle.wire_in.proofs.Streams.{records_differ}
-use Rattle.journal_core.specs.Layout.{frame_of, frames_of}
+use Rattle.wire_core.specs.Frames.{framed}
+use Rattle.wire_in.specs.Bases.{SpellsBase}
+use Rattle.wire_in.specs.declared.base.Base.{Base}
+use Rattle.wire_in.proofs.BaseForms.{day-length}
+use Rattle.wire_in.proofs.OneBase.{behind_day, few_carried, has_form, ids-length, names-length, tail_of}
+use Rattle.journal_core.specs.Layout.{IsBatch, IsLength, frame_of, frames_of}
 
 -- what decodes from its own body is sound
 pub sound_from_bytes : (x : Record) → IsBytes (body_of x) → record_of (body_of x) ≡ Ok x → IsSound x
@@ -35,6 +41,42 @@ pub frames_most : (xs : List Record) → All IsSound xs → length (frames_of xs
 frames_most [] sound = omega arith
 frames_most (x ∷ xs) sound =
     omega (arith, length-append (frame_of x) (frames_of xs), frame_most x (All-head IsSound x xs sound).ranges, frames_most xs (All-tail IsSound x xs sound))
+
+-- and the shortest that of a clock
+frame_least : (x : Record) → 10 ≤ length (frame_of x)
+frame_least (Day m d v) = omega arith
+frame_least (Listing m n t l c) = omega (arith, length-append {A = ℕ})
+frame_least (Trade m s n p z f) = omega arith
+frame_least (Cancel m s n) = omega arith
+frame_least (Quote m s b o y z) = omega arith
+frame_least (IndexTick m v) = omega arith
+frame_least (Clock m) = omega arith
+frame_least (Notice m s k) = omega arith
+frame_least (Indication m s p u) = omega arith
+
+frames_ten : (xs : List Record) → 10 * length xs ≤ length (frames_of xs)
+frames_ten [] = omega arith
+frames_ten (x ∷ xs) = omega (arith, length-append (frame_of x) (frames_of xs), frame_least x, frames_ten xs)
+
+-- the lengths of batches and of bases
+pub batch_form : (batch : List Record) → IsBatch batch → IsLength false (length (frames_of batch))
+batch_form batch valid = (omega (arith, frames_ten batch, valid.least), omega (arith, frames_most batch valid.sound, valid.most))
+
+pub base_size : (body : List ℕ) (b : Base) → SpellsBase body b → length body ≡ 40 + 8 * length b.names + 2 * length b.carried
+base_size body b s =
+    let f = has_form body b s in
+    omega (
+      arith,
+      ap length f.bytes,
+      day-length b.day f.begins,
+      names-length b.names f.sizes,
+      ids-length b.carried,
+      length-append (framed (body_of b.day)) (behind_day b),
+      length-append (flat_map (λ name. name) b.names) (tail_of b),
+    )
+
+pub base_form : (body : List ℕ) (b : Base) → SpellsBase body b → IsLength true (length body)
+base_form body b s = (omega (arith, base_size body b s), omega (arith, base_size body b s, s.ranges.few, few_carried b s.ranges))
 
 pub frames_least : (xs : List Record) → length xs ≤ length (frames_of xs)
 frames_least [] = omega arith

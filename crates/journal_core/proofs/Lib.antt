@@ -1,6 +1,8 @@
 mod FrameLemmas
+pub mod Marks
 pub mod Images
 pub mod OneList
+pub mod Batches
 pub mod Offsets
 pub mod Places
 pub mod Appended
@@ -9,4 +11,8 @@ mod AtGateLemmas
 mod AheadLemmas
 mod ScanLemmas
 mod HeaderLemmas
+pub mod Walking
+pub mod Starts
+mod Based
 pub mod Readable
+pub mod Finishing

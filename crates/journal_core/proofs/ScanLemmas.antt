@@ -1,42 +1,62 @@
 -- What a scan has read, step by step.
-use Rattle.std.proofs.Common.{◌≡◌, ◌⊎◌, inl, inr, ℕ, ◌+◌, ◌≤◌, List, [], ◌∷◌, ◌++◌, length, get_or, take, drop, refl, sym, ap, subst, ◌∙◌, arith, append_assoc, length-append, take-append-drop}
-use Rattle.std.specs.Prelude.{true, false, reverse, IsTrue}
-use Rattle.std.proofs.lemmas.List.{append-nil, take_at, take-append-le, nil_from_length, length-reverse}
+use Rattle.std.proofs.Common.{◌≡◌, ◌≢◌, ◌⊎◌, inl, inr, ℕ, ◌+◌, ◌≤◌, List, [], ◌∷◌, ◌++◌, length, get_or, take, drop, refl, sym, ap, subst, ◌∙◌, arith, append_assoc, length-append, take-append-drop}
+use Rattle.std.specs.Prelude.{true, false, reverse, IsTrue, Option}
+use Rattle.std.proofs.lemmas.List.{append-nil, take_at, take-append-le, nil_from_length, length-reverse, length-drop}
+use Rattle.wire_in.specs.declared.base.Base.{Base}
 use Rattle.wire_in.specs.declared.record.Record.{Record}
-use Rattle.journal_core.specs.Layout.{Opens, LeadsTo, frames_of, content, header, records_of}
+use Rattle.journal_core.specs.Layout.{IsBatch, Opens, frames_of, content, records_of}
 use Rattle.journal_core.specs.AtGate.{IsDamaged}
-use Rattle.journal_core.specs.Scan.{ScanState, HasRead}
-use Rattle.journal_core.proofs.Images.{moved, from_gate, opened, records_of-push}
+use Rattle.journal_core.specs.Scan.{ScanState, HasRead, LeadsTo}
+use Rattle.journal_core.proofs.Batches.{batch_more, records_more}
+use Rattle.journal_core.proofs.Images.{followed}
+use Rattle.journal_core.proofs.Starts.{led_from}
 use Rattle.journal_core.proofs.FrameLemmas.{frames_most}
+
+-- what follows is spelled in another way
+led_on : {capacity gate : ℕ} {base : Option Base} {batches : List (List Record)} {disk rest : List ℕ} (other : List ℕ) → rest ≡ other → LeadsTo capacity gate base batches disk rest → LeadsTo capacity gate base batches disk other
+led_on {capacity} {gate} {base} {batches} {disk} other is p = subst (λ (l : List ℕ). LeadsTo capacity gate base batches disk l) is p
+
+-- a batch more
+led_more : {capacity gate : ℕ} {base : Option Base} {batches : List (List Record)} {disk : List ℕ} {mark : ℕ} (batch : List Record) (after : List ℕ)
+    → LeadsTo capacity gate base batches disk (mark ∷ (content batch ++ after)) → mark ≢ 0 → IsBatch batch → LeadsTo capacity (gate + (length (frames_of batch) + 5)) base (batches ++ batch ∷ []) disk after
+led_more {batches = batches} {mark = mark} batch after p open_mark valid = record {
+  passed = p.passed;
+  ends = p.ends;
+  start = p.start;
+  prefix = p.prefix ++ mark ∷ content batch;
+  passes = followed p.passes ((p.prefix ++ mark ∷ content batch) ++ after) (sym (append_assoc p.prefix (mark ∷ content batch) after));
+  spelled = batch_more batches p.prefix mark batch open_mark valid p.spelled;
+  offset = omega (arith, p.offset, length-append p.prefix (mark ∷ content batch));
+  later = p.later;
+  last = p.last;
+  walk = p.walk;
+}
 
 -- more was read ahead
 pub reads_on : (old : ScanState) (ahead rest : List ℕ) (batches : List (List Record)) (disk : List ℕ) → HasRead old batches disk → drop old.gate disk ≡ ahead ++ rest → HasRead (record old { ahead = ahead }) batches disk
 reads_on old ahead rest batches disk read is =
-    let same : old.ahead ++ read.rest ≡ ahead ++ rest = sym (from_gate read.leads) ∙ is in
+    let same : old.ahead ++ read.rest ≡ ahead ++ rest = sym (led_from read.leads) ∙ is in
     record {
       size = read.size;
       rest = rest;
-      leads = moved read.leads disk (ahead ++ rest) (read.leads.whole ∙ ap (λ (l : List ℕ). (header old.capacity ++ read.leads.prefix) ++ l) same);
+      leads = led_on (ahead ++ rest) same read.leads;
       count = read.count;
       closed = λ is_closed. let zero = read.closed is_closed in (zero.0, sym same ∙ zero.1);
     }
 
 -- a batch was taken
 module _ (old new : ScanState) (batch : List Record) (opens : Opens batch old.ahead new.ahead) (gates : new.gate ≡ old.gate + (length (frames_of batch) + 5))
-    (counts : new.count ≡ old.count + length batch) (limits : new.capacity ≡ old.capacity) (sizes : new.size ≡ old.size) (not_closed : new.is_closed ≡ false) where
+    (counts : new.count ≡ old.count + length batch) (limits : new.capacity ≡ old.capacity) (bases : new.base ≡ old.base) (sizes : new.size ≡ old.size) (not_closed : new.is_closed ≡ false) where
   pub took_batch : (batches : List (List Record)) (disk : List ℕ) → HasRead old batches disk → HasRead new (batches ++ batch ∷ []) disk
   took_batch batches disk read =
       let behind : old.ahead ++ read.rest ≡ opens.gate ∷ (content batch ++ (new.ahead ++ read.rest)) =
       ap (λ (l : List ℕ). l ++ read.rest) opens.whole ∙ ap (λ (l : List ℕ). opens.gate ∷ l) (append_assoc (content batch) new.ahead read.rest) in
-      let before : LeadsTo old.capacity old.gate batches disk (opens.gate ∷ (content batch ++ (new.ahead ++ read.rest))) =
-      moved read.leads disk _ (read.leads.whole ∙ ap (λ (l : List ℕ). (header old.capacity ++ read.leads.prefix) ++ l) behind) in
-      let after = opened batch (new.ahead ++ read.rest) before opens.not_closed opens.valid in
+      let after = led_more batch (new.ahead ++ read.rest) (led_on (opens.gate ∷ (content batch ++ (new.ahead ++ read.rest))) behind read.leads) opens.not_closed opens.valid in
       record {
         size = sizes ∙ read.size;
         rest = read.rest;
-        leads = subst (λ (l : ℕ). LeadsTo l new.gate (batches ++ batch ∷ []) disk (new.ahead ++ read.rest)) (sym limits)
-            (subst (λ (g : ℕ). LeadsTo old.capacity g (batches ++ batch ∷ []) disk (new.ahead ++ read.rest)) (sym gates) after);
-        count = omega (arith, counts, read.count, ap length (records_of-push batches batch), length-append (reverse batch) (records_of batches), length-reverse batch);
+        leads = rw (limits, bases, gates) after;
+        count = rw bases (omega (arith, counts, read.count, ap length (records_more batches batch), length-append (reverse batch) (records_of batches), length-reverse batch));
         closed = λ is_closed. absurd (no_closed is_closed);
       }
     where
@@ -78,9 +98,9 @@ damaged_on (gate ∷ ahead) rest damaged (inr long) = record {
 
 -- what was read ahead is damaged, and enough was read
 pub damaged_disk : (scan : ScanState) (batches : List (List Record)) (disk : List ℕ) → HasRead scan batches disk → (scan.gate + length scan.ahead ≡ scan.size) ⊎ (2309 ≤ length scan.ahead) → IsDamaged scan.ahead → IsDamaged (drop scan.gate disk)
-damaged_disk scan batches disk read enough damaged = subst IsDamaged (sym (from_gate read.leads)) (damaged_on scan.ahead read.rest damaged (all enough)) where
+damaged_disk scan batches disk read enough damaged = subst IsDamaged (sym (led_from read.leads)) (damaged_on scan.ahead read.rest damaged (all enough)) where
   all : (scan.gate + length scan.ahead ≡ scan.size) ⊎ (2309 ≤ length scan.ahead) → (read.rest ≡ []) ⊎ (2309 ≤ length scan.ahead)
-  all (inl end) = inl (nil_from_length read.rest (omega (arith, end, read.size, read.leads.offset, ap length read.leads.whole, length-append (header scan.capacity ++ read.leads.prefix) (scan.ahead ++ read.rest), length-append scan.ahead read.rest)))
+  all (inl end) = inl (nil_from_length read.rest (omega (arith, end, read.size, ap length (led_from read.leads), length-drop scan.gate disk, length-append scan.ahead read.rest)))
   all (inr long) = inr long
 
 -- bytes that were read from a offset on

@@ -1,9 +1,12 @@
 pub mod Ahead
 pub mod Batch
 pub mod Layout
+pub mod Walk
+pub mod Walking
 pub mod AtGate
 pub mod Extended
 pub mod Journal
+pub mod Room
 pub mod Scan
 pub mod Laws
 pub mod Formatted

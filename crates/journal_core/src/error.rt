@@ -5,6 +5,7 @@ ghost use Rattle.host_core.specs.declared.fault.Fault.TheVariants as faults;
 ghost use Rattle.journal_core.specs.Formatted.{scan_status};
 ghost use Rattle.journal_core.specs.declared.error.FormatError.TheVariants as formats;
 ghost use Rattle.journal_core.specs.declared.error.AppendError.TheVariants as appends;
+ghost use Rattle.journal_core.specs.declared.error.RollError.TheVariants as rolls;
 ghost use Rattle.journal_core.specs.declared.error.ScanError.TheVariants as scans;
 
 use host_core::{Failed, Fault, Status};
@@ -32,6 +33,14 @@ pub enum AppendError {
     DiskFault,
 }
 
+/// Why a base was not added.
+#[derive(Clone, Copy, Debug, PartialEq, Eq, Error)]
+pub enum RollError {
+    /// The disk failed. Whether the base is there shows at the next start.
+    #[error("the journal could not be written")]
+    DiskFault,
+}
+
 /// Why a journal could not be read.
 #[derive(Clone, Copy, Debug, PartialEq, Eq, Error)]
 pub enum ScanError {
@@ -47,7 +56,7 @@ pub enum ScanError {
     #[error("there is no journal")]
     NoJournal,
 
-    /// No batch and no closed gate stands at that offset.
+    /// No batch and no closed gate stands at that offset, or no gate, or a base that is none or out of place.
     #[error("the journal is damaged at {at}")]
     Damaged { at: u64 },
 }
@@ -65,6 +74,14 @@ impl From<Failed> for AppendError {
 
     fn from(_: Failed) -> AppendError {
         AppendError::DiskFault
+    }
+}
+
+impl From<Failed> for RollError {
+    ghost from_gives = { λ _ e. e ≡ rolls.DiskFault };
+
+    fn from(_: Failed) -> RollError {
+        RollError::DiskFault
     }
 }
 
@@ -105,6 +122,14 @@ impl From<AppendError> for Fault {
     ghost from_gives = { λ _ fault. fault ≡ faults.Disk };
 
     fn from(_: AppendError) -> Fault {
+        Fault::Disk
+    }
+}
+
+impl From<RollError> for Fault {
+    ghost from_gives = { λ _ fault. fault ≡ faults.Disk };
+
+    fn from(_: RollError) -> Fault {
         Fault::Disk
     }
 }

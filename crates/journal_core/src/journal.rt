@@ -1,16 +1,20 @@
 //! A journal that may be written.
 
-ghost use Rattle.std.specs.Prelude.{◌≡◌, ◌≤◌, ◌<◌, ◌+◌, ◌*◌, ◌∷◌, ◌++◌, [], ◌^◌, ◌↔◌, ◌≢◌, ◌⊎◌, ℕ, true, List, All, length, Some, option_map, IsTrue, IfOk, OnOk, OnErr, IfErr};
+ghost use Rattle.std.specs.Prelude.{◌≡◌, ◌≤◌, ◌<◌, ◌+◌, ◌*◌, ◌∷◌, ◌++◌, [], ◌^◌, ◌↔◌, ◌≢◌, ◌⊎◌, if◌then◌else◌, ℕ, true, false, List, All, length, Some, option_map, IsTrue, IsOk, IfOk, OnOk, OnErr, IfErr};
 ghost use Rattle.host_core.specs.Outside.{Outside, MayLeave, Rose, Elapses, Changes, Torn, IsSettled, written};
 ghost use Rattle.host_core.specs.Frames.{OnlyWrites};
+ghost use Rattle.rulebook.specs.Base.{base_of};
 ghost use Rattle.wire_in.specs.declared.record.Record.{Record};
+ghost use Rattle.wire_in.specs.Bases.{base_bytes};
 ghost use Rattle.wire_in.specs.Spelling.{InRange};
-ghost use Rattle.journal_core.specs.Layout.{IsLimit, IsBatch, Holds, frames_of, header, stored_batch, with_batch};
-ghost use Rattle.journal_core.specs.Journal.{HasBytes, IsSettledAt, Appends, Grown};
+ghost use Rattle.journal_core.specs.Layout.{IsLimit, IsBatch, Holds, base_block, frames_of, stored_batch, stored_block, with_batch};
+ghost use Rattle.journal_core.specs.Journal.{HasBytes, IsSettledAt, Appends, Stages};
 
 use crate::batch::{BATCH_MAX, Batch};
-use crate::error::{AppendError, FormatError};
+use crate::error::{AppendError, FormatError, RollError};
 use crate::frames::{BATCH_BYTES, put_content};
+use crate::header::fresh;
+use crate::room::Room;
 use crate::store::store;
 use host_core::{Failed, Host};
 use std::marker::Model;
@@ -20,11 +24,11 @@ use wire_in::Record;
 /// batch.
 const RECORD_BYTES: u64 = 41;
 
+/// The most bytes of a base with its gate.
+const BASE_BYTES: u64 = 163_885;
+
 /// The greatest length of a file: offsets in it are signed numbers of 64 bits.
 const FILE_BYTES: u64 = 1 << 63;
-
-/// The most records that a journal may take.
-pub const LIMIT_MAX: u64 = 2_000_000_000;
 
 /// Makes an empty journal that takes up to a number of records, 1 to 2,000,000,000, over what stands there.
 pub fn format<H: Host>(host: &mut H, capacity: u64) -> Result<(), FormatError>
@@ -40,19 +44,27 @@ pub fn format<H: Host>(host: &mut H, capacity: u64) -> Result<(), FormatError>
     Ok(())
 }
 
-/// The bytes of an empty journal.
-fn fresh(capacity: u64) -> [u8; 17]
-    ensures { result ≡ header capacity ++ 0 ∷ [] }
+/// Adds a block at a gate: it writes what stands behind the gate, with a closed gate at the end, and syncs, and then opens the gate
+/// and syncs. Answers the offset of the closed gate.
+fn add<H: Host>(host: &mut H, gate: u64, content: &[u8]) -> Result<u64, Failed>
+    requires gate { HasBytes (gate + 1) (H.outside host.old).disk }
+    requires fits { gate + 1 + length content.now < 2 ^ 64 }
+    ensures stages { IsSettled (H.outside host.old) → Elapses (H.outside host.old) (H.outside host.new) (Stages gate content.now (H.outside host.old)) }
+    ensures within { Elapses (H.outside host.old) (H.outside host.new) (Changes (Torn gate (length (1 ∷ content.now))) (H.outside host.old)) }
+    ensures written { OnOk result ((H.outside host.new).disk ≡ option_map (written gate (1 ∷ content.now)) (H.outside host.old).disk) }
+    ensures settled { OnOk result (IsSettled (H.outside host.new)) }
+    ensures next { IfOk result (λ next. next ≡ gate + length content.now) }
+    ensures keeps { OnlyWrites (H.outside host.old) (H.outside host.new) }
+    ensures cause { OnErr result (Rose (H.outside host.old).disk_faults (H.outside host.new).disk_faults) }
+    ensures faultless { OnOk result ((H.outside host.new).disk_faults ≡ (H.outside host.old).disk_faults) }
 {
-    let mut bytes = [0; 17];
-    bytes[..8].copy_from_slice(b"HALTJNL1");
-    bytes[8..16].copy_from_slice(&capacity.to_be_bytes());
-    bytes
+    store(host, gate + 1, content)?;
+    store(host, gate, &[1])?;
+    Ok(gate + content.len() as u64)
 }
 
-/// Adds a batch at a gate: it writes what stands behind the gate and syncs, and then opens the gate and syncs. Answers
-/// the offset of the next gate.
-fn add<H: Host>(host: &mut H, gate: u64, batch: &[Record]) -> Result<u64, Failed>
+/// Adds a batch at a gate. Answers the offset of the next gate.
+fn add_batch<H: Host>(host: &mut H, gate: u64, batch: &[Record]) -> Result<u64, Failed>
     requires gate { HasBytes (gate + 1) (H.outside host.old).disk }
     requires fits { gate + 1 + BATCH_BYTES < 2 ^ 64 }
     requires least { 0 < length batch.now }
@@ -62,8 +74,6 @@ fn add<H: Host>(host: &mut H, gate: u64, batch: &[Record]) -> Result<u64, Failed
         → Elapses (H.outside host.old) (H.outside host.new) (Appends capacity gate records batch.now (H.outside host.old)) }
     ensures within { Elapses (H.outside host.old) (H.outside host.new) (Changes (Torn gate (length (stored_batch batch.now))) (H.outside host.old)) }
     ensures written { OnOk result ((H.outside host.new).disk ≡ option_map (written gate (stored_batch batch.now)) (H.outside host.old).disk) }
-    ensures grown { IfOk result (λ next. (disk : List ℕ) → (H.outside host.new).disk ≡ Some disk
-        → Grown gate next batch.now (H.outside host.old).disk disk) }
     ensures settled { OnOk result (IsSettled (H.outside host.new)) }
     ensures valid { OnOk result (IsBatch batch.now) }
     ensures offset { IfOk result (λ next. next ≡ gate + (length (frames_of batch.now) + 5)) }
@@ -74,17 +84,16 @@ fn add<H: Host>(host: &mut H, gate: u64, batch: &[Record]) -> Result<u64, Failed
 {
     let mut content = [0; BATCH_BYTES];
     let end = put_content(batch, &mut content);
-    store(host, gate + 1, &content[..end])?;
-    store(host, gate, &[1])?;
-    Ok(gate + end as u64)
+    add(host, gate, &content[..end])
 }
 
-/// A journal that was read to its end, to which batches can be added.
+/// A journal that was read to its end, to which batches and bases can be added.
 #[derive(Debug, Drop)]
 pub struct Journal {
     capacity: u64,
     count: u64,
     gate: u64,
+    rolled: bool,
     whole: bool,
 }
 
@@ -93,24 +102,25 @@ impl Model for Journal {
 
     ghost Value = { JournalState };
 
-    ghost view = { λ j. record { capacity = j.capacity; count = j.count; gate = j.gate; whole = j.whole } };
+    ghost view = { λ j. record { capacity = j.capacity; count = j.count; gate = j.gate; rolled = j.rolled; whole = j.whole } };
 
-    ghost invariant = { λ j. IsBounded j.capacity j.count j.gate };
+    ghost invariant = { λ j. IsBounded j.capacity j.count j.gate j.rolled };
 }
 
 impl Journal {
     ghost use Rattle.journal_core.specs.Journal.{IsOfDisk, IsAtRest};
 
-    /// A journal that holds some records up to a gate.
-    pub(crate) fn at(capacity: u64, count: u64, gate: u64) -> Journal
+    /// A journal that holds some records up to a gate, and whose last block is a base or not.
+    pub(crate) fn at(capacity: u64, count: u64, gate: u64, rolled: bool) -> Journal
         requires capacity { IsLimit capacity }
-        requires gate { gate ≤ FILE_BYTES + RECORD_BYTES * count }
-        ensures { result ≡ record { capacity = capacity; count = count; gate = gate; whole = true } }
+        requires gate { gate ≤ FILE_BYTES }
+        ensures { result ≡ record { capacity = capacity; count = count; gate = gate; rolled = rolled; whole = true } }
     {
         Journal {
             capacity,
             count,
             gate,
+            rolled,
             whole: true,
         }
     }
@@ -123,11 +133,18 @@ impl Journal {
         self.capacity
     }
 
-    /// How many records it holds: those that were read, and those of the appends that answered Ok.
+    /// How many records it holds: those of its last base, those that were read, and those of the appends that answered Ok.
     pub fn count(&self) -> u64
         ensures { result ≡ self.now.count }
     {
         self.count
+    }
+
+    /// Whether its last base is that of all records that it holds.
+    pub fn rolled(&self) -> bool
+        ensures { result ≡ self.now.rolled }
+    {
+        self.rolled
     }
 
     /// Whether it may be written: true until a call found a fault of the disk.
@@ -163,6 +180,7 @@ impl Journal {
         ensures settled { OnOk result (IsSettled (H.outside host.new)) }
 
         ensures count { OnOk result (self.new.count ≡ self.old.count + length batch.now) }
+        ensures rolled { OnOk result (self.new.rolled ≡ false) }
         ensures capacity { self.new.capacity ≡ self.old.capacity }
         ensures whole { IsTrue self.new.whole ↔ (result ≢ Err AppendError.DiskFault) }
 
@@ -179,8 +197,48 @@ impl Journal {
             });
         }
         self.whole = false;
-        self.gate = add(host, self.gate, batch.list())?;
+        self.gate = add_batch(host, self.gate, batch.list())?;
         self.count += batch.len() as u64;
+        self.rolled = false;
+        self.whole = true;
+        Ok(())
+    }
+
+    /// Adds the base of the records that it holds, in four calls of the disk. A stop at any moment leaves these records. After
+    /// `DiskFault` the journal is not whole; whether the disk has the base shows once it is read again.
+    pub fn roll<H: Host>(&mut self, host: &mut H, room: &Room) -> Result<(), RollError>
+        requires whole { IsTrue self.old.whole }
+        requires unrolled { self.old.rolled ≡ false }
+        requires count { room.now.records ≡ self.old.count }
+        requires gate { HasBytes (self.old.gate + 1) (H.outside host.old).disk }
+
+        // Whenever the call is stopped, and whatever it answered.
+        ensures moments { (records : List Record) → IsAtRest self.old records (H.outside host.old) → base_of records ≡ Some room.now
+            → Elapses (H.outside host.old) (H.outside host.new) (λ image _. Holds image self.old.capacity records) }
+        ensures left { (records : List Record) (image : List ℕ) → IsAtRest self.old records (H.outside host.old) → base_of records ≡ Some room.now
+            → MayLeave (H.outside host.new) image → Holds image self.old.capacity records }
+        ensures stored { OnOk result ((records : List Record) → IsAtRest self.old records (H.outside host.old) → base_of records ≡ Some room.now
+            → IsAtRest self.new records (H.outside host.new)) }
+        ensures of_disk { OnOk result (IsOfDisk self.old (H.outside host.old).disk → IsOfDisk self.new (H.outside host.new).disk) }
+        ensures next { OnOk result (self.new.gate ≡ self.old.gate + (length (base_bytes room.now) + 5)) }
+        ensures gate { OnOk result (HasBytes (self.new.gate + 1) (H.outside host.new).disk) }
+
+        // The base is written at the gate's offset, and outside of its range nothing changes, whatever the answer.
+        ensures written { OnOk result ((H.outside host.new).disk ≡ option_map (written self.old.gate (stored_block (base_block room.now))) (H.outside host.old).disk) }
+        ensures within { Elapses (H.outside host.old) (H.outside host.new) (Changes (Torn self.old.gate (length (stored_block (base_block room.now)))) (H.outside host.old)) }
+        ensures settled { OnOk result (IsSettled (H.outside host.new)) }
+
+        ensures rolled { OnOk result (self.new.rolled ≡ true) }
+        ensures count { self.new.count ≡ self.old.count }
+        ensures capacity { self.new.capacity ≡ self.old.capacity }
+        ensures whole { IsTrue self.new.whole ↔ IsOk result }
+        ensures cause { OnErr result (Rose (H.outside host.old).disk_faults (H.outside host.new).disk_faults) }
+        ensures faultless { OnOk result ((H.outside host.new).disk_faults ≡ (H.outside host.old).disk_faults) }
+        ensures keeps { OnlyWrites (H.outside host.old) (H.outside host.new) }
+    {
+        self.whole = false;
+        self.gate = add(host, self.gate, room.bytes())?;
+        self.rolled = true;
         self.whole = true;
         Ok(())
     }

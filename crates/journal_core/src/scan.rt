@@ -1,29 +1,32 @@
 //! A journal that is read, batch by batch.
 
-ghost use Rattle.std.specs.Prelude.{◌≡◌, ◌≢◌, ◌⊎◌, ◌≤◌, ◌<◌, ◌+◌, ◌-◌, ◌∷◌, ◌++◌, [], ◌^◌, ◌↔◌, ℕ, true, false, List, length, take, drop, Some, Ok, Err, IsTrue, IsSome, IfSome, IfOk, OnOk, OnErr, MatchOption};
-ghost use Rattle.std.specs.Int.{w64};
+ghost use Rattle.std.specs.Prelude.{◌≡◌, ◌≢◌, ◌⊎◌, ◌≤◌, ◌<◌, ◌+◌, ◌-◌, ◌∷◌, ◌++◌, [], ◌^◌, ◌↔◌, ℕ, true, false, List, length, drop, Some, Ok, Err, IsTrue, IsSome, IfSome, IfOk, OnOk, OnErr};
+ghost use Rattle.std.specs.Option.{option_copied};
 ghost use Rattle.host_core.specs.Outside.{Outside, Rose, IsSettled};
 ghost use Rattle.host_core.specs.Frames.{OnlyReadsDisk};
 ghost use Rattle.host_core.specs.HostCalls.{SyncsDisk};
-ghost use Rattle.wire_core.specs.Fields.{number};
+ghost use Rattle.wire_in.specs.Bases.{IsInRange};
 ghost use Rattle.wire_in.specs.declared.record.Record.{Record};
-ghost use Rattle.journal_core.specs.Layout.{IsBatch, IsLimit, Opens, frames_of, records_of, header, signature};
+ghost use Rattle.journal_core.specs.Layout.{IsBatch, IsLimit, Opens, frames_of, records_of};
+ghost use Rattle.journal_core.specs.Scan.{is_rolled};
 
 use crate::ahead::Ahead;
 use crate::at_gate::AtGate;
 use crate::batch::Batch;
 use crate::error::ScanError;
 use crate::frames::BATCH_BYTES;
-use crate::journal::{Journal, LIMIT_MAX};
+use crate::journal::Journal;
+use crate::walk::Walk;
 use host_core::{Failed, Host};
 use std::alloc::Global;
 use std::marker::Model;
-use wire_core::u64_at;
+use wire_in::Base;
 
-/// A journal that is read batch by batch. It writes nothing, and takes no memory once it was begun.
-#[derive(Debug, Drop)]
+/// A journal that is read batch by batch, from its last base on. It writes nothing, and takes no memory once it was begun.
+#[derive(Drop)]
 pub struct Scan {
     capacity: u64,
+    base: Option<Base>,
     count: u64,
     at: u64,
     gate: u64,
@@ -37,18 +40,22 @@ impl Model for Scan {
 
     ghost Value = { ScanState };
 
-    ghost view = { λ s. record { capacity = s.capacity; count = s.count; at = s.at; gate = s.gate; is_closed = s.closed; size = s.size; ahead = s.ahead } };
+    ghost view = { λ s. record { capacity = s.capacity; base = s.base; count = s.count; at = s.at; gate = s.gate; is_closed = s.closed; size = s.size; ahead = s.ahead } };
 
-    ghost invariant = { λ s. IsOrdered s.capacity s.count s.gate s.size s.ahead };
+    ghost invariant = { λ s. IsOrdered s.capacity s.base s.count s.gate s.size s.ahead };
 }
 
 impl Scan {
     ghost use Rattle.journal_core.specs.AtGate.{IsDamaged};
     ghost use Rattle.journal_core.specs.Journal.{Represents, IsOfDisk, HasBytes};
-    ghost use Rattle.journal_core.specs.Scan.{HasRead, IsScanOf, IsBegun, HasHeader, HasNoHeader};
+    ghost use Rattle.journal_core.specs.Layout.{Holds};
+    ghost use Rattle.journal_core.specs.Scan.{HasRead, IsScanOf, IsBegun, records_before};
+    ghost use Rattle.journal_core.specs.Walk.{HasBase, HasHeader, HasNoHeader, IsUnreadableAt};
 
-    /// Begins at the header of a journal, after a sync of the disk. It takes a buffer. `NoJournal` comes exactly where the
-    /// disk has fewer than 17 bytes, another signature, or a capacity outside its range.
+    /// Begins behind the last base of a journal, or at its first gate where there is none, after a sync of the disk and a walk from
+    /// gate to gate. It takes a buffer, and memory for the base. `NoJournal` comes exactly where the disk has fewer than 17 bytes,
+    /// another signature, or a capacity outside its range. `Damaged` comes exactly where the walk has no way on at that offset, or
+    /// where the last base, whose gate stands there, spells none or has more records than the journal takes.
     pub fn begin<H: Host>(alloc: Global, host: &mut H) -> Result<Scan, ScanError>
         ensures begun { IfOk result IsBegun }
         ensures header { IfOk result (λ scan. (disk : List ℕ) → (H.outside host.new).disk ≡ Some disk → HasHeader scan.capacity disk) }
@@ -56,47 +63,62 @@ impl Scan {
         ensures of_disk { IfOk result (λ scan. IsScanOf scan (H.outside host.new).disk) }
         ensures settled { OnOk result (IsSettled (H.outside host.new)) }
         ensures no_journal { result ≡ Err ScanError.NoJournal → (disk : List ℕ) → (H.outside host.new).disk ≡ Some disk → HasNoHeader disk }
-        ensures not_damaged { (at : ℕ) → result ≢ Err (ScanError.Damaged at) }
-        ensures unbegun { result ≡ Err ScanError.NoMemory → host.new ≡ host.old }
+        ensures damaged { (at : ℕ) → result ≡ Err (ScanError.Damaged at) → (disk : List ℕ) → (H.outside host.new).disk ≡ Some disk
+            → (capacity : ℕ) × IsUnreadableAt capacity at disk }
+        ensures unbegun { result ≡ Err ScanError.NoMemory
+            → (host.new ≡ host.old) ⊎ ((disk : List ℕ) → (H.outside host.new).disk ≡ Some disk → HasBase disk) }
         ensures cause { result ≡ Err ScanError.DiskFault → Rose (H.outside host.old).disk_faults (H.outside host.new).disk_faults }
         ensures faultless { result ≢ Err ScanError.DiskFault → (H.outside host.new).disk_faults ≡ (H.outside host.old).disk_faults }
         ensures keeps { OnlyReadsDisk (H.outside host.old) (H.outside host.new) }
     {
         let ahead = Ahead::new(alloc)?;
         settle(host)?;
-        Scan::open(host, ahead)
+        Scan::walked(alloc, host, ahead)
     }
 
-    /// Reads the header.
-    fn open<H: Host>(host: &mut H, ahead: Ahead) -> Result<Scan, ScanError>
+    /// Begins with this buffer.
+    fn walked<H: Host>(alloc: Global, host: &mut H, ahead: Ahead) -> Result<Scan, ScanError>
         ensures begun { IfOk result IsBegun }
         ensures header { IfOk result (λ scan. (disk : List ℕ) → (H.outside host.new).disk ≡ Some disk → HasHeader scan.capacity disk) }
         ensures read { IfOk result (λ scan. (disk : List ℕ) → (H.outside host.new).disk ≡ Some disk → HasRead scan [] disk) }
         ensures no_journal { result ≡ Err ScanError.NoJournal → (disk : List ℕ) → (H.outside host.new).disk ≡ Some disk → HasNoHeader disk }
-        ensures only { (error : _) → result ≡ Err error → (error ≡ ScanError.NoJournal) ⊎ (error ≡ ScanError.DiskFault) }
+        ensures damaged { (at : ℕ) → result ≡ Err (ScanError.Damaged at) → (disk : List ℕ) → (H.outside host.new).disk ≡ Some disk
+            → (capacity : ℕ) × IsUnreadableAt capacity at disk }
+        ensures starved { result ≡ Err ScanError.NoMemory → (disk : List ℕ) → (H.outside host.new).disk ≡ Some disk → HasBase disk }
         ensures cause { result ≡ Err ScanError.DiskFault → Rose (H.outside host.old).disk_faults (H.outside host.new).disk_faults }
         ensures faultless { result ≢ Err ScanError.DiskFault → (H.outside host.new).disk_faults ≡ (H.outside host.old).disk_faults }
         ensures keeps { OnlyReadsDisk (H.outside host.old) (H.outside host.new) }
     {
-        let mut ahead = ahead;
-        let size = host.disk_len()?;
-        if size < 17 {
-            return Err(ScanError::NoJournal);
-        }
-        ahead.read(host, 0, size)?;
-        let Some(capacity) = limit_of(ahead.bytes()) else {
-            return Err(ScanError::NoJournal);
-        };
-        ahead.skip(16);
-        Ok(Scan {
+        let walk = Walk::over(host, ahead)?;
+        walk.scan(alloc, host)
+    }
+
+    /// A scan that begins at this gate.
+    pub(crate) fn at_gate(
+        capacity: u64,
+        base: Option<Base>,
+        size: u64,
+        gate: u64,
+        ahead: Ahead,
+    ) -> Scan
+        requires range { IsLimit capacity }
+        requires base { IfSome base IsInRange }
+        requires few { IfSome base (λ b. b.records ≤ capacity) }
+        requires within { gate + length ahead ≤ size }
+        requires small { size < 2 ^ 63 }
+        ensures { result ≡ record { capacity = capacity; base = base; count = records_before base; at = gate; gate = gate; is_closed = false; size = size; ahead = ahead } }
+    {
+        let count = base.as_ref().map_or(0, |base| base.records);
+        Scan {
             capacity,
-            count: 0,
-            at: 16,
-            gate: 16,
+            base,
+            count,
+            at: gate,
+            gate,
             closed: false,
             size,
             ahead,
-        })
+        }
     }
 
     /// Reads the next batch. True: the batch holds it. False: the next gate is closed. `Damaged` comes exactly where the
@@ -104,7 +126,7 @@ impl Scan {
     pub fn next<H: Host>(&mut self, host: &mut H, into: &mut Batch) -> Result<bool, ScanError>
         requires { HasBytes self.old.size (H.outside host.old).disk }
 
-        // On a disk of which it has handed out some batches.
+        // On a disk of which it has handed out some batches behind the last base.
         ensures batch { result ≡ Ok true → (batches : List (List Record)) (disk : List ℕ) → (H.outside host.old).disk ≡ Some disk
             → HasRead self.old batches disk → HasRead self.new (batches ++ into.new ∷ []) disk }
         ensures same { result ≢ Ok true → (batches : List (List Record)) (disk : List ℕ) → (H.outside host.old).disk ≡ Some disk
@@ -124,6 +146,7 @@ impl Scan {
         ensures within { self.new.gate ≤ self.new.size }
         ensures size { self.new.size ≡ self.old.size }
         ensures capacity { self.new.capacity ≡ self.old.capacity }
+        ensures base { self.new.base ≡ self.old.base }
 
         ensures no_memory { result ≢ Err ScanError.NoMemory }
         ensures no_journal { result ≢ Err ScanError.NoJournal }
@@ -152,16 +175,28 @@ impl Scan {
         self.capacity
     }
 
+    /// The last base of the journal; none exactly where it has none.
+    pub fn base(&self) -> Option<&Base>
+        ensures base { option_copied result ≡ self.now.base }
+        ensures range { IfSome self.now.base IsInRange }
+        ensures few { IfSome self.now.base (λ b. b.records ≤ self.now.capacity) }
+    {
+        self.base.as_ref()
+    }
+
     /// The journal, once it was read to its end.
     pub fn finish(self) -> Journal
         requires { IsTrue self.is_closed }
         ensures capacity { result.capacity ≡ self.capacity }
         ensures count { result.count ≡ self.count }
+        ensures rolled { result.rolled ≡ is_rolled self.base self.count }
         ensures whole { IsTrue result.whole }
-        ensures keeps { (batches : List (List Record)) (disk : List ℕ) → HasRead self batches disk → Represents result (records_of batches) disk }
+        ensures keeps { (batches : List (List Record)) (disk : List ℕ) (capacity : ℕ) (records : List Record) → HasRead self batches disk
+            → Holds disk capacity records → Represents result records disk }
         ensures of_disk { (known : _) → IsScanOf self known → IsOfDisk result known }
     {
-        Journal::at(self.capacity, self.count, self.gate)
+        let rolled = is_rolled(&self.base, self.count);
+        Journal::at(self.capacity, self.count, self.gate, rolled)
     }
 
     /// Reads on where a batch may not be there as a whole.
@@ -196,6 +231,7 @@ impl Scan {
         ensures none { (result ≡ Ok true) ⊎ (into.new ≡ []) }
         ensures reads { (result ≡ Ok true) ⊎ ((batches : List (List Record)) (disk : List ℕ) → HasRead self.old batches disk → HasRead self.new batches disk) }
         ensures capacity { self.new.capacity ≡ self.old.capacity }
+        ensures base { self.new.base ≡ self.old.base }
         ensures size { self.new.size ≡ self.old.size }
         ensures within { self.new.gate ≤ self.new.size }
     {
@@ -227,16 +263,9 @@ fn settle<H: Host>(host: &mut H) -> Result<(), Failed>
     host.disk_sync()
 }
 
-/// The capacity of the header that some bytes begin with; none exactly where they begin with no header.
-fn limit_of(bytes: &[u8]) -> Option<u64>
-    requires { 16 ≤ length bytes.now }
-    ensures { MatchOption result
-        ((take 8 bytes.now ≢ signature) ⊎ (¬ IsLimit (number w64 8 bytes.now)))
-        (λ capacity. IsLimit capacity × (capacity ≡ number w64 8 bytes.now) × (bytes.now ≡ header capacity ++ drop 16 bytes.now)) }
+/// Whether a base is there that has so many records.
+fn is_rolled(base: &Option<Base>, count: u64) -> bool
+    ensures { result ≡ is_rolled base.now count }
 {
-    let capacity = u64_at(bytes, 8);
-    if !bytes.starts_with(b"HALTJNL1") || capacity < 1 || LIMIT_MAX < capacity {
-        return None;
-    }
-    Some(capacity)
+    base.as_ref().is_some_and(|base| base.records == count)
 }

@@ -8,13 +8,14 @@ use Rattle.host_core.specs.Outside.{Outside, Agrees, MayLeave, Elapses, Ends, Is
 use Rattle.host_core.proofs.Moments.{widened, goes_on, ended, returned, further}
 use Rattle.host_core.proofs.Causes.{faultless, no_fault}
 use Rattle.host_core.proofs.Chains.{reads_nothing}
+use Rattle.wire_in.specs.declared.base.Base.{Base}
 use Rattle.wire_in.specs.declared.record.Record.{Record}
 use Rattle.wire_in.specs.Cutting.{bodies_of}
 use Rattle.journal_core.specs.Layout.{Holds, HoldsTo}
 use Rattle.journal_core.specs.Extended.{Extends, IsGrown}
 use Rattle.engine_core.proofs.Reading.{held_all}
 use Rattle.journal_core.specs.Journal.{JournalState, IsAtRest}
-use Rattle.journal_core.specs.Scan.{HasNoHeader}
+use Rattle.journal_core.specs.Walk.{HasNoHeader}
 use Rattle.journal_core.proofs.OneList.{alone}
 use Rattle.journal_core.proofs.Readable.{readable}
 use Rattle.engine_core.specs.declared.session.Session.{Session}
@@ -38,9 +39,11 @@ use Rattle.live_core.specs.Ends.{Answered, IsAnswer, IsKept, IsUnserved}
 use Rattle.live_core.specs.Written.{HasGrown}
 use Rattle.live_core.specs.Served.{Served}
 use Rattle.live_core.specs.InternalKeeping.{Regains, held_now}
-use Rattle.recovery_core.specs.Recoveries.{again, StarvesAgain, HasDamage, Hinders}
-use Rattle.live_core.specs.InternalServing.{IsSound, IsRestored, IsUnread, Serves, IsAnswered}
-use Rattle.recovery_core.proofs.OneDamage.{covers_held, covers_damaged, one_damage, lawful_undamaged}
+use Rattle.recovery_core.specs.Origins.{again}
+use Rattle.recovery_core.specs.Recoveries.{IsReadThrough, StarvesOn, HasDamage, Hinders}
+use Rattle.live_core.specs.InternalServing.{IsRestored, IsUnread, Serves, IsAnswered}
+use Rattle.recovery_core.proofs.Held.{short_damaged, short_held}
+use Rattle.recovery_core.proofs.OneDamage.{one_damage, lawful_undamaged, read_headed, read_undamaged}
 use Rattle.recovery_core.proofs.Recovering.{why_at}
 use Rattle.live_core.proofs.Restoring.{one_disk, unbegun}
 
@@ -96,7 +99,7 @@ module _ (here : Type 0) (workers : ℕ) (from : Option ℕ) (batch most : ℕ) 
   -- A session, by its stops and its status, and by what it left where no session was served.
   module _ (serves : (begin : Begin) (input : List ℕ) → begin.from ≡ from → Begins begin input old → Serves here workers from batch begin input most status old new)
       (continues : Continues old new) (told : Told status old new)
-      (unserved : IsUnserved status → IsUnread here workers from status old new) (unsound : (disk : List ℕ) → old.disk ≡ Some disk → ¬ IsSound disk → IsUnread here workers from status old new) where
+      (unserved : IsUnserved status → IsUnread here workers from status old new) (unsound : (disk : List ℕ) → old.disk ≡ Some disk → ¬ IsReadThrough disk → IsUnread here workers from status old new) where
     told_at : (s : Status) → status ≡ s → Told s old new
     told_at s is = subst (λ s. Told s old new) is told
 
@@ -111,28 +114,28 @@ module _ (here : Type 0) (workers : ℕ) (from : Option ℕ) (batch most : ℕ) 
       part = rw (begins.sent_known, ends.sent_known) (part_of old begin (bodies_of (take most input)) ends.image ends.bytes ends.left)
 
     headless : (disk : List ℕ) → old.disk ≡ Some disk → HasNoHeader disk → IsUnread here workers from status old new
-    headless disk known none = unsound disk known (λ sound. readable.header disk sound.capacity sound.held sound.holds none)
+    headless disk known none = unsound disk known (λ read. read_headed read none)
 
-    damaged : {capacity at : ℕ} {before disk : List _} → old.disk ≡ Some disk → IsDamagedAt capacity at before disk → IsUnread here workers from status old new
-    damaged {disk = disk} known damage = unsound disk known (λ sound. lawful_undamaged damage sound.holds sound.lawful)
+    damaged : {capacity at : ℕ} {base : Option Base} {before : List Record} {disk : List ℕ} → old.disk ≡ Some disk → IsDamagedAt capacity at base before disk → IsUnread here workers from status old new
+    damaged {disk = disk} known damage = unsound disk known (λ read. read_undamaged damage read)
 
-    damage_part : (capacity at : ℕ) (before : List Record) (disk : List ℕ) → old.disk ≡ Some disk → IsDamagedAt capacity at before disk → SentPrefix old.sent new.sent (again from before)
-    damage_part capacity at before disk known damage = prefix_sent old old.sent new.sent (again from before) continues.sent (λ sent is.
+    damage_part : (capacity at : ℕ) (base : Option Base) (before : List Record) (disk : List ℕ) → old.disk ≡ Some disk → IsDamagedAt capacity at base before disk → SentPrefix old.sent new.sent (again from base before)
+    damage_part capacity at base before disk known damage = prefix_sent old old.sent new.sent (again from base before) continues.sent (λ sent is.
         let now = stops_now sent is in (
           now.0,
-          subst (λ bytes. SendsPrefix old.sent (again from before) old now.0 bytes) (sent_now now.0 now.1.bytes now.1.left sent is)
-              (ended ((damaged known damage).damage_moments capacity at before disk known damage) now.1),
+          subst (λ bytes. SendsPrefix old.sent (again from base before) old now.0 bytes) (sent_now now.0 now.1.bytes now.1.left sent is)
+              (ended ((damaged known damage).damage_moments capacity at base before disk known damage) now.1),
         ))
 
     -- why there was no session
     why : (s : Status) → status ≡ s → IsUnserved s → Hinders (λ at. (disk : List ℕ) → old.disk ≡ Some disk → HasDamage at disk) ((disk : List ℕ) → old.disk ≡ Some disk → HasNoHeader disk)
-        (here ⊎ ((disk : List ℕ) → old.disk ≡ Some disk → StarvesAgain workers from old.sent disk new)) s old new
+        (here ⊎ ((disk : List ℕ) → old.disk ≡ Some disk → StarvesOn workers from old.sent disk new)) s old new
     why s is un = why_at _ _ _ old new s is (unserved (subst IsUnserved (sym is) un)).hinders
 
     stops : (at : ℕ) → status ≡ Damaged at → (disk : List ℕ) → old.disk ≡ Some disk → StopsAtDamage from old.sent at disk new
     stops at is disk known =
         let damage = (why (Damaged at) is tt).1 disk known in
-        record { capacity = damage.0; before = damage.1; damaged = damage.2; part = damage_part damage.0 at damage.1 disk known damage.2 }
+        record { capacity = damage.0; base = damage.1; before = damage.2; damaged = damage.3; part = damage_part damage.0 at damage.1 damage.2 disk known damage.3 }
 
     undamaged : (begin : Begin) (input : List ℕ) → Begins begin input old → (at : ℕ) → status ≢ Damaged at
     undamaged begin input begins at is = lawful_undamaged (stops at is begins.disk begins.disk_known).damaged begins.holds begins.lawful
@@ -146,7 +149,7 @@ module _ (here : Type 0) (workers : ℕ) (from : Option ℕ) (batch most : ℕ) 
       unread = λ begin input same begins. (serves begin input same begins).unread;
       part = part;
       prompt = λ begin input same begins. (serves begin input same begins).prompt;
-      starved = λ begin input same begins. (serves begin input same begins).starved;
+      starved = λ begin input same begins. (serves begin input same begins).starved begins.disk begins.disk_known begins.holds;
       no_journal = λ is. (why NoJournal is tt).1;
       no_header = λ disk known none. ((headless disk known none).no_header disk known none).0;
       no_header_starved = λ disk known none. (headless disk known none).no_header_starved disk known none;
@@ -155,15 +158,15 @@ module _ (here : Type 0) (workers : ℕ) (from : Option ℕ) (batch most : ℕ) 
           record { input = (headless disk known none).keeps.input; sent = ((headless disk known none).no_header disk known none).1; disk = (headless disk known none).keeps.disk };
       damaged = stops;
       undamaged = undamaged;
-      damage_is_told = λ capacity at before disk known damage has.
+      damage_is_told = λ capacity at base before disk known damage has.
           hinders_damage _ _ _ status old new at (damaged known damage).hinders (λ missing. has (missing disk known))
-          (λ other there. one_damage (there disk known).2 damage);
-      damage_is_left = λ capacity at before disk known damage. (damaged known damage).keeps.disk;
-      damage_is_unserved = λ capacity at before disk known damage. (damaged known damage).keeps.input;
+          (λ other there. one_damage (there disk known).3 damage);
+      damage_is_left = λ capacity at base before disk known damage. (damaged known damage).keeps.disk;
+      damage_is_unserved = λ capacity at base before disk known damage. (damaged known damage).keeps.input;
       damage_part = damage_part;
-      damage_moments = λ capacity at before disk known damage. (damaged known damage).damage_moments capacity at before disk known damage;
-      damage_starved = λ capacity at before disk known damage is.
-          ⊎_elim (λ now. inl now) (λ hungry. inr (hungry disk known before (covers_damaged damage))) (why_at _ _ _ old new NoMemory is (damaged known damage).hinders).1;
+      damage_moments = λ capacity at base before disk known damage. (damaged known damage).damage_moments capacity at base before disk known damage;
+      damage_starved = λ capacity at base before disk known damage is.
+          ⊎_elim (λ now. inl now) (λ hungry. inr (short_damaged from new damage (hungry disk known))) (why_at _ _ _ old new NoMemory is (damaged known damage).hinders).1;
       untouched = λ un. (unserved un).keeps.disk;
       input_is_left = λ un. (unserved un).keeps.input;
       written = record {
@@ -193,7 +196,7 @@ module _ (here : Type 0) (workers : ℕ) (from : Option ℕ) (batch most : ℕ) 
         exact = λ end. absurd (grind (arith, u.hinders));
         unread = λ is. absurd (why_at _ _ _ old new ReadFault is u.hinders);
         prompt = no_ask (start_of begin) input u.keeps.asks;
-        starved = λ is. ⊎_elim (λ now. inl now) (λ hungry. inr (inl (hungry begins.disk begins.disk_known begin.held (covers_held begins.holds))))
+        starved = λ disk known holds is. ⊎_elim (λ now. inl now) (λ hungry. inr (⊎_elim (λ base. inl base) (λ behind. inr (inl behind)) (short_held new holds (hungry disk known))))
             (why_at _ _ _ old new NoMemory is u.hinders).1;
         unwritten = λ none. u.nothing begin input same begins;
         stops = widened (u.nothing begin input same begins).moments _ (λ image bytes left. inl left);
@@ -261,7 +264,7 @@ module _ (here : Type 0) (workers : ℕ) (from : Option ℕ) (batch most : ℕ) 
             let all = a.unread (start_of begin) input refl reads is in
             (all.0, all.1, all_answered all.0 all.2);
         prompt = more_asks (start_of begin) input (no_ask (start_of begin) input r.keeps.asks) (a.prompt (start_of begin) input refl reads);
-        starved = λ is. inr (inr (a.starved (start_of begin) input refl reads is));
+        starved = λ disk known holds is. inr (inr (inr (a.starved (start_of begin) input refl reads is)));
         unwritten = λ none. still_nothing (r.nothing begin input same begins) (a.nothing (start_of begin) input refl reads none);
         stops = goes_on (widened (r.nothing begin input same begins).moments _ (λ image bytes left. inl left)) grows (λ image bytes safe. inr (has_grown safe));
       }
@@ -273,4 +276,4 @@ module _ (here : Type 0) (workers : ℕ) (from : Option ℕ) (batch most : ℕ) 
 
 -- memory ran out before anything happened
 pub roomless : (here : Type 0) → here → (workers : ℕ) (from : Option ℕ) (now : Outside) → ((image bytes : List ℕ) → now.leaves now.moment image bytes → Agrees now.sent bytes) → IsUnread here workers from NoMemory now now
-roomless here before workers from now sent_now = unbegun here workers from NoMemory (reads_nothing now sent_now) (inr (inr refl)) (no_fault now, before)
+roomless here before workers from now sent_now = unbegun here workers from NoMemory (reads_nothing now sent_now) (inl (inr (inr refl))) (no_fault now, inl before)

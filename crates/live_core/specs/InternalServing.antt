@@ -3,13 +3,14 @@ use Rattle.std.specs.Prelude.{◌≡◌, ◌⊎◌, ℕ, ◌<◌, ◌≤◌, Lis
 use Rattle.host_core.specs.declared.status.Status.{Status}
 use Rattle.host_core.specs.declared.status.Status.TheVariants.{ReadFault, NoJournal, NoMemory}
 use Rattle.host_core.specs.Outside.{Outside, MayLeave, Elapses, NoFault, Continues}
+use Rattle.wire_in.specs.declared.base.Base.{Base}
 use Rattle.wire_in.specs.Cutting.{bodies_of}
 use Rattle.wire_in.specs.declared.record.Record.{Record}
 use Rattle.journal_core.specs.Journal.{JournalState, IsAtRest}
 use Rattle.journal_core.specs.Journal as journal
-use Rattle.journal_core.specs.Layout.{Holds, records_of}
-use Rattle.journal_core.specs.Scan.{HasRead, HasNoHeader}
-use Rattle.rulebook.specs.Admission.{IsLawful}
+use Rattle.journal_core.specs.Layout.{Holds}
+use Rattle.journal_core.specs.Scan.{HasRead}
+use Rattle.journal_core.specs.Walk.{HasNoHeader}
 use Rattle.engine_core.specs.declared.session.Session.{Session}
 use Rattle.engine_core.specs.Ends.{Told}
 use Rattle.engine_core.specs.Rounds.{RoundState}
@@ -28,10 +29,11 @@ use Rattle.recovery_core.specs.Damage.{IsDamagedAt}
 use Rattle.live_core.specs.Ends as ends
 use Rattle.recovery_core.specs.Ends.{TellsNoJournal}
 use Rattle.live_core.specs.Ends.{IsUnserved}
-use Rattle.recovery_core.specs.Starved.{StarvedAtRecord}
+use Rattle.recovery_core.specs.Origins.{again}
+use Rattle.recovery_core.specs.Starved.{StarvedAtBase, StarvedBehind}
 use Rattle.live_core.specs.Written.{HasGrown}
 use Rattle.live_core.specs.InternalKeeping.{HasRoom, Regains}
-use Rattle.recovery_core.specs.Recoveries.{again, HasDamage, StarvesAgain, IsReading, OnlyRecovers, Hinders}
+use Rattle.recovery_core.specs.Recoveries.{HasDamage, StarvesOn, IsReading, IsReadThrough, OnlyRecovers, Hinders}
 
 -- room for a start: nothing is in it, what is read of a journal can wait there, and a round has at most as many frames as a batch
 pub record IsRoom (room : Restoring) : Type 0 where
@@ -42,17 +44,10 @@ pub record IsRoom (room : Restoring) : Type 0 where
 
 -- a session over what a journal was read into, with this round
 pub record IsFinished (recovery : Recovery) (round : RoundState) (serving : Serving) : Type 0 where
-  pub keeps : (batches : List (List Record)) (disk : List ℕ) → HasRead recovery.scan batches disk → journal.Represents serving.keeper.journal (records_of batches) disk
+  pub keeps : (batches : List (List Record)) (disk : List ℕ) (capacity : ℕ) (records : List Record) → HasRead recovery.scan batches disk → Holds disk capacity records → journal.Represents serving.keeper.journal records disk
   pub capacity : serving.keeper.journal.capacity ≡ recovery.scan.capacity
   pub ready : (known : Option (List ℕ)) → IsReading recovery.scan recovery.engine 0 known → IsReady (HasRoom serving.keeper.journal known) 64 serving.session
   pub session : serving.session ≡ record { cutter = []; engine = recovery.engine; round = round; outbox = recovery.outbox; answered = 0 }
-
--- the disk holds a lawful list
-pub record IsSound (disk : List ℕ) : Type 0 where
-  pub capacity : ℕ
-  pub held : List Record
-  pub holds : Holds disk capacity held
-  pub lawful : IsLawful capacity held
 
 -- a session may begin
 pub record IsRestored (from : Option ℕ) (serving : Serving) (old new : Outside) : Type 0 where
@@ -61,7 +56,7 @@ pub record IsRestored (from : Option ℕ) (serving : Serving) (old new : Outside
       → Reads (λ records now. IsAtRest serving.keeper.journal records now) (start_of begin) input 0 serving.session new
   pub nothing : (begin : Begin) (input : List ℕ) → begin.from ≡ from → Begins begin input old → WritesNothing old new
   pub capacity : (begin : Begin) (input : List ℕ) → begin.from ≡ from → Begins begin input old → serving.keeper.journal.capacity ≡ begin.capacity
-  pub sound : (disk : List ℕ) → old.disk ≡ Some disk → IsSound disk
+  pub sound : (disk : List ℕ) → old.disk ≡ Some disk → IsReadThrough disk
   pub ready : IsReady (HasRoom serving.keeper.journal new.disk) 64 serving.session
   pub empty : serving.session.round.outcomes ≡ []
   pub answered : serving.session.answered ≡ 0
@@ -72,15 +67,15 @@ pub record IsRestored (from : Option ℕ) (serving : Serving) (old new : Outside
 pub record IsUnread (unbegun : Type 0) (workers : ℕ) (from : Option ℕ) (status : Status) (old new : Outside) : Type 0 where
   pub moments : (begin : Begin) (input : List ℕ) → begin.from ≡ from → Begins begin input old → Elapses old new (IsSafeOrPending old begin [])
   pub nothing : (begin : Begin) (input : List ℕ) → begin.from ≡ from → Begins begin input old → WritesNothing old new
-  pub damage_moments : (capacity at : ℕ) (before : List Record) (disk : List ℕ) → old.disk ≡ Some disk → IsDamagedAt capacity at before disk
-      → Elapses old new (SendsPrefix old.sent (again from before) old)
+  pub damage_moments : (capacity at : ℕ) (base : Option Base) (before : List Record) (disk : List ℕ) → old.disk ≡ Some disk → IsDamagedAt capacity at base before disk
+      → Elapses old new (SendsPrefix old.sent (again from base before) old)
   pub no_header : (disk : List ℕ) → old.disk ≡ Some disk → HasNoHeader disk → TellsNoJournal status × (new.sent ≡ old.sent)
   pub no_header_starved : (disk : List ℕ) → old.disk ≡ Some disk → HasNoHeader disk → status ≡ NoMemory → unbegun
   pub headless : (disk : List ℕ) → old.disk ≡ Some disk → HasNoHeader disk → WritesNothing old new
   pub unsent : status ≡ NoJournal → new.sent ≡ old.sent
   pub keeps : OnlyRecovers old new
   pub hinders : Hinders (λ at. (disk : List ℕ) → old.disk ≡ Some disk → HasDamage at disk) ((disk : List ℕ) → old.disk ≡ Some disk → HasNoHeader disk)
-      (unbegun ⊎ ((disk : List ℕ) → old.disk ≡ Some disk → StarvesAgain workers from old.sent disk new)) status old new
+      (unbegun ⊎ ((disk : List ℕ) → old.disk ≡ Some disk → StarvesOn workers from old.sent disk new)) status old new
 
 -- what a session did that began so, by batches of at most so many frames, up to so many bytes of this input
 pub record Serves (unbegun : Type 0) (workers : ℕ) (from : Option ℕ) (batch : ℕ) (begin : Begin) (input : List ℕ) (most : ℕ) (status : Status) (old new : Outside) : Type 0 where
@@ -88,7 +83,8 @@ pub record Serves (unbegun : Type 0) (workers : ℕ) (from : Option ℕ) (batch 
   pub exact : IsEnd status → (status ≡ end_of most input) × ends.Answered begin input (min most (length input)) new
   pub unread : status ≡ ReadFault → (count : ℕ) × (count < most) × ends.Answered begin input count new
   pub prompt : Prompt (start_of begin) input old.asks new.asks
-  pub starved : status ≡ NoMemory → unbegun ⊎ StarvedAtRecord workers from begin.held old.sent new.sent ⊎ Starved (start_of begin) (bodies_of (take most input)) new
+  pub starved : (disk : List ℕ) → old.disk ≡ Some disk → Holds disk begin.capacity begin.held → status ≡ NoMemory
+      → unbegun ⊎ StarvedAtBase disk old.sent new.sent ⊎ StarvedBehind workers from disk begin.held old.sent new.sent ⊎ Starved (start_of begin) (bodies_of (take most input)) new
   pub unwritten : AcceptsNone (start_of begin) (bodies_of (take most input)) → WritesNothing old new
   pub stops : Elapses old new (λ image bytes. MayLeave old image ⊎ HasGrown batch begin (bodies_of (take most input)) old image)
 

@@ -4,16 +4,17 @@ use Rattle.host_core.specs.declared.status.Status.{Status}
 use Rattle.host_core.specs.declared.status.Status.TheVariants.{ReadFault, SendFault, DiskFault, Damaged, NoJournal, NoMemory}
 use Rattle.host_core.specs.Outside.{Outside, Elapses, Ends, IsSettled, Rose, NoFault, Continues}
 use Rattle.wire_in.specs.Cutting.{bodies_of}
+use Rattle.wire_in.specs.declared.base.Base.{Base}
 use Rattle.wire_in.specs.declared.record.Record.{Record}
-use Rattle.journal_core.specs.Scan.{HasNoHeader}
-use Rattle.rulebook.specs.Sent.{sent_again, spelled}
+use Rattle.journal_core.specs.Walk.{HasNoHeader}
 use Rattle.stream_core.specs.Ends.{IsEnd, end_of}
 use Rattle.stream_core.specs.Taking.{ReadsAtMost}
 use Rattle.stream_core.specs.Pending.{SendsPrefix, SentPrefix}
 use Rattle.engine_core.specs.Sessions.{Prompt, Starved, expected}
 use Rattle.live_core.specs.Safe.{Begin, Begins, start_of, IsSafe, IsSafeOrPending}
 use Rattle.recovery_core.specs.Damage.{IsDamagedAt, StopsAtDamage}
-use Rattle.recovery_core.specs.Starved.{StarvedAtRecord}
+use Rattle.recovery_core.specs.Origins.{again}
+use Rattle.recovery_core.specs.Starved.{StarvedAtBase, StarvedAtRecord, StarvedBehind}
 use Rattle.live_core.specs.Written.{Written}
 use Rattle.recovery_core.specs.Ends.{TellsNoJournal, TellsDamage}
 use Rattle.live_core.specs.Ends.{Answered, IsAnswer, IsUnserved, IsLeftAlone}
@@ -36,34 +37,35 @@ pub record Served (unbegun : Type 0) (workers : ℕ) (from : Option ℕ) (batch 
   pub part : (begin : Begin) (input : List ℕ) → begin.from ≡ from → Begins begin input old → SentPrefix old.sent new.sent (expected (start_of begin) (bodies_of (take most input)))
   -- whenever the input was read, all that is expected for the whole frames read before had been sent
   pub prompt : (begin : Begin) (input : List ℕ) → begin.from ≡ from → Begins begin input old → Prompt (start_of begin) input old.asks new.asks
-  -- memory is short only before the first call of the host, at a record of the journal or behind the last, or at a record of the
-  -- input that is accepted, with all sent that is expected before it; where there is one worker, it is one that takes memory
-  pub starved : (begin : Begin) (input : List ℕ) → begin.from ≡ from → Begins begin input old → status ≡ NoMemory
-      → unbegun ⊎ StarvedAtRecord workers from begin.held old.sent new.sent ⊎ Starved (start_of begin) (bodies_of (take most input)) new
+  -- memory is short only before the first call of the host, for the last base of the journal, at a record behind it, or at a record
+  -- of the input that is accepted, with all sent that is expected before it; where there is one worker, it is one that takes memory
+  pub starved : (begin : Begin) (input : List ℕ) → begin.from ≡ from → (begins : Begins begin input old) → status ≡ NoMemory
+      → unbegun ⊎ StarvedAtBase begins.disk old.sent new.sent ⊎ StarvedBehind workers from begins.disk begin.held old.sent new.sent
+      ⊎ Starved (start_of begin) (bodies_of (take most input)) new
   -- where no header stands it is told, unless the disk fails or memory is short, and nothing is read, sent or written
   pub no_journal : status ≡ NoJournal → (disk : List ℕ) → old.disk ≡ Some disk → HasNoHeader disk
   pub no_header : (disk : List ℕ) → old.disk ≡ Some disk → HasNoHeader disk → TellsNoJournal status
   pub no_header_starved : (disk : List ℕ) → old.disk ≡ Some disk → HasNoHeader disk → status ≡ NoMemory → unbegun
   pub unsent : status ≡ NoJournal → new.sent ≡ old.sent
   pub left_alone : (disk : List ℕ) → old.disk ≡ Some disk → HasNoHeader disk → IsLeftAlone old new
-  -- Damage is told at the gate of the first batch that has no form or holds a record that may not follow, and never of a
-  -- journal of lawful records.
+  -- Damage is told where no scan of the journal begins, or at the gate of the first batch behind the last base that has no form or
+  -- holds a record that may not follow, and never of a journal of lawful records.
   pub damaged : (at : ℕ) → status ≡ Damaged at → (disk : List ℕ) → old.disk ≡ Some disk → StopsAtDamage from old.sent at disk new
   pub undamaged : (begin : Begin) (input : List ℕ) → Begins begin input old → (at : ℕ) → status ≢ Damaged at
   -- a damaged journal behind a header is told at just its gate, unless a fault or want of memory comes before
-  pub damage_is_told : (capacity at : ℕ) (before : List Record) (disk : List ℕ) → old.disk ≡ Some disk → IsDamagedAt capacity at before disk → ¬ HasNoHeader disk → TellsDamage at status
+  pub damage_is_told : (capacity at : ℕ) (base : Option Base) (before : List Record) (disk : List ℕ) → old.disk ≡ Some disk → IsDamagedAt capacity at base before disk → ¬ HasNoHeader disk → TellsDamage at status
   -- Whatever the answer, nothing is written to it, no input is read, and a prefix of the messages is sent that are asked for
-  -- again of the records before the damage.
-  pub damage_is_left : (capacity at : ℕ) (before : List Record) (disk : List ℕ) → old.disk ≡ Some disk → IsDamagedAt capacity at before disk → new.disk ≡ old.disk
-  pub damage_is_unserved : (capacity at : ℕ) (before : List Record) (disk : List ℕ) → old.disk ≡ Some disk → IsDamagedAt capacity at before disk → new.input ≡ old.input
-  pub damage_part : (capacity at : ℕ) (before : List Record) (disk : List ℕ) → old.disk ≡ Some disk → IsDamagedAt capacity at before disk
-      → SentPrefix old.sent new.sent (spelled (sent_again from before))
+  -- again of the records before the damage and behind the last base.
+  pub damage_is_left : (capacity at : ℕ) (base : Option Base) (before : List Record) (disk : List ℕ) → old.disk ≡ Some disk → IsDamagedAt capacity at base before disk → new.disk ≡ old.disk
+  pub damage_is_unserved : (capacity at : ℕ) (base : Option Base) (before : List Record) (disk : List ℕ) → old.disk ≡ Some disk → IsDamagedAt capacity at base before disk → new.input ≡ old.input
+  pub damage_part : (capacity at : ℕ) (base : Option Base) (before : List Record) (disk : List ℕ) → old.disk ≡ Some disk → IsDamagedAt capacity at base before disk
+      → SentPrefix old.sent new.sent (again from base before)
   -- and whenever it is stopped, it leaves an image as before
-  pub damage_moments : (capacity at : ℕ) (before : List Record) (disk : List ℕ) → old.disk ≡ Some disk → IsDamagedAt capacity at before disk
-      → Elapses old new (SendsPrefix old.sent (spelled (sent_again from before)) old)
-  -- and memory is short only before the first call of the host, or at a record before the damage, as above
-  pub damage_starved : (capacity at : ℕ) (before : List Record) (disk : List ℕ) → old.disk ≡ Some disk → IsDamagedAt capacity at before disk → status ≡ NoMemory
-      → unbegun ⊎ StarvedAtRecord workers from before old.sent new.sent
+  pub damage_moments : (capacity at : ℕ) (base : Option Base) (before : List Record) (disk : List ℕ) → old.disk ≡ Some disk → IsDamagedAt capacity at base before disk
+      → Elapses old new (SendsPrefix old.sent (again from base before) old)
+  -- and memory is short only before the first call of the host, for the last base, or at a record before the damage, as above
+  pub damage_starved : (capacity at : ℕ) (base : Option Base) (before : List Record) (disk : List ℕ) → old.disk ≡ Some disk → IsDamagedAt capacity at base before disk → status ≡ NoMemory
+      → unbegun ⊎ StarvedAtBase disk old.sent new.sent ⊎ StarvedAtRecord workers (again from base) before old.sent new.sent
   -- where there is no journal or a damaged one, nothing is written, and nothing of the input is read
   pub untouched : IsUnserved status → new.disk ≡ old.disk
   pub input_is_left : IsUnserved status → new.input ≡ old.input

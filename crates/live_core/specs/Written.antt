@@ -3,7 +3,7 @@ use Rattle.std.specs.Prelude.{◌≡◌, ◌⊎◌, ℕ, ◌≤◌, List, length
 use Rattle.host_core.specs.Outside.{Outside, MayLeave, Elapses, Ends}
 use Rattle.wire_in.specs.Cutting.{bodies_of}
 use Rattle.journal_core.specs.Layout.{HoldsTo}
-use Rattle.journal_core.specs.Scan.{HasNoHeader}
+use Rattle.journal_core.specs.Walk.{HasNoHeader}
 use Rattle.journal_core.specs.Extended.{Extends, IsGrown}
 use Rattle.engine_core.specs.Sessions.{held_after}
 use Rattle.engine_core.specs.Serving.{IsKeeping}

@@ -98,8 +98,10 @@ impl Market {
         messages: u64,
         day: &Record,
     ) -> Result<Base, NoMemory>
-        ensures { IfOk result (λ base. (earlier : List Record) → is_day day.now ≡ true → Represents self.now (day.now ∷ earlier) → records ≡ length (day.now ∷ earlier)
+        ensures base { IfOk result (λ base. (earlier : List Record) → is_day day.now ≡ true → Represents self.now (day.now ∷ earlier) → records ≡ length (day.now ∷ earlier)
             → messages ≡ length (messages_of (day.now ∷ earlier)) → base_of (day.now ∷ earlier) ≡ Some base) }
+        ensures numbers { IfOk result (λ base. (base.records ≡ records) × (base.messages ≡ messages)) }
+        ensures day { IfOk result (λ base. base.day ≡ day.now) }
     {
         // For the proof: it has the invariant, that the names are few enough.
         let _names = self.lead.names();

@@ -1,2 +1,4 @@
+pub mod Behind
 pub mod Recovering
 pub mod OneDamage
+pub mod Held

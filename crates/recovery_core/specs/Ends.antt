@@ -10,3 +10,7 @@ TellsNoJournal status = (status ≡ NoJournal) ⊎ (status ≡ DiskFault) ⊎ (s
 -- the answers to a journal that is damaged there: the damage at just that gate, or a fault or want of memory before it
 abbrev pub TellsDamage : ℕ → Status → Type 0
 TellsDamage at status = (status ≡ Damaged at) ⊎ (status ≡ DiskFault) ⊎ (status ≡ SendFault) ⊎ (status ≡ NoMemory)
+
+-- the answers where no scan begins
+abbrev pub TellsNoStart : Status → Type 0
+TellsNoStart status = TellsNoJournal status ⊎ ((at : ℕ) × (status ≡ Damaged at))

@@ -1,28 +1,32 @@
-//! The records of a journal, evaluated again from the first to the last.
+//! The records of a journal behind its last base, evaluated again from the first to the last.
 
-ghost use Rattle.std.specs.Prelude.{if◌then◌else◌, ◌==◌, ◌≡◌, ◌≢◌, ◌+◌, ◌<◌, ◌≤◌, ◌^◌, ◌++◌, ◌∷◌, [], ℕ, List, Option, Some, None, Ok, Err, OnOk, IfOk, IfErr, IsTrue, All, length, true, false, drop};
+ghost use Rattle.std.specs.Prelude.{if◌then◌else◌, ◌==◌, ◌≡◌, ◌≢◌, ◌⊎◌, ◌+◌, ◌<◌, ◌≤◌, ◌^◌, ◌++◌, ◌∷◌, [], ℕ, List, Option, Some, None, Ok, Err, OnOk, IfOk, IfErr, IsOk, IsTrue, All, length, option_map, true, false, drop};
+ghost use Rattle.std.specs.Option.{option_copied};
 ghost use Rattle.host_core.specs.Outside.{Outside, NoFault, Elapses};
 ghost use Rattle.host_core.specs.Frames.{OnlySends};
 ghost use Rattle.host_core.specs.Faults.{Causes};
+ghost use Rattle.wire_in.specs.declared.base.Base.{Base};
 ghost use Rattle.wire_in.specs.declared.record.Record.{Record};
 ghost use Rattle.wire_in.specs.Spelling.{InRange};
 ghost use Rattle.journal_core.specs.Layout.{with_batch};
-ghost use Rattle.rulebook.specs.Sent.{spelled, numbered, hello, passed_over};
+ghost use Rattle.rulebook.specs.Sent.{spelled, numbered, passed_over};
 ghost use Rattle.wire_out.specs.Spelling.{spelling};
-ghost use Rattle.evaluator_core.specs.Evaluating.{workers_of, IsWorking};
+ghost use Rattle.evaluator_core.specs.Evaluating.{workers_of, IsIdle, IsWorking};
 ghost use Rattle.engine_core.specs.EngineState as engines;
 ghost use Rattle.stream_core.specs.Pending.{Expects, SendsPrefix};
+ghost use Rattle.recovery_core.specs.Origins.{again};
 ghost use Rattle.recovery_core.specs.Starved.{StarvedAtRecord};
-ghost use Rattle.recovery_core.specs.Recoveries.{again, IsSmall, Admits, Refuses, Resumes};
+ghost use Rattle.recovery_core.specs.Recoveries.{IsSmall, IsBefore, Admits, Refuses, Resumes};
 
 use crate::waiting::Waiting;
 use engine_core::{Engine, ROUND_MAX, append_messages, evaluate};
 use host_core::{Fault, Host, Status};
 use journal_core::{BATCH_MAX, Batch, Scan};
+use price_core::NoMemory;
 use std::alloc::Global;
 use std::thread::Threads;
 use stream_core::Outbox;
-use wire_in::Record;
+use wire_in::{Base, Record};
 use wire_out::{Frame, Stamped};
 use yard_core::Gate;
 
@@ -61,6 +65,7 @@ fn append_again<H: Host>(
     ensures keeps { OnlySends (H.outside host.old) (H.outside host.new) }
     ensures causes { Causes result (H.outside host.old) (H.outside host.new) }
     ensures fault { IfErr result (λ fault. fault ≡ Fault.Send) }
+    ensures unasked { from ≡ None → (IsOk result) × (outbox.new ≡ outbox.old) × (host.new ≡ host.old) }
 {
     let skipped = passed_over(from, before, messages.len());
     append_messages(outbox, host, before + skipped as u64, &messages[skipped..])
@@ -70,10 +75,10 @@ fn append_again<H: Host>(
 /// left out.
 fn admit_all(engine: &mut Engine, records: &[Record]) -> bool
     requires small { IsSmall engine.old }
-    ensures admits { (capacity : ℕ) (accepted evaluated : List Record) → Admits capacity accepted evaluated engine.old
-        → IsTrue result → Admits capacity (with_batch accepted records.now) evaluated engine.new }
-    ensures refuses { (capacity : ℕ) (accepted evaluated : List Record) → Admits capacity accepted evaluated engine.old
-        → ¬ IsTrue result → Refuses capacity accepted records.now }
+    ensures admits { (capacity : ℕ) (base : Option Base) (accepted evaluated : List Record) → Admits capacity base accepted evaluated engine.old
+        → IsTrue result → Admits capacity base (with_batch accepted records.now) evaluated engine.new }
+    ensures refuses { (capacity : ℕ) (base : Option Base) (accepted evaluated : List Record) → Admits capacity base accepted evaluated engine.old
+        → ¬ IsTrue result → Refuses capacity base accepted records.now }
     ensures rest { engine.new ≡ record engine.old { admission = engine.new.admission } }
     ensures small { IsSmall engine.new }
     ensures count { IsTrue result → engine.new.admission.count ≡ engine.old.admission.count + length records.now }
@@ -99,10 +104,10 @@ fn resume_record<H: Host>(
     requires small { IsSmall engine.old }
     requires some { engine.old.evaluated < engine.old.admission.count }
     requires roomy { engines.IsRoomy engine.old }
-    ensures resumes { (capacity : ℕ) (accepted later : List Record) (begin : Option (List ℕ)) → Resumes from capacity accepted (x.now ∷ later) (x.now ∷ later) begin engine.old outbox.old (H.outside host.old)
-        → OnOk result (Resumes from capacity accepted later later begin engine.new outbox.new (H.outside host.new)) }
-    ensures moments { (capacity : ℕ) (accepted later : List Record) (begin : Option (List ℕ)) → Resumes from capacity accepted (x.now ∷ later) (x.now ∷ later) begin engine.old outbox.old (H.outside host.old)
-        → Elapses (H.outside host.old) (H.outside host.new) (SendsPrefix begin (again from accepted) (H.outside host.old)) }
+    ensures resumes { (capacity : ℕ) (base : Option Base) (accepted later : List Record) (begin : Option (List ℕ)) → Resumes from capacity base accepted (x.now ∷ later) (x.now ∷ later) begin engine.old outbox.old (H.outside host.old)
+        → OnOk result (Resumes from capacity base accepted later later begin engine.new outbox.new (H.outside host.new)) }
+    ensures moments { (capacity : ℕ) (base : Option Base) (accepted later : List Record) (begin : Option (List ℕ)) → Resumes from capacity base accepted (x.now ∷ later) (x.now ∷ later) begin engine.old outbox.old (H.outside host.old)
+        → Elapses (H.outside host.old) (H.outside host.new) (SendsPrefix begin (again from base accepted) (H.outside host.old)) }
     ensures small { OnOk result (IsSmall engine.new) }
     ensures evaluated { OnOk result (engine.new.evaluated ≡ engine.old.evaluated + 1) }
     ensures roomy { OnOk result (engines.IsRoomy engine.new) }
@@ -112,8 +117,9 @@ fn resume_record<H: Host>(
     ensures keeps { OnlySends (H.outside host.old) (H.outside host.new) }
     ensures causes { Causes result (H.outside host.old) (H.outside host.new) }
     ensures unread { result ≢ Err Fault.Read }
-    ensures starved { (capacity : ℕ) (accepted later : List Record) (begin : Option (List ℕ)) → Resumes from capacity accepted (x.now ∷ later) (x.now ∷ later) begin engine.old outbox.old (H.outside host.old)
-        → result ≡ Err Fault.Memory → StarvedAtRecord (workers_of engine.old.evaluator) from accepted begin (H.outside host.new).sent }
+    ensures unasked { from ≡ None → outbox.old ≡ [] → (host.new ≡ host.old) × (result ≢ Err Fault.Send) × OnOk result (outbox.new ≡ []) }
+    ensures starved { (capacity : ℕ) (base : Option Base) (accepted later : List Record) (begin : Option (List ℕ)) → Resumes from capacity base accepted (x.now ∷ later) (x.now ∷ later) begin engine.old outbox.old (H.outside host.old)
+        → result ≡ Err Fault.Memory → StarvedAtRecord (workers_of engine.old.evaluator) (again from base) accepted begin (H.outside host.new).sent }
 {
     let before = engine.published;
     evaluate(engine, outbox, host, x)?;
@@ -132,10 +138,10 @@ fn resume_all<H: Host>(
     requires small { IsSmall engine.old }
     requires count { engine.old.admission.count ≡ engine.old.evaluated + length records.now }
     requires roomy { engines.IsRoomy engine.old }
-    ensures resumes { (capacity : ℕ) (accepted : List Record) (begin : Option (List ℕ)) → Resumes from capacity accepted records.now records.now begin engine.old outbox.old (H.outside host.old)
-        → OnOk result (Resumes from capacity accepted [] [] begin engine.new outbox.new (H.outside host.new)) }
-    ensures moments { (capacity : ℕ) (accepted : List Record) (begin : Option (List ℕ)) → Resumes from capacity accepted records.now records.now begin engine.old outbox.old (H.outside host.old)
-        → Elapses (H.outside host.old) (H.outside host.new) (SendsPrefix begin (again from accepted) (H.outside host.old)) }
+    ensures resumes { (capacity : ℕ) (base : Option Base) (accepted : List Record) (begin : Option (List ℕ)) → Resumes from capacity base accepted records.now records.now begin engine.old outbox.old (H.outside host.old)
+        → OnOk result (Resumes from capacity base accepted [] [] begin engine.new outbox.new (H.outside host.new)) }
+    ensures moments { (capacity : ℕ) (base : Option Base) (accepted : List Record) (begin : Option (List ℕ)) → Resumes from capacity base accepted records.now records.now begin engine.old outbox.old (H.outside host.old)
+        → Elapses (H.outside host.old) (H.outside host.new) (SendsPrefix begin (again from base accepted) (H.outside host.old)) }
     ensures small { OnOk result (IsSmall engine.new) }
     ensures all { OnOk result (engine.new.admission.count ≡ engine.new.evaluated) }
     ensures roomy { OnOk result (engines.IsRoomy engine.new) }
@@ -145,8 +151,9 @@ fn resume_all<H: Host>(
     ensures keeps { OnlySends (H.outside host.old) (H.outside host.new) }
     ensures causes { Causes result (H.outside host.old) (H.outside host.new) }
     ensures unread { result ≢ Err Fault.Read }
-    ensures starved { (capacity : ℕ) (accepted : List Record) (begin : Option (List ℕ)) → Resumes from capacity accepted records.now records.now begin engine.old outbox.old (H.outside host.old)
-        → result ≡ Err Fault.Memory → StarvedAtRecord (workers_of engine.old.evaluator) from accepted begin (H.outside host.new).sent }
+    ensures unasked { from ≡ None → outbox.old ≡ [] → (host.new ≡ host.old) × (result ≢ Err Fault.Send) × OnOk result (outbox.new ≡ []) }
+    ensures starved { (capacity : ℕ) (base : Option Base) (accepted : List Record) (begin : Option (List ℕ)) → Resumes from capacity base accepted records.now records.now begin engine.old outbox.old (H.outside host.old)
+        → result ≡ Err Fault.Memory → StarvedAtRecord (workers_of engine.old.evaluator) (again from base) accepted begin (H.outside host.new).sent }
 {
     for x in records {
         resume_record(engine, outbox, host, from, x)?;
@@ -154,21 +161,23 @@ fn resume_all<H: Host>(
     Ok(())
 }
 
-/// What is kept while a journal is read: how far it was read, the engine of the records so far, what waits to be sent, and
-/// the records that wait to be evaluated.
+/// What is kept while a journal is read: how far it was read, the engine of the records so far, what waits to be sent, the
+/// records that wait to be evaluated, and the newest record that was read, or the day of the last base behind which none was.
 #[derive(Drop)]
 pub struct Recovery {
     pub scan: Scan,
     pub engine: Engine,
     pub outbox: Outbox,
     pub waiting: Waiting,
+    pub newest: Option<Record>,
 }
 
 impl Recovery {
     ghost use Rattle.host_core.specs.Frames.{OnlyReadsDisk};
-    ghost use Rattle.journal_core.specs.Scan.{HasNoHeader};
-    ghost use Rattle.recovery_core.specs.Ends.{TellsNoJournal};
-    ghost use Rattle.recovery_core.specs.Recoveries.{opening, SendsAgain, HasDamage, StarvesAgain, IsReading, Recovers, Gathers, OnlyRecovers, Hinders};
+    ghost use Rattle.journal_core.specs.Walk.{HasBase, HasNoHeader};
+    ghost use Rattle.recovery_core.specs.Ends.{TellsNoStart};
+    ghost use Rattle.recovery_core.specs.Origins.{opening};
+    ghost use Rattle.recovery_core.specs.Recoveries.{SendsAgain, HasDamage, StarvesAgain, IsReading, Recovers, Gathers, OnlyRecovers, Hinders};
 
     /// Reads the next batch, and admits its records behind those that wait. False: the journal is at its end.
     fn gather<H: Host>(&mut self, host: &mut H, batch: &mut Batch) -> Result<bool, Status>
@@ -180,9 +189,12 @@ impl Recovery {
         ensures goes_on { result ≡ Ok true → self.old.scan.gate < self.new.scan.gate }
         ensures within { self.new.scan.gate ≤ self.new.scan.size }
         ensures size { self.new.scan.size ≡ self.old.scan.size }
+        ensures base { self.new.scan.base ≡ self.old.scan.base }
         ensures closed { result ≡ Ok false → IsTrue self.new.scan.is_closed }
         ensures workers { workers_of self.new.engine.evaluator ≡ workers_of self.old.engine.evaluator }
         ensures most { self.new.waiting.most ≡ self.old.waiting.most }
+        ensures outbox { self.new.outbox ≡ self.old.outbox }
+        ensures unsent { result ≢ Err Status.SendFault }
         ensures keeps { OnlyReadsDisk (H.outside host.old) (H.outside host.new) }
         ensures none { OnOk result (NoFault (H.outside host.old) (H.outside host.new)) }
         ensures hindered { IfErr result (λ status. Hinders (λ at. (from : Option ℕ) (begin : Option (List ℕ)) (disk : List ℕ) → Gathers from begin disk self.old (H.outside host.old) → HasDamage at disk)
@@ -198,6 +210,7 @@ impl Recovery {
             return Err(Status::Damaged { at: self.scan.at() });
         }
         self.waiting.append(records);
+        self.newest = records.last().copied();
         Ok(true)
     }
 
@@ -216,7 +229,7 @@ impl Recovery {
         ensures settles { (begin : Option (List ℕ)) (disk : List ℕ) → Gathers from begin disk self.old (H.outside host.old)
             → OnOk result (Gathers from begin disk self.new (H.outside host.new)) }
         ensures moments { (begin : Option (List ℕ)) (disk : List ℕ) → Gathers from begin disk self.old (H.outside host.old)
-            → SendsAgain from begin disk (H.outside host.old) (H.outside host.new) }
+            → SendsAgain from self.old.scan.base begin disk (H.outside host.old) (H.outside host.new) }
         ensures reading { OnOk result (IsReading self.new.scan self.new.engine (length self.new.waiting.records) (H.outside host.new).disk) }
         ensures all { ¬ IsTrue more → OnOk result (self.new.waiting.records ≡ []) }
         ensures room { OnOk result (length self.new.waiting.records + BATCH_MAX ≤ self.new.waiting.most) }
@@ -225,8 +238,9 @@ impl Recovery {
         ensures keeps { OnlySends (H.outside host.old) (H.outside host.new) }
         ensures causes { Causes result (H.outside host.old) (H.outside host.new) }
         ensures unread { result ≢ Err Fault.Read }
+        ensures unasked { from ≡ None → self.old.outbox ≡ [] → (host.new ≡ host.old) × (result ≢ Err Fault.Send) × OnOk result (self.new.outbox ≡ []) }
         ensures starved { (begin : Option (List ℕ)) (disk : List ℕ) → Gathers from begin disk self.old (H.outside host.old)
-            → result ≡ Err Fault.Memory → StarvesAgain (workers_of self.old.engine.evaluator) from begin disk (H.outside host.new) }
+            → result ≡ Err Fault.Memory → StarvesAgain (workers_of self.old.engine.evaluator) from self.old.scan.base begin disk (H.outside host.new) }
     {
         if more && self.waiting.has_room(BATCH_MAX) {
             return Ok(());
@@ -252,16 +266,18 @@ impl Recovery {
         requires most { BATCH_MAX ≤ self.old.waiting.most }
         ensures recovers { (begin : Option (List ℕ)) (disk : List ℕ) → Recovers (again from) begin disk self.old (H.outside host.old)
             → OnOk result (Recovers (again from) begin disk self.new (H.outside host.new)) }
+        ensures base { self.new.scan.base ≡ self.old.scan.base }
         ensures moments { (begin : Option (List ℕ)) (disk : List ℕ) → Recovers (again from) begin disk self.old (H.outside host.old)
-            → SendsAgain from begin disk (H.outside host.old) (H.outside host.new) }
+            → SendsAgain from self.old.scan.base begin disk (H.outside host.old) (H.outside host.new) }
         ensures reading { OnOk result (IsReading self.new.scan self.new.engine 0 (H.outside host.new).disk) }
         ensures workers { workers_of self.new.engine.evaluator ≡ workers_of self.old.engine.evaluator }
         ensures closed { OnOk result (IsTrue self.new.scan.is_closed) }
         ensures keeps { OnlyRecovers (H.outside host.old) (H.outside host.new) }
+        ensures unasked { from ≡ None → self.old.outbox ≡ [] → (result ≢ Err Status.SendFault) × OnlyReadsDisk (H.outside host.old) (H.outside host.new) }
         ensures none { OnOk result (NoFault (H.outside host.old) (H.outside host.new)) }
         ensures hindered { IfErr result (λ status. Hinders (λ at. (begin : Option (List ℕ)) (disk : List ℕ) → Recovers (again from) begin disk self.old (H.outside host.old) → HasDamage at disk)
             ⊥ ((begin : Option (List ℕ)) (disk : List ℕ) → Recovers (again from) begin disk self.old (H.outside host.old)
-            → StarvesAgain (workers_of self.old.engine.evaluator) from begin disk (H.outside host.new))
+            → StarvesAgain (workers_of self.old.engine.evaluator) from self.old.scan.base begin disk (H.outside host.new))
             status (H.outside host.old) (H.outside host.new)) }
     {
         self.waiting.clear();
@@ -289,8 +305,9 @@ impl Recovery {
         requires most { BATCH_MAX ≤ self.old.waiting.most }
         ensures recovers { (begin : Option (List ℕ)) (disk : List ℕ) → Recovers (again from) begin disk self.old (H.outside host.old)
             → OnOk result (Recovers (opening from) begin disk self.new (H.outside host.new)) }
+        ensures base { self.new.scan.base ≡ self.old.scan.base }
         ensures moments { (begin : Option (List ℕ)) (disk : List ℕ) → Recovers (again from) begin disk self.old (H.outside host.old)
-            → SendsAgain from begin disk (H.outside host.old) (H.outside host.new) }
+            → SendsAgain from self.old.scan.base begin disk (H.outside host.old) (H.outside host.new) }
         ensures reading { OnOk result (IsReading self.new.scan self.new.engine 0 (H.outside host.new).disk) }
         ensures alone { OnOk result (workers_of self.new.engine.evaluator ≡ 1) }
         ensures closed { OnOk result (IsTrue self.new.scan.is_closed) }
@@ -298,7 +315,7 @@ impl Recovery {
         ensures none { OnOk result (NoFault (H.outside host.old) (H.outside host.new)) }
         ensures hindered { IfErr result (λ status. Hinders (λ at. (begin : Option (List ℕ)) (disk : List ℕ) → Recovers (again from) begin disk self.old (H.outside host.old) → HasDamage at disk)
             ⊥ ((begin : Option (List ℕ)) (disk : List ℕ) → Recovers (again from) begin disk self.old (H.outside host.old)
-            → StarvesAgain (workers_of self.old.engine.evaluator) from begin disk (H.outside host.new))
+            → StarvesAgain (workers_of self.old.engine.evaluator) from self.old.scan.base begin disk (H.outside host.new))
             status (H.outside host.old) (H.outside host.new)) }
     {
         self.read(rt, host, gate, from, batch)?;
@@ -324,7 +341,8 @@ impl Recovery {
         }
     }
 
-    /// Begins at the header of a journal, for so many workers, from 1 to 64. What waits has room for a batch.
+    /// Begins behind the last base of a journal, or at its header where it has none, for so many workers, from 1 to 64. What
+    /// waits has room for a batch.
     pub fn begin<H: Host>(
         alloc: Global,
         host: &mut H,
@@ -338,33 +356,74 @@ impl Recovery {
             → Recovers (again from) (H.outside host.new).sent disk recovery (H.outside host.new)) }
         ensures reading { IfOk result (λ recovery. IsReading recovery.scan recovery.engine 0 (H.outside host.new).disk) }
         ensures workers { IfOk result (λ recovery. workers_of recovery.engine.evaluator ≡ workers) }
+        ensures outbox { IfOk result (λ recovery. recovery.outbox ≡ []) }
         ensures waiting { IfOk result (λ recovery. recovery.waiting ≡ waiting) }
         ensures header { OnOk result ((disk : List ℕ) → (H.outside host.new).disk ≡ Some disk → ¬ HasNoHeader disk) }
-        ensures kind { IfErr result TellsNoJournal }
+        ensures kind { IfErr result TellsNoStart }
         ensures keeps { OnlyReadsDisk (H.outside host.old) (H.outside host.new) }
         ensures none { OnOk result (NoFault (H.outside host.old) (H.outside host.new)) }
-        ensures hindered { IfErr result (λ status. Hinders (λ _. ⊥) ((disk : List ℕ) → (H.outside host.new).disk ≡ Some disk → HasNoHeader disk)
-            (host.new ≡ host.old) status (H.outside host.old) (H.outside host.new)) }
+        ensures hindered { IfErr result (λ status. Hinders (λ at. (disk : List ℕ) → (H.outside host.new).disk ≡ Some disk → HasDamage at disk)
+            ((disk : List ℕ) → (H.outside host.new).disk ≡ Some disk → HasNoHeader disk)
+            ((host.new ≡ host.old) ⊎ ((disk : List ℕ) → (H.outside host.new).disk ≡ Some disk → HasBase disk)) status (H.outside host.old) (H.outside host.new)) }
     {
-        let Ok(mut engine) = Engine::new(alloc, 0, workers) else {
+        // It is made first: want of memory is told before the journal is read, where that has no base.
+        let Ok(fresh) = Engine::new(alloc, 0, workers) else {
             return Err(Status::NoMemory);
         };
         let scan = Scan::begin(alloc, host)?;
-        engine.limit(scan.limit());
+        let Ok(engine) = engine_before(alloc, &scan, workers, fresh) else {
+            return Err(Status::NoMemory);
+        };
+        let newest = day_of(scan.base());
         Ok(Recovery {
             scan,
             engine,
             outbox,
             waiting,
+            newest,
         })
     }
 }
 
+/// The engine of the records before a scan: that of its base, or this one of no records, under the limit of the journal.
+fn engine_before(
+    alloc: Global,
+    scan: &Scan,
+    workers: u32,
+    mut fresh: Engine,
+) -> Result<Engine, NoMemory>
+    requires workers { (1 ≤ workers) × (workers ≤ 64) }
+    requires fresh { engines.Represents fresh 0 [] [] }
+    requires roomy { engines.IsRoomy fresh }
+    requires idle { IsIdle fresh.evaluator }
+    requires working { IsWorking fresh.evaluator }
+    requires many { workers_of fresh.evaluator ≡ workers }
+    ensures before { IfOk result (IsBefore scan.now.capacity scan.now.base) }
+    ensures roomy { IfOk result engines.IsRoomy }
+    ensures idle { IfOk result (λ engine. IsIdle engine.evaluator) }
+    ensures working { IfOk result (λ engine. IsWorking engine.evaluator) }
+    ensures workers { IfOk result (λ engine. workers_of engine.evaluator ≡ workers) }
+    ensures succeeds { scan.now.base ≡ None → IsOk result }
+{
+    let capacity = scan.limit();
+    if let Some(base) = scan.base() {
+        return Engine::restore(alloc, capacity, workers, base);
+    }
+    fresh.limit(capacity);
+    Ok(fresh)
+}
+
+/// The record of the day of a base; none where there is no base.
+fn day_of(base: Option<&Base>) -> Option<Record>
+    ensures { result ≡ option_map (λ b. b.day) (option_copied base.entry) }
+{
+    base.map(|base| base.day)
+}
+
 /// Appends the first frame of a session, which tells how many records and messages there are.
 fn greet<H: Host>(engine: &Engine, outbox: &mut Outbox, host: &mut H) -> Result<(), Fault>
-    ensures pending { (capacity : ℕ) (held : List Record) (begin : Option (List ℕ)) (text : List ℕ) → engines.Represents engine.now capacity held held
-        → Expects begin (H.outside host.old).sent outbox.old text
-        → OnOk result (Expects begin (H.outside host.new).sent outbox.new (text ++ spelling (hello held))) }
+    ensures pending { (begin : Option (List ℕ)) (text : List ℕ) → Expects begin (H.outside host.old).sent outbox.old text
+        → OnOk result (Expects begin (H.outside host.new).sent outbox.new (text ++ spelling (Frame.Hello engine.now.evaluated engine.now.published))) }
     ensures moments { (begin : Option (List ℕ)) (text : List ℕ) → Expects begin (H.outside host.old).sent outbox.old text
         → Elapses (H.outside host.old) (H.outside host.new) (SendsPrefix begin text (H.outside host.old)) }
     ensures keeps { OnlySends (H.outside host.old) (H.outside host.new) }

@@ -1,6 +1,6 @@
 //! Bytes that wait to be sent together.
 
-ghost use Rattle.std.specs.Prelude.{◌≡◌, ◌+◌, ◌≤◌, ◌++◌, [], ℕ, List, Option, length, OnOk, OnErr, IfOk, IfErr};
+ghost use Rattle.std.specs.Prelude.{◌≡◌, ◌+◌, ◌≤◌, ◌++◌, [], ℕ, List, Option, length, OnOk, OnErr, IfOk, IfErr, IsOk};
 ghost use Rattle.std.specs.Io.KnownBytes.{append_known};
 ghost use Rattle.host_core.specs.Outside.{Elapses};
 ghost use Rattle.host_core.specs.Frames.{OnlySends};
@@ -49,17 +49,21 @@ impl Outbox {
         })
     }
 
-    /// Sends all that waits. After an error the outbox is of no further use.
+    /// Sends all that waits, and makes no call of the host where nothing does. After an error the outbox is of no further use.
     pub fn flush<H: Host>(&mut self, host: &mut H) -> Result<(), Fault>
         ensures sent { (begin : Option (List ℕ)) (text : List ℕ) → Expects begin (H.outside host.old).sent self.old text
             → OnOk result ((H.outside host.new).sent ≡ append_known begin text) }
         ensures empty { OnOk result (self.new ≡ []) }
+        ensures idle { self.old ≡ [] → (IsOk result) × (host.new ≡ host.old) }
         ensures moments { (begin : Option (List ℕ)) (text : List ℕ) → Expects begin (H.outside host.old).sent self.old text
             → Elapses (H.outside host.old) (H.outside host.new) (SendsPrefix begin text (H.outside host.old)) }
         ensures keeps { OnlySends (H.outside host.old) (H.outside host.new) }
         ensures causes { Causes result (H.outside host.old) (H.outside host.new) }
         ensures fault { IfErr result (λ fault. fault ≡ Fault.Send) }
     {
+        if self.bytes.is_empty() {
+            return Ok(());
+        }
         send_all(host, &self.bytes).map_err(|_| Fault::Send)?;
         self.bytes.clear();
         Ok(())

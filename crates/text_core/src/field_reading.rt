@@ -76,7 +76,7 @@ pub fn number8(word: &[u8]) -> Option<u8>
     u8::try_from(number(word)).ok()
 }
 
-/// The number of a word, of 16 bits.
+/// The number that a word prints, of 16 bits; of a word that prints none any number or none.
 #[tactic(auto, unfolding(crate::specs::Reading::number16_in))]
 pub fn number16(word: &[u8]) -> Option<u16>
     ensures { result ≡ number16_in word.now }
@@ -84,7 +84,7 @@ pub fn number16(word: &[u8]) -> Option<u16>
     u16::try_from(number(word)).ok()
 }
 
-/// The number of a word, of 32 bits.
+/// The number that a word prints, of 32 bits; of a word that prints none any number or none.
 #[tactic(auto, unfolding(crate::specs::Reading::number32_in))]
 pub fn number32(word: &[u8]) -> Option<u32>
     ensures { result ≡ number32_in word.now }
@@ -92,7 +92,7 @@ pub fn number32(word: &[u8]) -> Option<u32>
     u32::try_from(number(word)).ok()
 }
 
-/// The moment of a word.
+/// The moment that a word prints, as hh:mm:ss.nnnnnnnnn; of a word that prints none any moment or none.
 #[tactic(auto, unfolding(crate::specs::Reading::moment_in))]
 pub fn moment(word: &[u8]) -> Option<Moment>
     ensures { result ≡ moment_in word.now }
@@ -117,7 +117,7 @@ pub fn date(word: &[u8]) -> Option<Date>
     Date::of(year, month, day).ok()
 }
 
-/// The price of a word.
+/// The price that a word prints, in dollars; of a word that prints none any price or none.
 #[tactic(auto, unfolding(crate::specs::Reading::price_in))]
 pub fn price(word: &[u8]) -> Option<Price>
     ensures { result ≡ price_in word.now }
@@ -125,7 +125,7 @@ pub fn price(word: &[u8]) -> Option<Price>
     Price::new(number(word)).ok()
 }
 
-/// The price of a word that may be absent.
+/// The price that a word prints, in dollars, or that it is absent; of a word that prints neither any of these or none.
 #[tactic(auto, unfolding(crate::specs::Reading::optional_price_in))]
 pub fn optional_price(word: &[u8]) -> Option<Option<Price>>
     ensures { result ≡ optional_price_in word.now }

@@ -1,17 +1,16 @@
 -- Names and ids, one after the other.
-use Rattle.std.proofs.Common.{◌≡◌, ◌⊎◌, ℕ, ◌+◌, ◌<◌, ◌≤◌, Bool, true, false, not, List, [], ◌∷◌, ◌++◌, length, take, drop, get_or, refl, sym, ◌∙◌, ap, subst, true≢false, arith}
-use Rattle.std.specs.Prelude.{All, IsTrue, IsSome, Option, is_some, ◌↔◌, ◌&&◌, if◌then◌else◌, nat_lt, nat_le}
+use Rattle.std.proofs.Common.{◌≡◌, ◌⊎◌, ℕ, ◌+◌, ◌<◌, ◌≤◌, Bool, true, false, not, List, [], ◌∷◌, ◌++◌, length, take, drop, get_or, refl, sym, ◌∙◌, ap, true≢false, arith}
+use Rattle.std.specs.Prelude.{All, IsTrue, ◌↔◌, ◌&&◌, if◌then◌else◌, nat_lt, nat_le}
 use Rattle.std.specs.List.{flat_map, list_any}
 use Rattle.std.specs.Int.{w16, to_be_bytes}
 use Rattle.std.specs.Str.{bytes_eq}
 use Rattle.std.proofs.lemmas.Bool.Decides.{nat_tests}
 use Rattle.std.proofs.lemmas.Grind.{flat_map-append}
-use Rattle.std.proofs.lemmas.List.{append-nil, take-append-drop, take-take, drop-take, length-take, length-drop, take_all, take_more, at_drop_more}
+use Rattle.std.proofs.lemmas.List.{append-nil, take-append-drop, take-take, drop-take, length-take, length-drop, take_more, at_drop_more}
 use Rattle.std.proofs.lemmas.List.Elements.{All-nil, All-cons, All-head, All-tail, All-weaker}
 use Rattle.wire_core.specs.Fields.{number}
 use Rattle.wire_core.proofs.Cells.{IsBytes, IsBytes-drop, IsBytes-take, wide16}
-use Rattle.wire_in.specs.Bases.{AreNew, AreRising, IsListed}
-use Rattle.wire_core.specs.Names.{is_name}
+use Rattle.wire_in.specs.Bases.{AreNew, AreRising}
 
 -- a piece more of some bytes
 take-piece : (k n : ℕ) (bytes : List ℕ) → take (n + k) bytes ≡ take n bytes ++ take k (drop n bytes)
@@ -162,10 +161,3 @@ rises_on least n s rest le lt = λ i. le_is least s le i && (lt_is s n lt i && r
 pub rises_no : (least n s : ℕ) (rest : Bool) → (s < least) ⊎ (n ≤ s) → (nat_le least s && (nat_lt s n && rest)) ≡ false
 rises_no least n s true h = grind (arith, nat_tests)
 rises_no least n s false h = grind (arith, nat_tests)
-
--- a name that was tried
-pub listed_if : (name : List ℕ) (o : Option (List ℕ)) → length name ≡ 8 → IsSome o ↔ IsTrue (is_name (take 8 (drop 0 name))) → is_some o ≡ true → IsListed name
-listed_if name o len range is = (len, subst (λ (n : List ℕ). IsTrue (is_name n)) (take_all 8 name (omega (arith, len))) (range.0 is))
-
-pub unlisted_if : (name : List ℕ) (o : Option (List ℕ)) → length name ≡ 8 → IsSome o ↔ IsTrue (is_name (take 8 (drop 0 name))) → is_some o ≡ false → ¬ IsListed name
-unlisted_if name o len range is listed = true≢false (sym (range.1 (subst (λ (n : List ℕ). IsTrue (is_name n)) (sym (take_all 8 name (omega (arith, len)))) listed.1)) ∙ is)

@@ -96,13 +96,19 @@ fn ids_of(alloc: Global, bytes: &[u8], count: usize) -> Result<Ids, NoMemory>
     Ok(ids)
 }
 
+/// Whether this is a name as listings have it.
+fn is_listed(name: [u8; 8]) -> bool
+    ensures { IsTrue result ↔ IsListed name }
+{
+    name_at(&name, 0).is_some()
+}
+
 /// Whether all of these are names as listings have them.
 fn are_names(names: &[[u8; 8]]) -> bool
-    requires { All (λ name. length name ≡ 8) names.now }
     ensures { IsTrue result ↔ All IsListed names.now }
 {
     for name in names {
-        if name_at(name, 0).is_none() {
+        if !is_listed(*name) {
             return false;
         }
     }
@@ -149,7 +155,6 @@ fn has_few(b: &Base) -> bool
 
 /// Whether a base is in its ranges, but for names that stand there twice.
 fn is_nearly_in_range(b: &Base) -> bool
-    requires sizes { All (λ name. length name ≡ 8) b.now.names }
     ensures { IsTrue result ↔ IsNearlyInRange b.now }
 {
     let names = b.names.list();
@@ -159,13 +164,24 @@ fn is_nearly_in_range(b: &Base) -> bool
 /// Whether a base is in its ranges, given that it begins with a day.
 fn is_in_range(alloc: Global, b: &Base) -> Result<bool, NoMemory>
     requires begins { is_day b.now.day ≡ true }
-    requires sizes { All (λ name. length name ≡ 8) b.now.names }
     ensures { IfOk result (λ holds. IsTrue holds ↔ IsInRange b.now) }
 {
     if !is_nearly_in_range(b) {
         return Ok(false);
     }
     are_different(alloc, b.names.list())
+}
+
+impl Base {
+    /// Whether it is in its ranges, as the base of each lawful list is. It takes memory for its names.
+    pub fn is_in_range(&self, alloc: Global) -> Result<bool, NoMemory>
+        ensures { IfOk result (λ holds. IsTrue holds ↔ IsInRange self.now) }
+    {
+        if !self.day.is_day() {
+            return Ok(false);
+        }
+        is_in_range(alloc, self)
+    }
 }
 
 /// Reads a base, whether or not it is in its ranges.

@@ -1,4 +1,4 @@
-use Rattle.std.proofs.Common.{◌+◌, ◌++◌, List, refl, sym, ap, ◌∙◌, append_assoc, arith}
+use Rattle.std.proofs.Common.{◌+◌, ◌++◌, List, length, refl, sym, ap, ◌∙◌, append_assoc, arith}
 use Rattle.host_core.proofs.Chains.{onward, sends_nothing}
 use Rattle.host_core.proofs.Causes.{no_fault, faultless}
 use Rattle.wire_out.specs.declared.message.Frame.TheVariants.{Numbered}
@@ -18,6 +18,7 @@ loop-message-init g c = record {
       (sends_none (g.H.Host.outside c.args.host.now) (g.met.H.Host.sent_now c.args.host.now) _ text expects);
   keeps = sends_nothing _;
   none = no_fault _;
+  empty = λ none. (refl, refl);
 }
 
 pub loop-message-preserved : goal.loop-message-preserved
@@ -38,9 +39,18 @@ loop-message-preserved g c =
           sends_on (c.loop-message.invariant.moments begin text expects) now.0 _ now.2 (c.append.ensures.moments begin now.0 now.1);
       keeps = onward c.loop-message.invariant.keeps c.append.ensures.keeps;
       none = faultless c.loop-message.invariant.none c.in_ok-append.ensures.causes;
+      empty = λ none. absurd (omega (arith, ap length none, c.loop-message-test.true));
     }
 
 pub returns-in_err-append-clause-moments : goal.returns-in_err-append-clause-moments
 returns-in_err-append-clause-moments g c = λ begin text expects.
     let now = c.loop-message.invariant.pending begin text expects in
     sends_on (c.loop-message.invariant.moments begin text expects) now.0 _ now.2 (c.append.ensures.moments begin now.0 now.1)
+
+pub returns-in_err-append-clause-none : goal.returns-in_err-append-clause-none
+returns-in_err-append-clause-none g c = λ none. absurd (omega (arith, ap length none, c.loop-message-test.true))
+
+pub returns-clause-none : goal.returns-clause-none
+returns-clause-none g c = λ none.
+    let same = c.loop-message.invariant.empty none in
+    (refl, same.0, same.1)

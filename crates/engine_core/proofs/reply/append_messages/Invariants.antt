@@ -1,4 +1,4 @@
-use Rattle.std.proofs.Common.{◌≡◌, ◌+◌, ◌++◌, ℕ, List, drop}
+use Rattle.std.proofs.Common.{◌≡◌, ◌+◌, ◌++◌, ℕ, List, [], drop}
 use Rattle.std.specs.Prelude.{Option}
 use Rattle.host_core.specs.Outside.{Elapses, NoFault}
 use Rattle.host_core.specs.Frames.{OnlySends}
@@ -16,4 +16,5 @@ invariant-loop-message g l = record {
       → Elapses (g.H.Host.outside l.initial.host) (g.H.Host.outside l.host) (SendsPrefix begin (text ++ spelled (numbered l.before l.messages)) (g.H.Host.outside l.initial.host));
   keeps : OnlySends (g.H.Host.outside l.initial.host) (g.H.Host.outside l.host);
   none : NoFault (g.H.Host.outside l.initial.host) (g.H.Host.outside l.host);
+  empty : l.messages ≡ [] → (l.outbox ≡ l.initial.outbox) × (l.host ≡ l.initial.host);
 }

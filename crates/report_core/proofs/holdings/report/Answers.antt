@@ -1,4 +1,4 @@
-use Rattle.std.proofs.Common.{inr, refl}
+use Rattle.std.proofs.Common.{inl, inr, refl}
 use Rattle.host_core.specs.declared.status.Status.TheVariants.{NoMemory}
 use Rattle.host_core.proofs.Causes.{no_fault}
 use Rattle.host_core.proofs.Chains.{reads_nothing}
@@ -12,7 +12,7 @@ returns-in_default g c =
     let now = g.H.Host.outside c.args.host.now in
     let reads = reads_nothing now (g.met.H.Host.sent_now c.args.host.now) in
     unread_reported _ NoMemory now now (g.met.H.Host.sent_now c.args.host.now) (g.met.H.Host.stops_now c.args.host.now) (only_read reads)
-    (ungathered_at_once _ NoMemory reads (inr (inr refl)) (no_fault now, refl))
+    (ungathered_at_once _ NoMemory reads (inl (inr (inr refl))) (no_fault now, inl refl))
 
 -- it was read to its end
 pub returns-in-Ok-gather : goal.returns-in-Ok-gather

@@ -8,12 +8,12 @@ pub returns-in_err-ahead-clause-keeps : goal.returns-in_err-ahead-clause-keeps
 returns-in_err-ahead-clause-keeps g c = reads_nothing (g.H.Host.outside c.args.host.now) (g.met.H.Host.sent_now c.args.host.now)
 
 pub returns-clause-of_disk : goal.returns-clause-of_disk
-returns-clause-of_disk g c = IfOk-weaker c.open.result _ _ (λ scan read disk known. ([], read disk known)) c.open.ensures.read
+returns-clause-of_disk g c = IfOk-weaker c.walked.result _ _ (λ scan read disk known. ([], read disk known)) c.walked.ensures.read
 
 pub returns-clause-settled : goal.returns-clause-settled
 returns-clause-settled g c =
-    let settled = still_settled c.open.ensures.keeps.moments c.open.ensures.keeps.disk c.in_ok-settle.ensures.syncs.settled in
-    IfOk-weaker c.open.result IsBegun _ (λ scan begun. settled) c.open.ensures.begun
+    let settled = still_settled c.walked.ensures.keeps.moments c.walked.ensures.keeps.disk c.in_ok-settle.ensures.syncs.settled in
+    IfOk-weaker c.walked.result IsBegun _ (λ scan begun. settled) c.walked.ensures.begun
 
 pub returns-clause-keeps : goal.returns-clause-keeps
-returns-clause-keeps g c = reads_on c.settle.ensures.syncs.keeps c.open.ensures.keeps
+returns-clause-keeps g c = reads_on c.settle.ensures.syncs.keeps c.walked.ensures.keeps

@@ -12,7 +12,7 @@ returns-clause-settled g c = still_settled c.fill.ensures.keeps.moments c.fill.e
 pub returns-clause-batch : goal.returns-clause-batch
 returns-clause-batch g c is batches disk known read =
     let took = c.take_at_gate.ensures.batch is in
-    took_batch c.fill.new.self c.take_at_gate.new.self c.take_at_gate.new.into took.0 took.1 took.2 c.take_at_gate.ensures.capacity c.take_at_gate.ensures.size took.4 batches disk (c.fill.ensures.reads batches disk known read)
+    took_batch c.fill.new.self c.take_at_gate.new.self c.take_at_gate.new.into took.0 took.1 took.2 c.take_at_gate.ensures.capacity c.take_at_gate.ensures.base c.take_at_gate.ensures.size took.4 batches disk (c.fill.ensures.reads batches disk known read)
 
 pub returns-clause-same : goal.returns-clause-same
 returns-clause-same g c other batches disk known read =
@@ -29,5 +29,5 @@ returns-clause-of_disk g c of_disk disk known =
     let read = c.fill.ensures.reads before.0 disk (sym c.fill.ensures.keeps.disk ∙ known) before.1 in
     ⊎_elim (λ is.
     let took = c.take_at_gate.ensures.batch is in
-    (before.0 ++ c.take_at_gate.new.into ∷ [], took_batch c.fill.new.self c.take_at_gate.new.self c.take_at_gate.new.into took.0 took.1 took.2 c.take_at_gate.ensures.capacity c.take_at_gate.ensures.size took.4 before.0 disk read))
+    (before.0 ++ c.take_at_gate.new.into ∷ [], took_batch c.fill.new.self c.take_at_gate.new.self c.take_at_gate.new.into took.0 took.1 took.2 c.take_at_gate.ensures.capacity c.take_at_gate.ensures.base c.take_at_gate.ensures.size took.4 before.0 disk read))
     (λ reads. (before.0, reads before.0 disk read)) c.take_at_gate.ensures.reads

@@ -12,6 +12,8 @@ invariant_of-self-in-Batch c =
     let within : c.in-Batch.len ≤ length c.self.inside.ahead = omega (arith, prefix.2, ap length c.bytes.ensures) in
     record {
       range = before.range;
+      base_range = before.base_range;
+      base_few = before.base_few;
       count_within = omega (arith, before.count_within, c.len.ensures.len, prefix.1, frames_least c.read.new.into);
       ahead_within = omega (arith, before.ahead_within, within, ap length c.skip.ensures, length-drop c.in-Batch.len c.self.inside.ahead);
       small = before.small;

@@ -6,8 +6,8 @@ use Rattle.market_core.specs.MarketState.{MarketState}
 use Rattle.market_core.proofs.Restoring.{base-of-kept}
 use Rattle.market_core.proofs.market.Market.base.Goals as goal
 
-pub returns : goal.returns
-returns c = λ earlier begins stands count messages.
+pub returns-clause-base : goal.returns-clause-base
+returns-clause-base c = λ earlier begins stands count messages.
     let kept = c.args.self.now in
     let day = c.args.day.now in
     base-of-kept kept (day ∷ earlier) earlier day c.args.records c.args.messages stands refl begins count messages

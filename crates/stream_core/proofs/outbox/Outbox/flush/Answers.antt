@@ -1,7 +1,10 @@
 use Rattle.std.proofs.Common.{◌∙◌}
 use Rattle.host_core.proofs.Moments.{widened}
-use Rattle.stream_core.proofs.Sending.{sends_prefix}
+use Rattle.stream_core.proofs.Sending.{sends_none, sends_prefix}
 use Rattle.stream_core.proofs.outbox.Outbox.flush.Goals as goal
+
+pub returns-then-is_empty-clause-moments : goal.returns-then-is_empty-clause-moments
+returns-then-is_empty-clause-moments g c = λ begin text expects. sends_none (g.H.Host.outside c.args.host.now) (g.met.H.Host.sent_now c.args.host.now) _ text expects
 
 pub returns-in_err-map_err-clause-moments : goal.returns-in_err-map_err-clause-moments
 returns-in_err-map_err-clause-moments g c = λ begin text expects.
