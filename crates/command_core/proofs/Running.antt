@@ -9,7 +9,7 @@ use Rattle.words_core.specs.declared.asked.Asked.TheVariants as asked
 use Rattle.words_core.specs.declared.asked.WordsError.{WordsError}
 use Rattle.words_core.specs.declared.asked.WordsError.TheVariants as errors
 use Rattle.words_core.specs.declared.command.Command.{Command}
-use Rattle.words_core.specs.declared.command.Command.TheVariants.{Format, Serve, Replay, Status, Print, Pack, Generate, Board, Cross, Audit}
+use Rattle.words_core.specs.declared.command.Command.TheVariants.{Format, Serve, Replay, Status, Print, Pack, Generate, Roll, Board, Cross, Audit}
 use Rattle.auction_core.specs.Texts.{lines_of}
 use Rattle.auction_core.proofs.Texting.{lines_have_text}
 use Rattle.command_core.specs.Runs.{Ran, Did, Obeyed}
@@ -24,6 +24,7 @@ understood unbegun (Print kind) status old new ran is = grind (arith, ran.kind, 
 understood unbegun (Pack kind) status old new ran is = grind (arith, ran.kind, is)
 understood unbegun (Generate seed symbols records workers true) status old new ran is = grind (arith, ran.kind, is)
 understood unbegun (Generate seed symbols records workers false) status old new ran is = grind (arith, ran.kind, is)
+understood unbegun Roll status old new ran is = grind (arith, ran.kind, is)
 understood unbegun (Board bytes) status old new ran is = grind (arith, ran.kind, is)
 understood unbegun Cross status old new ran is =
     let texts = λ (input : List ℕ). lines_have_text (lines_of input) in

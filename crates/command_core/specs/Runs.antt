@@ -7,6 +7,7 @@ use Rattle.host_core.specs.Outside.{Outside, Elapses, Sends, Rose}
 use Rattle.host_core.specs.Frames.{OnlySends}
 use Rattle.journal_core.specs.Formatted.{Formatted}
 use Rattle.report_core.specs.Reported.{Reported}
+use Rattle.roll_core.specs.Rolled.{Rolled}
 use Rattle.gen_core.specs.declared.plan.DayPlan.{DayPlan}
 use Rattle.gen_core.specs.Sent.{SentDay}
 use Rattle.rehearse_core.specs.Rehearsed.{Rehearsed}
@@ -22,7 +23,7 @@ use Rattle.words_core.specs.declared.asked.Asked.TheVariants as asked
 use Rattle.words_core.specs.declared.asked.WordsError.{WordsError}
 use Rattle.words_core.specs.declared.asked.WordsError.TheVariants as errors
 use Rattle.words_core.specs.declared.command.Command.{Command}
-use Rattle.words_core.specs.declared.command.Command.TheVariants.{Format, Serve, Replay, Status, Print, Pack, Generate, Board, Cross, Audit}
+use Rattle.words_core.specs.declared.command.Command.TheVariants.{Format, Serve, Replay, Status, Print, Pack, Generate, Roll, Board, Cross, Audit}
 
 -- a generated day was sent, or its summary
 abbrev pub Generates : DayPlan → Bool → status.Status → Outside → Outside → Type 0
@@ -38,6 +39,7 @@ Ran unbegun Status status old new = Reported unbegun status old new
 Ran unbegun (Print kind) status old new = Printed unbegun kind status old new
 Ran unbegun (Pack kind) status old new = Packed unbegun kind status old new
 Ran unbegun (Generate seed symbols records workers summary) status old new = Generates (record { seed = seed; symbols = symbols; records = records }) summary status old new
+Ran unbegun Roll status old new = Rolled unbegun status old new
 Ran unbegun (Board bytes) status old new = Screened unbegun bytes status old new
 Ran unbegun Cross status old new = HasCrossed status old new
 Ran unbegun Audit status old new = Audited status old new

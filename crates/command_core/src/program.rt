@@ -20,6 +20,7 @@ use live_core::{ServeOptions, serve};
 use rehearse_core::rehearse;
 use replay_core::{ReplayOptions, replay};
 use report_core::report;
+use roll_core::roll;
 use screen_core::board_stream;
 use std::alloc::Global;
 use std::thread::Threads;
@@ -109,6 +110,7 @@ fn obey<Rt: Threads + Sync, H: Host, G: Gate>(
             };
             generate(rt, alloc, host, gate, &plan, workers, summary)
         }
+        Command::Roll => roll(rt, alloc, host),
         Command::Board { bytes } => board_stream(alloc, host, bytes),
         Command::Cross => cross_stream(alloc, host),
         Command::Audit => audit_stream(alloc, host),

@@ -1,7 +1,7 @@
 //! The whole program: words, an input and a disk in memory, and what is sent.
 
 mod audits;
-mod batches;
+mod based;
 mod bytes;
 mod ends;
 mod generated;
@@ -10,9 +10,8 @@ mod holdings;
 mod meeting;
 mod morning;
 mod process;
-mod refusals;
 mod restarts;
-mod stops;
+mod rolled;
 mod texts;
 mod told;
 
@@ -110,6 +109,13 @@ fn replays<Rt: Abort + AllocGlobal + Threads + Sync>(rt: &Rt, lines: &[Line]) ->
         assert!(rt; disk.is_empty());
     }
     Ok(())
+}
+
+/// What a session that asks for all messages again is sent over a journal of the fall.
+fn again(alloc: Global) -> Result<Vec<u8>, Fail> {
+    let breaker = Session::of(alloc, &fall())?.replayed;
+    let held = Session::over(alloc, 3, 1, &[])?.served;
+    Ok([breaker.as_slice(), held.as_slice()].concat(alloc)?)
 }
 
 #[test]

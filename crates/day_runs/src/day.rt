@@ -114,8 +114,13 @@ impl Day {
         Ok(day)
     }
 
+    /// Whether a session reads all of it.
+    pub fn is_read_whole(&self) -> bool {
+        self.most == BYTES_MAX
+    }
+
     /// Whether a session takes its frames and ends well.
     pub fn is_plain(&self) -> bool {
-        self.limit.is_none() && self.most == BYTES_MAX && self.end == Status::Done
+        self.limit.is_none() && self.is_read_whole() && self.end == Status::Done
     }
 }

@@ -4,7 +4,7 @@ use crate::day::Day;
 use crate::stated;
 use crate::tally::{tell_difference, tell_tally};
 use crate::text::DayError;
-use crate::way::{Outcome, Way, is_one_day};
+use crate::way::{Outcome, Way, days};
 use std::alloc::Global;
 use std::rt::Files;
 use std::thread::Threads;
@@ -15,6 +15,9 @@ const BATCHES: [u32; 4] = [1, 2, 63, 64];
 
 /// The numbers of workers by which every day is replayed, and served in batches of 64.
 const WORKERS: [u32; 4] = [1, 2, 3, 64];
+
+/// The numbers of workers by which the journal of several days is served that is rolled behind each of them.
+const ROLL_WORKERS: [u32; 3] = [1, 2, 64];
 
 /// The most frames of a day that is cut in two behind each of them.
 const CUT_MAX: usize = 64;
@@ -83,6 +86,16 @@ fn ways_by_workers(alloc: Global, day: &Day) -> Result<Vec<Way>, DayError> {
     Ok(ways)
 }
 
+/// Adds the ways to serve a day of several days whose journal is rolled behind each of them.
+fn add_rolls(ways: &mut Vec<Way>, day: &Day) -> Result<(), DayError> {
+    if day.is_read_whole() {
+        for workers in ROLL_WORKERS {
+            ways.push(Way::Rolled { workers })?;
+        }
+    }
+    Ok(())
+}
+
 /// The ways to run a day.
 fn ways_of(alloc: Global, day: &Day) -> Result<Vec<Way>, DayError> {
     let frames = stated::frames(&day.served);
@@ -99,8 +112,10 @@ fn ways_of(alloc: Global, day: &Day) -> Result<Vec<Way>, DayError> {
     if day.limit.is_none() {
         ways.push(Way::Board)?;
     }
-    if is_one_day(alloc, day)? {
-        ways.push(Way::Audit)?;
+    match days(alloc, day)? {
+        0 => {}
+        1 => ways.push(Way::Audit)?,
+        _ => add_rolls(&mut ways, day)?,
     }
     Ok(ways)
 }

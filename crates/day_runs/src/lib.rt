@@ -5,6 +5,7 @@
 mod day;
 mod folder;
 mod published;
+mod rolled;
 mod said;
 mod shown;
 mod stated;

@@ -15,9 +15,9 @@ use yard_core::OpenGate;
 /// A command that reads an input and nothing else.
 #[derive(Clone, Copy, Debug)]
 pub enum Command {
-    /// Of `NAME.published.lines`, whose frames it reads, `NAME.audit` says what it answers.
+    /// Of `audits/NAME.published.lines`, whose frames it reads, `audits/NAME.audit` says what it answers.
     Audit,
-    /// Of the auction in `NAME.lines`, `NAME.cross` says what it answers.
+    /// Of the auction in `crosses/NAME.lines`, `crosses/NAME.cross` says what it answers.
     Cross,
 }
 
@@ -34,6 +34,22 @@ impl Command {
         match self {
             Command::Audit => ["audit"],
             Command::Cross => ["cross"],
+        }
+    }
+
+    /// What each of its files says, in a word.
+    fn kind(self) -> &'static str {
+        match self {
+            Command::Audit => "audit",
+            Command::Cross => "auction",
+        }
+    }
+
+    /// The folder that has its files.
+    fn folder(self) -> &'static str {
+        match self {
+            Command::Audit => "audits",
+            Command::Cross => "crosses",
         }
     }
 
@@ -88,8 +104,9 @@ fn said_of<Rt: Files + AllocGlobal + Threads + Sync>(
     name: &str,
 ) -> Result<Said, DayError> {
     let alloc = rt.alloc();
-    let input = format!(in alloc; "{name}{}", command.input_ending())?;
-    let stated = format!(in alloc; "{name}{}", command.ending())?;
+    let folder = command.folder();
+    let input = format!(in alloc; "{folder}/{name}{}", command.input_ending())?;
+    let stated = format!(in alloc; "{folder}/{name}{}", command.ending())?;
     let input = fs::read_to_string(rt, input.as_str())?;
     let input = command.input(alloc, &input)?;
     Ok(Said {
@@ -113,15 +130,15 @@ fn try_file<Rt: Files + Print + AllocGlobal + Threads + Sync>(
     }
 }
 
-/// Compares what a command answers with each file that says so, in the folder that the program runs in. It tells of each
-/// difference, and then how many there are, or that the files agree. Answers whether there is a file, and none differs.
+/// Compares what a command answers with each file that says so, in its folder of the one that the program runs in. It tells of
+/// each difference, and then how many there are, or that the files agree. Answers whether there is a file, and none differs.
 pub fn files_agree<Rt: Files + Print + AllocGlobal + Threads + Sync + Clone + Drop>(
     rt: &Rt,
     command: Command,
 ) -> io::Result<bool> {
     let alloc = rt.alloc();
     let (mut files, mut differ) = (0usize, 0usize);
-    for entry in fs::read_dir(rt, ".")? {
+    for entry in fs::read_dir(rt, command.folder())? {
         let entry = entry?;
         let Some(name) = entry.file_name().strip_suffix(command.ending()) else {
             continue;
@@ -132,5 +149,5 @@ pub fn files_agree<Rt: Files + Print + AllocGlobal + Threads + Sync + Clone + Dr
             differ = differ.saturating_add(1);
         }
     }
-    tell_tally(rt, "file", files, differ)
+    tell_tally(rt, command.kind(), files, differ)
 }

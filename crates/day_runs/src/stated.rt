@@ -71,6 +71,42 @@ pub fn cut_behind(alloc: Global, served: &str, frames: usize) -> Result<Cut, Day
     Ok(Cut { first, then })
 }
 
+/// What is said of a refused frame behind its place in the session.
+fn refusal_of(line: &str) -> Option<&str> {
+    let (_place, why) = line.strip_prefix("refused ")?.split_once(' ')?;
+    Some(why)
+}
+
+/// What sessions send that end behind so many frames each, where the journal is rolled behind each but the last, and what is sent
+/// again in the end.
+pub fn rolled_behind(alloc: Global, served: &str, ends: &[usize]) -> Result<String, DayError> {
+    let mut text = String::new(alloc);
+    let mut again = String::new(alloc);
+    let (mut frames, mut inputs, mut numbered) = (0usize, 0usize, 0usize);
+    let mut before = 0usize;
+    for line in served.lines() {
+        match refusal_of(line) {
+            Some(why) => {
+                let place = frames.saturating_sub(before).saturating_add(1);
+                text = format!(in alloc; "{text}refused {place} {why}\n")?;
+            }
+            None => push_line(&mut text, line)?,
+        }
+        if is_message(line) {
+            push_line(&mut again, line)?;
+            numbered = numbered.saturating_add(1);
+        }
+        inputs = inputs.saturating_add(usize::from(is_ack(line)));
+        frames = frames.saturating_add(usize::from(is_ack(line) || is_refusal(line)));
+        if is_ack(line) && ends.contains(&frames) {
+            again = String::new(alloc);
+            before = frames;
+            text = format!(in alloc; "{text}hello {inputs} {numbered}\n")?;
+        }
+    }
+    Ok(format!(in alloc; "{text}{again}hello {inputs} {numbered}\n")?)
+}
+
 /// Of each answered frame, whether it is acknowledged.
 pub fn verdicts(alloc: Global, served: &str) -> Result<Vec<bool>, NoMemory> {
     let mut verdicts = Vec::new(alloc);

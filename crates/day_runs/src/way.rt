@@ -2,6 +2,7 @@
 
 use crate::day::Day;
 use crate::published::{packed, printed, text_of};
+use crate::rolled::serve_rolled;
 use crate::shown::board_lines;
 use crate::stated;
 use crate::text::DayError;
@@ -40,6 +41,8 @@ pub enum Way {
     Replay { workers: u32 },
     /// A session that ends behind so many frames, and another by so many workers.
     Cut { frames: usize, workers: u32 },
+    /// Sessions by so many workers, each of which ends behind an accepted record that begins a day; then the journal is rolled.
+    Rolled { workers: u32 },
     /// The evaluation of the accepted records from the whole list, by the definitions alone.
     Plain,
     /// An audit of the messages and refusals that are stated of one day.
@@ -61,6 +64,12 @@ impl Display for Way {
                     "serve up to frame {frames}, then serve --workers {workers} --from 1"
                 )
             }
+            Way::Rolled { workers } => {
+                write!(
+                    f,
+                    "serve --workers {workers} up to each day, and roll behind it"
+                )
+            }
             Way::Plain => write!(f, "the plain evaluation"),
             Way::Audit => write!(f, "audit"),
             Way::Board => write!(f, "board"),
@@ -77,17 +86,17 @@ pub struct Outcome {
     pub sent: String,
 }
 
-/// An empty journal.
-fn journal(alloc: Global, limit: u64) -> Result<Vec<u8>, DayError> {
+/// An empty journal, which takes so many records where that is said.
+pub fn journal(alloc: Global, limit: Option<u64>) -> Result<Vec<u8>, DayError> {
     let mut host = MemoryHost::new(alloc, b"", b"")?;
-    if format(&mut host, limit.clamp(1, LIMIT_MAX)).is_err() {
+    if format(&mut host, limit.unwrap_or(LIMIT).clamp(1, LIMIT_MAX)).is_err() {
         return Err(DayError::NoMemory);
     }
     Ok(Vec::from_slice(alloc, host.disk())?)
 }
 
 /// Serves what a host reads.
-fn served<Rt: Threads + Sync>(
+pub fn served<Rt: Threads + Sync>(
     rt: &Rt,
     alloc: Global,
     host: &mut MemoryHost,
@@ -110,7 +119,7 @@ fn serve_day<Rt: Threads + Sync>(
     batch: u32,
     workers: u32,
 ) -> Result<Outcome, DayError> {
-    let disk = journal(alloc, day.limit.unwrap_or(LIMIT))?;
+    let disk = journal(alloc, day.limit)?;
     let options = ServeOptions {
         from: None,
         workers,
@@ -157,7 +166,7 @@ fn replay_day<Rt: Threads + Sync>(
 }
 
 /// How many bytes the first frames of an input have.
-fn bytes_of(input: &[u8], frames: usize) -> usize {
+pub fn bytes_of(input: &[u8], frames: usize) -> usize {
     let mut bytes: usize = 0;
     for _ in 0..frames {
         let Some(len) = input.get(bytes) else {
@@ -176,7 +185,7 @@ fn serve_in_two<Rt: Threads + Sync>(
     frames: usize,
     workers: u32,
 ) -> Result<Outcome, DayError> {
-    let disk = journal(alloc, LIMIT)?;
+    let disk = journal(alloc, None)?;
     let bytes = bytes_of(&day.input, frames);
     let options = ServeOptions {
         from: None,
@@ -207,7 +216,7 @@ fn serve_in_two<Rt: Threads + Sync>(
 }
 
 /// The records of the frames that the second file acknowledges.
-fn accepted(alloc: Global, day: &Day) -> Result<Vec<Record>, DayError> {
+pub fn accepted(alloc: Global, day: &Day) -> Result<Vec<Record>, DayError> {
     let mut records = Vec::new(alloc);
     let mut rest = day.input.as_slice();
     for is_accepted in stated::verdicts(alloc, &day.served)? {
@@ -225,10 +234,10 @@ fn accepted(alloc: Global, day: &Day) -> Result<Vec<Record>, DayError> {
     Ok(records)
 }
 
-/// Whether one record that is accepted begins a day.
-pub fn is_one_day(alloc: Global, day: &Day) -> Result<bool, DayError> {
+/// How many accepted records begin a day.
+pub fn days(alloc: Global, day: &Day) -> Result<usize, DayError> {
     let records = accepted(alloc, day)?;
-    Ok(records.iter().filter(|x| x.is_day()).count() == 1)
+    Ok(records.iter().filter(|x| x.is_day()).count())
 }
 
 /// The frames of messages, numbered from 1 on.
@@ -306,6 +315,7 @@ impl Way {
             Way::Serve { batch, workers } => serve_day(rt, alloc, day, batch, workers),
             Way::Replay { workers } => replay_day(rt, alloc, day, workers),
             Way::Cut { frames, workers } => serve_in_two(rt, alloc, day, frames, workers),
+            Way::Rolled { workers } => serve_rolled(rt, alloc, day, workers),
             Way::Plain => evaluate_plainly(alloc, day),
             Way::Audit => audit_day(alloc, day),
             Way::Board => show_day(rt, alloc, day),

@@ -148,7 +148,7 @@ pack_named : (line : CommandLine) → IsNamed (leaf (text_line (codes "pack") li
 pack_named line = (refl, λ help words e. mapped _ _ (kind_there line (codes "pack") words e))
 
 all_named : (line : CommandLine) → AllNamed (built (app_of_line line)).subs
-all_named line = (format_named, (serve_named, (replay_named, ((refl, λ help words e. refl), (print_named line, (pack_named line, (generate_named, (board_named, ((refl, λ help words e. refl), ((refl, λ help words e. refl), ((refl, λ help. absurd (true≢false help)), tt)))))))))))
+all_named line = (format_named, (serve_named, (replay_named, ((refl, λ help words e. refl), (print_named line, (pack_named line, (generate_named, ((refl, λ help words e. refl), (board_named, ((refl, λ help words e. refl), ((refl, λ help words e. refl), ((refl, λ help. absurd (true≢false help)), tt))))))))))))
 
 pub names_a_command : (line : CommandLine) (words : List Text) → fault_of (app_of_line line) words ≡ [] → command_found (subcommand_of (app_of_line line) words) ≢ None
 names_a_command line words e none =

@@ -15,7 +15,7 @@ use Rattle.words_core.specs.declared.asked.WordsError.TheVariants.{Usage, NoMemo
 use Rattle.words_core.specs.declared.command.Command.{Command}
 use Rattle.words_core.specs.declared.command.Command.TheVariants as commands
 use Rattle.words_core.specs.declared.command.Verb.{Verb}
-use Rattle.words_core.specs.declared.command.Verb.TheVariants.{Format, Serve, Replay, Status, Print, Pack, Generate, Board, Cross, Audit}
+use Rattle.words_core.specs.declared.command.Verb.TheVariants.{Format, Serve, Replay, Status, Print, Pack, Generate, Roll, Board, Cross, Audit}
 
 -- the number of an option
 abbrev pub number_of : ℕ → ℕ → Text → List Row → Option ℕ
@@ -55,6 +55,7 @@ command_from Generate rows =
     commands.Generate seed symbols records workers (is_given (first_of (codes "summary") rows)))
     (workers_in rows)) (number_of 0 100000000 (codes "records") rows)) (number_of 1 16384 (codes "symbols") rows))
     (number_of 0 18446744073709551615 (codes "seed") rows)
+command_from Roll rows = Some commands.Roll
 command_from Board rows = option_map (λ bytes. commands.Board bytes) (number_of 1 1073741824 (codes "bytes") rows)
 command_from Cross rows = Some commands.Cross
 command_from Audit rows = Some commands.Audit

@@ -6,7 +6,7 @@ use Rattle.text_core.specs.declared.kind.Kind.TheVariants.{Records, Published}
 use Rattle.words_core.specs.declared.command.Command.{Command}
 use Rattle.words_core.specs.declared.command.Command.TheVariants as commands
 use Rattle.words_core.specs.declared.command.Verb.{Verb}
-use Rattle.words_core.specs.declared.command.Verb.TheVariants.{Format, Serve, Replay, Status, Print, Pack, Generate, Board, Cross, Audit}
+use Rattle.words_core.specs.declared.command.Verb.TheVariants.{Format, Serve, Replay, Status, Print, Pack, Generate, Roll, Board, Cross, Audit}
 
 -- the command of a name
 abbrev pub verb_of : List ℕ → Option Verb
@@ -18,6 +18,7 @@ verb_of word =
     else if bytes_eq word (codes "print") then Some Print
     else if bytes_eq word (codes "pack") then Some Pack
     else if bytes_eq word (codes "generate") then Some Generate
+    else if bytes_eq word (codes "roll") then Some Roll
     else if bytes_eq word (codes "board") then Some Board
     else if bytes_eq word (codes "cross") then Some Cross
     else if bytes_eq word (codes "audit") then Some Audit
@@ -38,6 +39,7 @@ IsInRange (commands.Replay workers bytes) = (1 ≤ workers) × (workers ≤ 64) 
 IsInRange commands.Status = Unit {0}
 IsInRange (commands.Print kind) = Unit {0}
 IsInRange (commands.Pack kind) = Unit {0}
+IsInRange commands.Roll = Unit {0}
 IsInRange (commands.Board bytes) = (1 ≤ bytes) × (bytes ≤ 1073741824)
 IsInRange commands.Cross = Unit {0}
 IsInRange commands.Audit = Unit {0}

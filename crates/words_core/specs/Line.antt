@@ -67,6 +67,9 @@ abbrev pub generate_line : App
 generate_line =
     with_rule (with_rule (with_rule (with_rule (with_rule (new_app (codes "generate")) seed_option) symbols_option) records_option) workers_option) summary_option
 
+abbrev pub roll_line : App
+roll_line = new_app (codes "roll")
+
 abbrev pub board_bytes_option : Rule
 board_bytes_option = with_default (codes "1073741824") (number_option (codes "bytes") 1 1073741824)
 
@@ -92,9 +95,9 @@ with_sessions =
 abbrev pub with_texts : Bor (List (Bor Text)) → App
 with_texts kinds = with_subcommand (with_subcommand with_sessions (text_line (codes "print") kinds).top) (text_line (codes "pack") kinds).top
 
--- and with those that generate a day and tell where its symbols stand
+-- and with those that generate a day, begin a journal behind its last day, and tell where its symbols stand
 abbrev pub with_days : Bor (List (Bor Text)) → App
-with_days kinds = with_subcommand (with_subcommand (with_texts kinds) generate_line.top) board_line.top
+with_days kinds = with_subcommand (with_subcommand (with_subcommand (with_texts kinds) generate_line.top) roll_line.top) board_line.top
 
 -- the whole command line
 abbrev pub halts_line : Bor (List (Bor Text)) → App

@@ -7,7 +7,7 @@ use Rattle.words_core.specs.Numbers.{number_in}
 use Rattle.words_core.specs.declared.command.Command.{Command}
 use Rattle.words_core.specs.declared.command.Command.TheVariants as commands
 use Rattle.words_core.specs.declared.command.Verb.{Verb}
-use Rattle.words_core.specs.declared.command.Verb.TheVariants.{Format, Serve, Replay, Status, Print, Pack, Generate, Board, Cross, Audit}
+use Rattle.words_core.specs.declared.command.Verb.TheVariants.{Format, Serve, Replay, Status, Print, Pack, Generate, Roll, Board, Cross, Audit}
 use Rattle.words_core.specs.declared.options.Options.{Options}
 
 -- no option was given
@@ -79,6 +79,7 @@ with_option Generate given name word =
     else if bytes_eq name (codes "--records") then with_records given word
     else if bytes_eq name (codes "--workers") then with_workers given word
     else None
+with_option Roll given name word = None
 with_option Board given name word = if bytes_eq name (codes "--bytes") then with_bytes given word else None
 with_option Cross given name word = None
 with_option Audit given name word = None
@@ -115,6 +116,7 @@ command_with Pack given = option_map (λ kind. commands.Pack kind) given.kind
 command_with Generate given =
     Some
     (commands.Generate (unwrap_or given.seed 1) (unwrap_or given.symbols 500) (unwrap_or given.records 400000) (unwrap_or given.workers 1) given.summary)
+command_with Roll given = Some commands.Roll
 command_with Board given = board_of (unwrap_or given.bytes 1073741824)
 command_with Cross given = Some commands.Cross
 command_with Audit given = Some commands.Audit

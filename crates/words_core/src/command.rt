@@ -63,6 +63,8 @@ pub enum Command {
         workers: u32,
         summary: bool,
     },
+    /// Puts a base of all records behind the last day of a journal.
+    Roll,
     /// Tells the last state and price bands of each symbol of the input, up to so many bytes, from 1 to 1,073,741,824.
     Board {
         bytes: u64,
@@ -83,6 +85,7 @@ pub enum Verb {
     Print,
     Pack,
     Generate,
+    Roll,
     Board,
     Cross,
     Audit,
@@ -104,6 +107,7 @@ impl Verb {
             "print" => Some(Verb::Print),
             "pack" => Some(Verb::Pack),
             "generate" => Some(Verb::Generate),
+            "roll" => Some(Verb::Roll),
             "board" => Some(Verb::Board),
             "cross" => Some(Verb::Cross),
             "audit" => Some(Verb::Audit),

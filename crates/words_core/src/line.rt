@@ -3,7 +3,7 @@
 ghost use Rattle.std.specs.Prelude.{◌≡◌, IfOk, codes, false};
 ghost use Rattle.clap.specs.Words.{App, Rule, app_of, rule_of, new_app, with_rule, with_subcommand, shape_of};
 ghost use Rattle.clap.specs.declared.builder.command.Command.TheViews.{out-Command as fields_of};
-ghost use Rattle.words_core.specs.Line.{number_option, with_default, workers_option, batch_option, bytes_option, kind_option, summary_option, format_line, serve_line, replay_line, status_line, text_line, seed_option, symbols_option, records_option, generate_line, board_bytes_option, board_line, cross_line, audit_line, program, with_sessions, with_texts, with_days, halts_line};
+ghost use Rattle.words_core.specs.Line.{number_option, with_default, workers_option, batch_option, bytes_option, kind_option, summary_option, format_line, serve_line, replay_line, status_line, text_line, seed_option, symbols_option, records_option, generate_line, roll_line, board_bytes_option, board_line, cross_line, audit_line, program, with_sessions, with_texts, with_days, halts_line};
 
 use crate::command::{
     BATCH_MAX, BOARD_BYTES_MAX, BYTES_MAX, LIMIT_MAX, RECORDS_MAX, SYMBOLS_MAX, WORKERS_MAX,
@@ -242,6 +242,17 @@ fn generate_line<'a>(alloc: Global) -> Result<Command<'a>, AllocError>
     with_option(generate, summary_option(alloc))
 }
 
+fn roll_line<'a>(alloc: Global) -> Command<'a>
+    ensures app { app_of result ≡ roll_line }
+    ensures local { (fields_of result).has_globals ≡ false }
+{
+    command(
+        alloc,
+        "roll",
+        "Puts a base of all records behind the last day of the journal, from which later starts begin",
+    )
+}
+
 fn board_bytes_option<'a>(alloc: Global) -> Arg<'a>
     ensures rule { rule_of result ≡ board_bytes_option }
     ensures local { result.global ≡ false }
@@ -363,13 +374,15 @@ fn with_texts<'a>(alloc: Global, kinds: &'a [&'a str]) -> Result<Command<'a>, Al
     with_command(halts, pack)
 }
 
-/// The program with the commands that generate a day and tell where its symbols stand besides.
+/// The program with the commands that generate a day, begin a journal behind its last day, and tell where its symbols stand
+/// besides.
 fn with_days<'a>(alloc: Global, kinds: &'a [&'a str]) -> Result<Command<'a>, AllocError>
     ensures app { IfOk result (λ c. app_of c ≡ with_days kinds.entry) }
     ensures local { IfOk result (λ c. (fields_of c).has_globals ≡ false) }
 {
     let halts = with_texts(alloc, kinds)?;
     let halts = with_command(halts, generate_line(alloc)?)?;
+    let halts = with_command(halts, roll_line(alloc))?;
     with_command(halts, board_line(alloc)?)
 }
 

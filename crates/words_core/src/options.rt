@@ -258,6 +258,7 @@ impl Options {
                 workers: self.workers.unwrap_or(1),
                 summary: self.summary,
             }),
+            Verb::Roll => Some(Command::Roll),
             Verb::Board => board_of(self.bytes.unwrap_or(BOARD_BYTES_MAX)),
             Verb::Cross => Some(Command::Cross),
             Verb::Audit => Some(Command::Audit),

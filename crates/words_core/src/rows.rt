@@ -144,6 +144,7 @@ fn command_from(verb: Verb, found: &ArgMatches<'_>) -> Option<Command>
             kind: kind_in(found)?,
         }),
         Verb::Generate => generate_of(found),
+        Verb::Roll => Some(Command::Roll),
         Verb::Board => board_of(found),
         Verb::Cross => Some(Command::Cross),
         Verb::Audit => Some(Command::Audit),

@@ -49,21 +49,24 @@ fn a_breach_is_told_before_what_stands_behind_it(rt: HostRuntime) -> Result<(), 
     ends(&rt, HELLO, Status::Breach { place: 2, law: 1 })
 }
 
+/// A replay of a generated day of so many symbols is clean.
+fn expect_clean<Rt: Abort + AllocGlobal + Threads + Sync>(
+    rt: &Rt,
+    symbols: &str,
+) -> Result<(), Fail> {
+    let day = ["generate", "--symbols", symbols, "--records", "100000"];
+    let frames = sent_by(rt, &day, b"", b"")?;
+    let replayed = sent_by(rt, &["replay"], b"", &frames)?;
+    let clean = format!(in rt.alloc(); "clean {}\n", messages_of(&replayed))?;
+    let text = clean.as_bytes();
+    runs(rt, &["audit"], b"", &replayed, text, Status::Done)?;
+    Ok(())
+}
+
 #[test]
 fn a_replay_of_a_generated_day_is_clean(rt: HostRuntime) -> Result<(), Fail> {
     for symbols in ["10", "500", "5000"] {
-        let day = ["generate", "--symbols", symbols, "--records", "100000"];
-        let frames = sent_by(&rt, &day, b"", b"")?;
-        let replayed = sent_by(&rt, &["replay"], b"", &frames)?;
-        let clean = format!(in rt.alloc(); "clean {}\n", messages_of(&replayed))?;
-        runs(
-            &rt,
-            &["audit"],
-            b"",
-            &replayed,
-            clean.as_bytes(),
-            Status::Done,
-        )?;
+        expect_clean(&rt, symbols)?;
     }
     Ok(())
 }

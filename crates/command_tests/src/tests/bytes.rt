@@ -2,17 +2,19 @@
 
 use super::{fall, made, runs};
 use host_core::Status;
+use std::process::Abort;
 use std::test::Fail;
+use std::thread::Threads;
 use test_days::Session;
 
 /// A greeting of no records and no messages.
 pub(super) const HELLO: &[u8] = b"\x11\x81\0\0\0\0\0\0\0\0\0\0\0\0\0\0\0\0";
 
 /// The day 2024-06-03 at 04:00:00, with a regular close, after an index close of 5,000.00.
-const DAY: &[u8] = b"\x13\x01\0\0\x0d\x18\xc2\xe2\x80\0\x07\xe8\x06\x03\x01\x02\0\x07\xa1\x20";
+pub const DAY: &[u8] = b"\x13\x01\0\0\x0d\x18\xc2\xe2\x80\0\x07\xe8\x06\x03\x01\x02\0\x07\xa1\x20";
 
 /// Index values of 4,650.01 and then of 4,650.00 at 10:00:00.
-const VALUES: &[u8] =
+pub const VALUES: &[u8] =
     b"\x0d\x06\0\0\x20\xbd\xe7\x36\x40\0\0\x07\x18\x69\x0d\x06\0\0\x20\xbd\xe7\x36\x40\0\0\x07\x18\x68";
 
 const ACK_1: &[u8] = b"\x09\x82\0\0\0\0\0\0\0\x01";
@@ -23,21 +25,30 @@ const ACK_2: &[u8] = b"\x09\x82\0\0\0\0\0\0\0\x02";
 pub(super) const BREAKER: &[u8] =
     b"\x16\x18\0\0\0\0\0\0\0\x01\0\0\x20\xbd\xe7\x36\x40\0\x01\0\x07\x18\x68";
 
-const ACK_3: &[u8] = b"\x09\x82\0\0\0\0\0\0\0\x03";
+pub const ACK_3: &[u8] = b"\x09\x82\0\0\0\0\0\0\0\x03";
+
+/// A session over an empty journal greets, and answers an input so; a replay of it sends the breaker.
+fn expect_answers<Rt: Abort + AllocGlobal + Threads + Sync>(
+    rt: &Rt,
+    input: &[u8],
+    answers: &[u8],
+) -> Result<(), Fail> {
+    let empty = made(rt, &["format"])?;
+    runs(rt, &["serve"], &empty, b"", HELLO, Status::Done)?;
+    runs(rt, &["serve"], &empty, input, answers, Status::Done)?;
+    runs(rt, &["replay"], b"", input, BREAKER, Status::Done)?;
+    Ok(())
+}
 
 #[test]
 fn the_documented_day_gets_the_documented_answers(rt: HostRuntime) -> Result<(), Fail> {
-    let empty = made(&rt, &["format"])?;
     let day = Session::of(rt.alloc(), &fall())?;
     let input = [DAY, VALUES].concat(rt.alloc())?;
     let answers = [HELLO, ACK_1, ACK_2, BREAKER, ACK_3].concat(rt.alloc())?;
     // The same day as the other tests write it.
     let is_same = day.input == input && day.served == answers;
     assert!(rt; is_same && day.replayed.as_slice() == BREAKER);
-    runs(&rt, &["serve"], &empty, b"", HELLO, Status::Done)?;
-    runs(&rt, &["serve"], &empty, &input, &answers, Status::Done)?;
-    runs(&rt, &["replay"], b"", &input, BREAKER, Status::Done)?;
-    Ok(())
+    expect_answers(&rt, &input, &answers)
 }
 
 #[test]
@@ -45,7 +56,7 @@ fn a_journal_is_a_header_batches_and_a_closed_gate(rt: HostRuntime) -> Result<()
     let empty = made(&rt, &["format", "--limit", "3"])?;
     let answers = [HELLO, ACK_1].concat(rt.alloc())?;
     let disk = runs(&rt, &["serve"], &empty, DAY, &answers, Status::Done)?;
-    let header = b"HALTJNL1\0\0\0\0\0\0\0\x03".as_slice();
+    let header = b"HALTJNL2\0\0\0\0\0\0\0\x03".as_slice();
     let kept = [header, b"\x01\0\0\0\x14", DAY, b"\0"].concat(rt.alloc())?;
     assert!(rt; empty.strip_prefix(header) == Some(b"\0".as_slice()) && disk == kept);
     Ok(())

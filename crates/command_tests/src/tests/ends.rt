@@ -1,9 +1,10 @@
-//! How a session ends: at the end of the input, inside a frame, at the limit of bytes, and at faults of reading and sending.
+//! How a session ends: at the end of the input, inside a frame, and at faults of reading, of sending and of the disk.
 
 use super::{fall, fresh, run, runs};
 use host_core::Status;
 use memory_host::{Call, MemoryHost};
 use session_core::Phase;
+use std::alloc::Global;
 use std::process::Abort;
 use std::test::Fail;
 use std::thread::Threads;
@@ -40,24 +41,52 @@ fn limit_state<R: AllocGlobal>(rt: &R) -> Result<Session, Fail> {
     opened(rt, &lines)
 }
 
+/// Both commands end so over the first bytes of an input, and answer what a session has of it.
+fn expect_cut<Rt: Abort + AllocGlobal + Threads + Sync>(
+    rt: &Rt,
+    disk: &[u8],
+    input: &[u8],
+    before: &Session,
+    end: Status,
+) -> Result<(), Fail> {
+    runs(rt, &["serve"], disk, input, &before.served, end)?;
+    runs(rt, &["replay"], b"", input, &before.replayed, end)?;
+    Ok(())
+}
+
+/// An input of a session and a frame of 36 bytes behind it ends inside that frame.
+fn expect_cuts<Rt: Abort + AllocGlobal + Threads + Sync>(
+    rt: &Rt,
+    disk: &[u8],
+    whole: &[u8],
+    before: &Session,
+) -> Result<(), Fail> {
+    let start = before.input.len();
+    assert!(rt; whole.len() == start + 36);
+    expect_cut(rt, disk, &whole[..start], before, Status::Done)?;
+    for len in start + 1..start + 36 {
+        expect_cut(rt, disk, &whole[..len], before, Status::Truncated)?;
+    }
+    Ok(())
+}
+
 #[test]
 fn an_input_that_ends_inside_its_last_frame_is_truncated(rt: HostRuntime) -> Result<(), Fail> {
     let disk = fresh(&rt)?;
     let whole = limit_state(&rt)?.input;
-    let before = opened(&rt, &[])?;
-    let start = before.input.len();
-    assert!(rt; whole.len() == start + 36);
-    for len in start..start + 36 {
-        let end = if len == start {
-            Status::Done
-        } else {
-            Status::Truncated
-        };
-        let input = &whole[..len];
-        let (served, replayed) = (&before.served, &before.replayed);
-        runs(&rt, &["serve"], &disk, input, served, end)?;
-        runs(&rt, &["replay"], b"", input, replayed, end)?;
-    }
+    expect_cuts(&rt, &disk, &whole, &opened(&rt, &[])?)
+}
+
+/// A session in reads of so many bytes.
+fn expect_in_pieces<Rt: Abort + AllocGlobal + Threads + Sync>(
+    rt: &Rt,
+    disk: &[u8],
+    session: &Session,
+    read: u32,
+) -> Result<(), Fail> {
+    let mut host = MemoryHost::new(rt.alloc(), &session.input, disk)?;
+    host.pieces(read.max(1), 1 + read % 50);
+    serves_over(rt, host, &session.served, Status::Done);
     Ok(())
 }
 
@@ -67,9 +96,7 @@ fn pieces_of_any_size_get_the_same_answers(rt: HostRuntime) -> Result<(), Fail> 
     let session = limit_state(&rt)?;
     assert!(rt; session.input.len() == 124);
     for read in 1..=124u32 {
-        let mut host = MemoryHost::new(rt.alloc(), &session.input, &disk)?;
-        host.pieces(read, 1 + read % 50);
-        serves_over(&rt, host, &session.served, Status::Done);
+        expect_in_pieces(&rt, &disk, &session, read)?;
     }
     Ok(())
 }
@@ -120,51 +147,32 @@ fn a_failed_send_leaves_a_prefix_of_the_answers(rt: HostRuntime) -> Result<(), F
     Ok(())
 }
 
-#[test]
-fn a_session_is_full_at_its_limit_of_bytes(rt: HostRuntime) -> Result<(), Fail> {
-    let disk = fresh(&rt)?;
-    let input = Session::of(rt.alloc(), &fall())?.input;
-    // Inside and at the end of the first frame, behind it, inside the last one, at the input's end and above it.
-    for (most, records, want) in [
-        ("1", 0, Status::SessionFull),
-        ("19", 0, Status::SessionFull),
-        ("20", 1, Status::SessionFull),
-        ("21", 1, Status::SessionFull),
-        ("47", 2, Status::SessionFull),
-        ("48", 3, Status::SessionFull),
-        ("49", 3, Status::Done),
-    ] {
-        let words = ["serve", "--bytes", most];
-        runs(&rt, &words, &disk, &input, &answers_to(&rt, records)?, want)?;
+/// A greeting and so many refusals of empty frames.
+fn empty_frames(alloc: Global, count: u32) -> Result<Session, Fail> {
+    let mut lines = Vec::new(alloc);
+    for _ in 0..count {
+        lines.extend_from_slice(&[bytes(b"\0"), refused(Refusal::BadLength)])?;
     }
-    Ok(())
-}
-
-#[test]
-fn a_replay_is_full_at_its_limit_of_bytes(rt: HostRuntime) -> Result<(), Fail> {
-    let session = Session::of(rt.alloc(), &fall())?;
-    for (most, sent, want) in [
-        ("47", b"".as_slice(), Status::SessionFull),
-        ("48", session.replayed.as_slice(), Status::SessionFull),
-        ("49", session.replayed.as_slice(), Status::Done),
-    ] {
-        let words = ["replay", "--bytes", most];
-        runs(&rt, &words, b"", &session.input, sent, want)?;
-    }
-    Ok(())
+    Ok(Session::of(alloc, &lines)?)
 }
 
 #[test]
 fn answers_that_find_no_room_are_sent_before_the_piece_ends(rt: HostRuntime) -> Result<(), Fail> {
-    // A greeting and 6,000 refusals of empty frames, which are more than wait at once.
-    let mut lines = Vec::new(rt.alloc());
-    for _ in 0..6000 {
-        lines.extend_from_slice(&[bytes(b"\0"), refused(Refusal::BadLength)])?;
-    }
-    let session = Session::of(rt.alloc(), &lines)?;
+    // They are more than wait at once.
+    let session = empty_frames(rt.alloc(), 6000)?;
     assert!(rt; session.served.len() == 18 + 6000 * 12);
     let host = MemoryHost::new(rt.alloc(), &session.input, &fresh(&rt)?)?;
     serves_over(&rt, host, &session.served, Status::Done);
+    Ok(())
+}
+
+/// Asks a host to fail at each call of its disk.
+fn fail_disk(host: &mut MemoryHost) -> Result<(), Fail> {
+    for call in [Call::Len, Call::DiskRead, Call::Write, Call::Sync] {
+        for nth in 1..100 {
+            host.fail(call, nth)?;
+        }
+    }
     Ok(())
 }
 
@@ -172,12 +180,33 @@ fn answers_that_find_no_room_are_sent_before_the_piece_ends(rt: HostRuntime) -> 
 fn a_replay_goes_on_where_each_call_of_the_disk_would_fail(rt: HostRuntime) -> Result<(), Fail> {
     let day = limit_state(&rt)?;
     let mut host = MemoryHost::new(rt.alloc(), &day.input, b"")?;
-    for call in [Call::Len, Call::DiskRead, Call::Write, Call::Sync] {
-        for nth in 1..100 {
-            host.fail(call, nth)?;
-        }
-    }
+    fail_disk(&mut host)?;
     let end = run(&rt, rt.alloc(), &["replay"], &mut host);
     assert!(rt; end == Status::Done && host.sent() == day.replayed.as_slice());
+    Ok(())
+}
+
+/// A session in which such a sync fails ends so, and the one behind it over the same host goes on.
+fn goes_on<Rt: AllocGlobal + Threads + Sync>(
+    rt: &Rt,
+    disk: &[u8],
+    input: &[u8],
+    sync: u64,
+) -> Result<bool, Fail> {
+    let mut host = MemoryHost::new(rt.alloc(), input, disk)?;
+    host.fail(Call::Sync, sync.max(1))?;
+    let words = ["serve", "--batch", "1"];
+    let failed = run(rt, rt.alloc(), &words, &mut host);
+    let after = run(rt, rt.alloc(), &words, &mut host);
+    Ok([failed, after] == [Status::DiskFault, Status::Done])
+}
+
+#[test]
+fn a_run_after_a_failed_sync_goes_on(rt: HostRuntime) -> Result<(), Fail> {
+    let disk = fresh(&rt)?;
+    let input = Session::of(rt.alloc(), &fall())?.input;
+    for sync in [1, 2, 3, 5] {
+        assert!(rt; goes_on(&rt, &disk, &input, sync)?);
+    }
     Ok(())
 }

@@ -15,7 +15,7 @@ use wire_in::Refusal;
 /// A journal of the capacity 3 that holds batches of these frames, so many bytes each.
 fn journal_of(alloc: Global, mut frames: &[u8], lens: &[u8]) -> Result<Vec<u8>, Fail> {
     let mut disk = Vec::new(alloc);
-    disk.extend_from_slice(b"HALTJNL1\0\0\0\0\0\0\0\x03")?;
+    disk.extend_from_slice(b"HALTJNL2\0\0\0\0\0\0\0\x03")?;
     for len in lens {
         let (batch, rest) = frames.split_at(usize::from(*len).min(frames.len()));
         disk.extend_from_slice(&[1, 0, 0, 0, *len])?;
@@ -97,16 +97,6 @@ fn a_batch_leaves_out_what_is_refused(rt: HostRuntime) -> Result<(), Fail> {
     expect_disk(&rt, Way::Whole, &session, &disk)
 }
 
-/// A fall in three sessions: two records, the third, and none.
-fn three_sessions(alloc: Global) -> Result<(Session, Session, Session), Fail> {
-    let lines = fall();
-    let (two, rest) = lines.split_at(2);
-    let first = Session::of(alloc, two)?;
-    let second = Session::over(alloc, 2, 0, rest)?;
-    let third = Session::over(alloc, 3, 1, &[])?;
-    Ok((first, second, third))
-}
-
 /// Serves a session over a disk, and answers the disk.
 fn serves<Rt: Abort + AllocGlobal + Threads + Sync>(
     rt: &Rt,
@@ -118,18 +108,44 @@ fn serves<Rt: Abort + AllocGlobal + Threads + Sync>(
     runs(rt, words, disk, input, sent, Status::Done)
 }
 
-/// Two records of a fall are served in batches of a size, and the third by so many workers in batches of another.
+/// Sessions one after the other over one journal.
+#[derive(Clone, Copy)]
+struct Sessions<'a> {
+    first: &'a Session,
+    then: &'a Session,
+    last: &'a Session,
+}
+
+/// The first session is served in batches of a size, and the next by so many workers in batches of another.
 fn go_on<Rt: Abort + AllocGlobal + Threads + Sync>(
     rt: &Rt,
+    sessions: Sessions<'_>,
     workers: &str,
     first: &str,
     then: &str,
 ) -> Result<(), Fail> {
-    let (day, rest, held) = three_sessions(rt.alloc())?;
-    let disk = serves(rt, &["serve", "--batch", first], &fresh(rt)?, &day)?;
+    let disk = serves(
+        rt,
+        &["serve", "--batch", first],
+        &fresh(rt)?,
+        sessions.first,
+    )?;
     let words = ["serve", "--workers", workers, "--batch", then];
-    let disk = serves(rt, &words, &disk, &rest)?;
-    serves(rt, &["serve"], &disk, &held)?;
+    let disk = serves(rt, &words, &disk, sessions.then)?;
+    serves(rt, &["serve"], &disk, sessions.last)?;
+    Ok(())
+}
+
+/// The sessions in batches of different sizes.
+fn go_on_each<Rt: Abort + AllocGlobal + Threads + Sync>(
+    rt: &Rt,
+    sessions: Sessions<'_>,
+) -> Result<(), Fail> {
+    for workers in WORKERS {
+        go_on(rt, sessions, workers, "1", "64")?;
+        go_on(rt, sessions, workers, "64", "1")?;
+        go_on(rt, sessions, workers, "2", "63")?;
+    }
     Ok(())
 }
 
@@ -137,10 +153,15 @@ fn go_on<Rt: Abort + AllocGlobal + Threads + Sync>(
 fn sessions_with_batches_of_different_sizes_go_on_from_one_another(
     rt: HostRuntime,
 ) -> Result<(), Fail> {
-    for (first, then) in [("1", "64"), ("64", "1"), ("2", "63")] {
-        for workers in WORKERS {
-            go_on(&rt, workers, first, then)?;
-        }
-    }
-    Ok(())
+    let lines = fall();
+    let (two, rest) = lines.split_at(2);
+    let first = Session::of(rt.alloc(), two)?;
+    let then = Session::over(rt.alloc(), 2, 0, rest)?;
+    let last = Session::over(rt.alloc(), 3, 1, &[])?;
+    let sessions = Sessions {
+        first: &first,
+        then: &then,
+        last: &last,
+    };
+    go_on_each(&rt, sessions)
 }

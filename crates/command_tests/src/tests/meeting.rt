@@ -84,15 +84,28 @@ fn two_pieces_of_a_replay_meet(rt: HostRuntime) -> Result<(), Fail> {
     meets(&rt, &words, b"", &session.input, &session.replayed)
 }
 
+/// What a session that asks for all messages again is sent over a journal of the long fall.
+fn again(alloc: Global, breaker: &[u8]) -> Result<Vec<u8>, Fail> {
+    let hello = Session::over(alloc, 4_003, 1, &[])?.served;
+    Ok([breaker, hello.as_slice()].concat(alloc)?)
+}
+
+/// Two pieces meet where a session starts over the journal of another.
+fn meets_behind<Rt: Abort + AllocGlobal + Threads + Sync>(
+    rt: &Rt,
+    session: &Session,
+) -> Result<(), Fail> {
+    let (input, served) = (&session.input, &session.served);
+    let disk = runs(rt, &["serve"], &fresh(rt)?, input, served, Status::Done)?;
+    let sent = again(rt.alloc(), &session.replayed)?;
+    let words = ["serve", "--workers", "2", "--from", "1"];
+    meets(rt, &words, &disk, b"", &sent)
+}
+
 #[test]
 fn two_pieces_of_a_journal_meet_where_a_session_starts(rt: HostRuntime) -> Result<(), Fail> {
     let session = Session::of(rt.alloc(), &long_fall(rt.alloc())?)?;
-    let (input, served) = (&session.input, &session.served);
-    let disk = runs(&rt, &["serve"], &fresh(&rt)?, input, served, Status::Done)?;
-    let hello = Session::over(rt.alloc(), 4_003, 1, &[])?.served;
-    let sent = [session.replayed.as_slice(), hello.as_slice()].concat(rt.alloc())?;
-    let words = ["serve", "--workers", "2", "--from", "1"];
-    meets(&rt, &words, &disk, b"", &sent)
+    meets_behind(&rt, &session)
 }
 
 #[test]

@@ -101,29 +101,54 @@ pub fn sent_by<Rt: Abort + AllocGlobal + Threads + Sync>(
     Ok(host.sent().to_vec(rt.alloc())?)
 }
 
-#[test]
-fn a_morning_of_500_stocks_is_served_as_it_is_replayed(rt: HostRuntime) -> Result<(), Fail> {
-    let lines = morning(rt.alloc())?;
-    let input = Session::of(rt.alloc(), &lines)?.input;
-    let disk = fresh(&rt)?;
-    let replayed = sent_by(&rt, &["replay"], b"", &input)?;
-    let served = sent_by(&rt, &["serve"], &disk, &input)?;
-    let is_same = without_acks(rt.alloc(), &served)? == replayed;
-    // A greeting, and an Ack of ten bytes for each record.
-    let is_acknowledged = served.len() == replayed.len() + 18 + 10 * lines.len();
+/// What is served is what is replayed, with a greeting and an Ack of ten bytes for each record.
+fn expect_same<R: Abort + AllocGlobal>(
+    rt: &R,
+    replayed: &[u8],
+    served: &[u8],
+    records: usize,
+) -> Result<(), Fail> {
+    let is_same = without_acks(rt.alloc(), served)?.as_slice() == replayed;
+    let acks = records.saturating_mul(10).saturating_add(18);
+    let is_acknowledged = served.len() == replayed.len().saturating_add(acks);
     // Each stock is listed, opens with bands, is stopped and goes on, one is paused, and one breaker is declared and ends.
     let messages = 500 * (28 + 21 + 45 + 21 + 21) + 21 + 21 + 38 + 23 + 18;
     assert!(rt; is_same && is_acknowledged && replayed.len() == messages);
-    for (words, disk, sent) in [
-        (["replay", "--workers", "2"], b"".as_slice(), &replayed),
-        (["serve", "--workers", "2"], &disk, &served),
-        (["replay", "--workers", "64"], b"", &replayed),
-        (["serve", "--workers", "64"], &disk, &served),
-    ] {
-        assert!(rt;
-            sent_by(&rt, &words, disk, &input)? == *sent,
-            "by {words:?}"
-        );
-    }
     Ok(())
+}
+
+/// A replay and a session by so many workers send this.
+fn expect_by<Rt: Abort + AllocGlobal + Threads + Sync>(
+    rt: &Rt,
+    workers: &str,
+    input: &[u8],
+    replayed: &[u8],
+    served: &[u8],
+) -> Result<(), Fail> {
+    let disk = fresh(rt)?;
+    let by = sent_by(rt, &["replay", "--workers", workers], b"", input)?;
+    assert!(rt; by.as_slice() == replayed, "replayed by {workers}");
+    let by = sent_by(rt, &["serve", "--workers", workers], &disk, input)?;
+    assert!(rt; by.as_slice() == served, "served by {workers}");
+    Ok(())
+}
+
+/// An input of so many records is served as it is replayed, by one worker, by two and by 64.
+fn expect_morning<Rt: Abort + AllocGlobal + Threads + Sync>(
+    rt: &Rt,
+    input: &[u8],
+    records: usize,
+) -> Result<(), Fail> {
+    let replayed = sent_by(rt, &["replay"], b"", input)?;
+    let served = sent_by(rt, &["serve"], &fresh(rt)?, input)?;
+    expect_same(rt, &replayed, &served, records)?;
+    expect_by(rt, "2", input, &replayed, &served)?;
+    expect_by(rt, "64", input, &replayed, &served)
+}
+
+#[test]
+fn a_morning_of_500_stocks_is_served_as_it_is_replayed(rt: HostRuntime) -> Result<(), Fail> {
+    let lines = morning(rt.alloc())?;
+    let session = Session::of(rt.alloc(), &lines)?;
+    expect_morning(&rt, &session.input, lines.len())
 }

@@ -1,6 +1,6 @@
 //! The program started over readers, writers and a real file.
 
-use super::fall;
+use super::{again, fall};
 use command_core::{host_of, perform};
 use host_core::{Held, Status, Stream, SystemFiles};
 use std::alloc::Global;
@@ -96,56 +96,124 @@ where
     Ok(())
 }
 
-#[test]
-fn a_day_in_two_starts_is_the_whole_day(rt: HostRuntime) -> Result<(), Fail> {
+/// An empty journal that takes 3 records is made, and serves two sessions one after the other.
+fn serve_two<Rt: Abort + AllocGlobal + Files + Threads + Sync>(
+    rt: &Rt,
+    path: &str,
+    first: &Session,
+    second: &Session,
+) -> Result<(), Fail>
+where
+    Rt::File: FileExt + Held,
+{
+    let serve = ["halts", path, "serve"];
+    expect_sent(rt, &["halts", path, "format", "--limit", "3"], b"", b"")?;
+    expect_sent(rt, &serve, &first.input, &first.served)?;
+    expect_sent(rt, &serve, &second.input, &second.served)
+}
+
+/// Two records of the fall are served, and then the third.
+fn serve_fall<Rt: Abort + AllocGlobal + Files + Threads + Sync>(
+    rt: &Rt,
+    path: &str,
+) -> Result<(), Fail>
+where
+    Rt::File: FileExt + Held,
+{
     let lines = fall();
     let (two, rest) = lines.split_at(2);
     let first = Session::of(rt.alloc(), two)?;
     let second = Session::over(rt.alloc(), 2, 0, rest)?;
-    let breaker = Session::of(rt.alloc(), &lines)?.replayed;
-    let held = Session::over(rt.alloc(), 3, 1, &[])?.served;
-    let again = [breaker.as_slice(), &held].concat(rt.alloc())?;
+    serve_two(rt, path, &first, &second)
+}
+
+#[test]
+fn a_day_in_two_starts_is_the_whole_day(rt: HostRuntime) -> Result<(), Fail> {
     let path = "two-starts.journal";
     // A file of an earlier run may stand there.
     let _ = std::fs::remove_file(&rt, path);
+    serve_fall(&rt, path)?;
     let serve = ["halts", path, "serve", "--from", "1"];
-    expect_sent(&rt, &["halts", path, "format", "--limit", "3"], b"", b"")?;
-    expect_sent(&rt, &serve[..3], &first.input, &first.served)?;
-    expect_sent(&rt, &serve[..3], &second.input, &second.served)?;
-    expect_sent(&rt, &serve, b"", &again)
+    expect_sent(&rt, &serve, b"", &again(rt.alloc())?)
+}
+
+/// What is read.
+#[derive(Clone, Copy)]
+enum Input {
+    Nothing,
+    Day,
+    /// The day without its last byte.
+    Cut,
+}
+
+/// Words, what is read, and how that ends, one after the other.
+const ENDS: &[(&[&str], Input, Status)] = &[
+    (
+        &["halts", "ends.journal", "format"],
+        Input::Nothing,
+        Status::Done,
+    ),
+    (
+        &["halts", "ends.journal", "serve"],
+        Input::Cut,
+        Status::Truncated,
+    ),
+    (
+        &["halts", "-", "replay", "--bytes", "20"],
+        Input::Day,
+        Status::SessionFull,
+    ),
+    (
+        &["halts", "ends.journal", "serve", "--bytes", "19"],
+        Input::Day,
+        Status::SessionFull,
+    ),
+    (&["halts", "-", "serve"], Input::Nothing, Status::DiskFault),
+    (&["halts"], Input::Nothing, Status::Usage),
+    (&["halts", "ends.journal"], Input::Nothing, Status::Usage),
+    (
+        &["halts", "serve", "serve", "1"],
+        Input::Nothing,
+        Status::Usage,
+    ),
+    (&["halts", "help", "stop"], Input::Nothing, Status::Usage),
+    (
+        &["halts", "none.journal", "serve"],
+        Input::Nothing,
+        Status::NoJournal,
+    ),
+];
+
+/// The bytes that are read of a day.
+fn bytes_of(input: Input, day: &[u8]) -> &[u8] {
+    match input {
+        Input::Nothing => &[],
+        Input::Day => day,
+        Input::Cut => &day[..day.len().saturating_sub(1)],
+    }
+}
+
+/// The words end so one after the other.
+fn expect_ends<Rt: Abort + AllocGlobal + Files + Threads + Sync>(
+    rt: &Rt,
+    day: &[u8],
+) -> Result<(), Fail>
+where
+    Rt::File: FileExt + Held,
+{
+    for (args, input, want) in ENDS {
+        sends(rt, args, bytes_of(*input, day), *want)?;
+    }
+    Ok(())
 }
 
 #[test]
 fn each_end_has_its_status(rt: HostRuntime) -> Result<(), Fail> {
-    let day = Session::of(rt.alloc(), &fall())?.input;
-    let cut = &day[..day.len().saturating_sub(1)];
     let path = "ends.journal";
     let _ = std::fs::remove_file(&rt, path);
-    let serve = ["halts", path, "serve"];
-    for (args, input, want) in [
-        (
-            ["halts", path, "format"].as_slice(),
-            b"".as_slice(),
-            Status::Done,
-        ),
-        (&serve, cut, Status::Truncated),
-        (
-            &["halts", "-", "replay", "--bytes", "20"],
-            &day,
-            Status::SessionFull,
-        ),
-        (&["halts", "-", "serve"], b"", Status::DiskFault),
-        (&["halts"], b"", Status::Usage),
-        (&["halts", path], b"", Status::Usage),
-        (&["halts", "serve", "serve", "1"], b"", Status::Usage),
-        (&["halts", "help", "stop"], b"", Status::Usage),
-        (&["halts", "none.journal", "serve"], b"", Status::NoJournal),
-    ] {
-        sends(&rt, args, input, want)?;
-    }
-    let replay = ["halts", "-", "replay"];
-    let unread = start(&rt, &replay, Unreadable, io::sink());
-    let unsent = start(&rt, &serve, io::empty(), Closed);
+    expect_ends(&rt, &Session::of(rt.alloc(), &fall())?.input)?;
+    let unread = start(&rt, &["halts", "-", "replay"], Unreadable, io::sink());
+    let unsent = start(&rt, &["halts", path, "serve"], io::empty(), Closed);
     assert!(rt; [unread, unsent] == [Status::ReadFault, Status::SendFault]);
     Ok(())
 }

@@ -88,6 +88,7 @@ fn plain_lines_ask_for_their_commands(rt: HostRuntime) {
             (&["serve", "--batch", "1"], serve(None, 1, 1, BYTES_MAX)),
             (&["replay"], replay(1)),
             (&["status"], As(Command::Status)),
+            (&["roll"], As(Command::Roll)),
             (
                 &["print", "--kind", "records"],
                 As(Command::Print {
@@ -192,6 +193,7 @@ const REFUSED: &[(&[&str], Taken)] = &[
     (&["generate", "--workers", "2", "--workers", "2"], Refused),
     (&["status", "--workers", "2"], Refused),
     (&["status", "now"], Refused),
+    (&["roll", "--workers", "2"], Refused),
     (&["stop"], Refused),
 ];
 
@@ -205,6 +207,7 @@ const TOLD: &[(&[&str], Taken)] = &[
     (&["--help"], Told("Usage: halts <journal> <COMMAND>")),
     (&["-h"], Told("generate")),
     (&["help"], Told("status")),
+    (&["roll", "--help"], Told("Usage: halts <journal> roll")),
     (&["--version"], Told("halts 0.1.0")),
     (
         &["format", "--help"],

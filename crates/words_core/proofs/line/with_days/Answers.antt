@@ -7,7 +7,8 @@ pub returns-clause-app : goal.returns-clause-app
 returns-clause-app c =
     let top = λ (a : App). a.top in
     let first = c.in_ok-halts-2.ensures.app ∙ ap₂ with_subcommand c.in_ok-halts.ensures.app (ap top c.in_ok-generate_line.ensures.app) in
-    IfOk-weaker c.with_command-2.result _ _ (λ line is. is ∙ ap₂ with_subcommand first (ap top c.in_ok-board_line.ensures.app)) c.with_command-2.ensures.app
+    let second = c.in_ok-halts-3.ensures.app ∙ ap₂ with_subcommand first (ap top c.roll_line.ensures.app) in
+    IfOk-weaker c.with_command-3.result _ _ (λ line is. is ∙ ap₂ with_subcommand second (ap top c.in_ok-board_line.ensures.app)) c.with_command-3.ensures.app
 
 pub returns-clause-local : goal.returns-clause-local
-returns-clause-local c = c.with_command-2.ensures.local (c.in_ok-halts-2.ensures.local c.in_ok-halts.ensures.local)
+returns-clause-local c = c.with_command-3.ensures.local (c.in_ok-halts-3.ensures.local (c.in_ok-halts-2.ensures.local c.in_ok-halts.ensures.local))

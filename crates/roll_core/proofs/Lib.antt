@@ -1,0 +1,2 @@
+pub mod LastBlock
+pub mod Adding

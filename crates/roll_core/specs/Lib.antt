@@ -1,0 +1,2 @@
+pub mod Rolled
+pub mod InternalRoll

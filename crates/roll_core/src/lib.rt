@@ -1,0 +1,6 @@
+//! The base of all records of a journal that ends with a day.
+#![tactic(auto)]
+
+mod rolling;
+
+pub use rolling::roll;
