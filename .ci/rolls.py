@@ -53,19 +53,23 @@ def at_second_day(folder, day):
     return journal, later[len(first):], frames(numbered(sent))
 
 
-def goes_on(journal, left, messages):
-    """Whether a session over what is left gives the last of these messages: those behind the base, or all where there is none."""
+def passed_in(journal):
+    """How many messages the records of a journal gave, as `status` tells."""
+    return int(halts([journal, "status"])[1].split(b"messages ")[1].split()[0])
+
+
+def goes_on(journal, left, messages, passed):
+    """Whether a session over what is left gives just these messages but for the first so many, which a base has."""
     status, sent = halts([journal, "serve", "--from", "1"], left)
-    found = frames(numbered(sent))
-    return status == DONE and found == messages[len(messages) - len(found):], len(found)
+    return status == DONE and passed < len(messages) and frames(numbered(sent)) == messages[passed:]
 
 
 def killed(folder, kills):
     draw = random.Random(20240604)
     _, day = halts(["-", "generate", "--symbols", "10", "--records", "20000"])
     before, left, messages = at_second_day(folder, day)
-    lines = halts([before, "status"])
-    journal, based = os.path.join(folder, "rolled"), 0
+    lines, old = halts([before, "status"]), content(before)[:-1]
+    journal, based, passed = os.path.join(folder, "rolled"), 0, passed_in(before)
     for count in range(kills):
         shutil.copyfile(before, journal)
         run = subprocess.Popen([HALTS, journal, "roll"], stdin=subprocess.DEVNULL, stdout=subprocess.DEVNULL, stderr=subprocess.DEVNULL)
@@ -74,16 +78,15 @@ def killed(folder, kills):
         run.wait()
         is_based = last_base(journal) is not None
         based += is_based
-        is_well = halts([journal, "status"]) == lines and halts([journal, "roll"])[0] == DONE and last_base(journal) is not None
+        is_well = content(journal).startswith(old) and halts([journal, "status"]) == lines
+        is_well = is_well and halts([journal, "roll"])[0] == DONE and last_base(journal) is not None
         rolled = content(journal)
         is_well = is_well and halts([journal, "roll"]) == (DONE, b"") and content(journal) == rolled
-        if not is_well or (count % 10 == 0 and not goes_on(journal, left, messages)[0]):
-            holds(False, "a journal holds its records after a roll that was killed, which is rolled again")
-    some = goes_on(before, left, messages)
-    behind = goes_on(journal, left, messages) if kills else (True, 0)
-    holds(some[0] and behind[0] and behind[1] < some[1] == len(messages), "%d rolls were killed, %d of them with the base left: the "
-          "records, and the messages behind them, are those of a session that nobody disturbed, %d with a base and %d without" % (
-              kills, based, behind[1], some[1]))
+        if not is_well or not content(journal).startswith(old) or not goes_on(journal, left, messages, passed):
+            holds(False, "after kill %d of a roll the journal has its batches, is rolled again, and is gone on from" % (count + 1))
+    holds(passed > 0 and goes_on(before, left, messages, 0), "%d rolls were killed, %d of them with the base left: each journal has its "
+          "batches byte for byte and is rolled again, and the %d messages behind that base, as the %d without one, are those of a session "
+          "that nobody disturbed" % (kills, based, len(messages) - passed, len(messages)))
 
 
 def no_day(folder, day):
@@ -106,12 +109,13 @@ def limited_to(size):
 
 def full_disk(folder, day):
     before, left, messages = at_second_day(folder, day)
-    lines, size = halts([before, "status"]), os.path.getsize(before)
+    lines, size, passed = halts([before, "status"]), os.path.getsize(before), passed_in(before)
     for room in (0, 1, 4, 5, 6, 40):
         journal = os.path.join(folder, "tight")
         shutil.copyfile(before, journal)
         status, _ = halts([journal, "roll"], preexec_fn=limited_to(size + room))
-        if status != DISK_FAULT or halts([journal, "status"]) != lines or halts([journal, "roll"])[0] != DONE or not goes_on(journal, left, messages)[0]:
+        if status != DISK_FAULT or halts([journal, "status"]) != lines or halts([journal, "roll"])[0] != DONE \
+                or not goes_on(journal, left, messages, passed):
             holds(False, "a roll over a disk with room for %d bytes is a fault of the disk, and one with room goes on" % room)
     holds(True, "a roll over a full disk is a fault of the disk, and the journal holds its records, which are rolled once there is room")
 
