@@ -5,6 +5,7 @@ use Rattle.std.proofs.Math.ListN.{get_or-append}
 use Rattle.std.proofs.Math.Seq.{get_or-append_seam}
 use Rattle.std.proofs.lemmas.Bool.Decides.{nat_tests}
 use Rattle.std.proofs.lemmas.List.{get_or-drop, get_or-set_other, get_or-set_same, get_or-take, length-replicate, length-set, length-take}
+use Rattle.std.specs.Int.{div_ceil}
 use Rattle.alarms.specs.Bounds.{AreBounds, AreLevels, AtMostEach, IsLeast}
 use Rattle.alarms.specs.Due.{NoneDue}
 
@@ -290,3 +291,26 @@ cleared_both bounds moments blocks count are within enough few = record {
       let lower = cleared-lower blocks (place / 8) bounds in
       let low = are.below place lt in
       omega arith
+
+-- where all moments are 0, so may all bounds be
+
+zero-at : (count place : ℕ) → slice_index (replicate count 0) place ≡ 0
+zero-at zero place = refl
+zero-at (suc count) zero = refl
+zero-at (suc count) (suc place) = zero-at count place
+
+zero_bounds : (blocks count : ℕ) → count ≤ 8 * blocks → 8 * blocks < count + 8 → AreBounds (replicate blocks 0) (replicate count 0)
+zero_bounds blocks count enough few =
+    let above : length (replicate {A = ℕ} blocks 0) ≡ blocks = length-replicate blocks 0 in
+    let below : length (replicate {A = ℕ} count 0) ≡ count = length-replicate count 0 in
+    record {
+      enough = omega (arith, above, below, enough);
+      few = omega (arith, above, below, few);
+      below = λ place within. omega (arith, zero-at blocks (place / 8));
+    }
+
+pub zero_levels : (groups blocks count : ℕ) → blocks ≡ div_ceil count 8 → groups ≡ div_ceil blocks 8 → AreLevels (replicate groups 0) (replicate blocks 0) (replicate count 0)
+zero_levels groups blocks count is are = record {
+  of_places = zero_bounds blocks count (omega (arith, is)) (omega (arith, is));
+  of_bounds = zero_bounds groups blocks (omega (arith, are)) (omega (arith, are));
+}

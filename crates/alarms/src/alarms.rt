@@ -229,6 +229,18 @@ impl Alarms {
         }
     }
 
+    /// So many places, due at every moment.
+    pub fn due(alloc: Global, count: usize) -> Result<Alarms, NoMemory>
+        ensures { IfOk result (λ alarms. alarms ≡ replicate count 0) }
+    {
+        let blocks = count.div_ceil(PLACES);
+        Ok(Alarms {
+            moments: vec![in alloc; 0; count]?,
+            bounds: vec![in alloc; 0; blocks]?,
+            groups: vec![in alloc; 0; blocks.div_ceil(PLACES)]?,
+        })
+    }
+
     /// How many places there are.
     pub fn len(&self) -> usize
         ensures { result ≡ length self.now }

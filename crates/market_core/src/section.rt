@@ -60,12 +60,16 @@ fn first_due(alarms: &mut Alarms, from: usize, end: usize, t: Moment) -> usize
 }
 
 /// Makes so many more places, which are due. An error leaves those that were made.
-fn make_places(alarms: &mut Alarms, count: usize) -> Result<(), NoMemory>
+fn make_places(alarms: &mut Alarms, alloc: Global, count: usize) -> Result<(), NoMemory>
     ensures more { OnOk result (length alarms.old + count ≤ length alarms.new) }
     ensures kept { length alarms.old ≤ length alarms.new }
     ensures same { (place : ℕ) → place < length alarms.old → slice_index alarms.new place ≡ slice_index alarms.old place }
     ensures none { count ≡ 0 → IsOk result }
 {
+    if count > 0 && alarms.len() == 0 {
+        *alarms = Alarms::due(alloc, count)?;
+        return Ok(());
+    }
     for _place in 0..count {
         alarms.push(ALWAYS_DUE)?;
     }
@@ -158,7 +162,8 @@ impl Section {
     {
         self.symbols.reserve(more)?;
         let places = self.alarms.len() - self.symbols.len();
-        make_places(&mut self.alarms, more.saturating_sub(places))
+        let alloc = *self.symbols.allocator();
+        make_places(&mut self.alarms, alloc, more.saturating_sub(places))
     }
 
     /// Adds a stock behind the others, in room that was taken before.
@@ -197,9 +202,10 @@ impl Section {
         ensures err { OnErr result (self.new.symbols ≡ self.old.symbols) }
     {
         self.since = None;
-        let mut rest = Section::new(*self.symbols.allocator())?;
+        let alloc = *self.symbols.allocator();
+        let mut rest = Section::new(alloc)?;
         rest.since = None;
-        make_places(&mut rest.alarms, self.symbols.len() - at)?;
+        make_places(&mut rest.alarms, alloc, self.symbols.len() - at)?;
         rest.symbols = self.symbols.split_off(at)?;
         Ok(rest)
     }

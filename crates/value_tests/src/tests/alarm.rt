@@ -163,3 +163,24 @@ fn the_places_behind_those_that_were_made_due_keep_their_moments(rt: HostRuntime
         );
     }
 }
+
+#[test]
+fn all_places_that_are_made_together_are_due(rt: HostRuntime) {
+    for places in SIZES {
+        let last = places - 1;
+        let mut alarms = Alarms::due(rt.alloc(), places).expect(&rt, "memory");
+        play(
+            &rt,
+            &mut alarms,
+            &[
+                Length(places),
+                First(0, 0, Some(0)),
+                First(last, 0, Some(last)),
+                First(places, u64::MAX, None),
+                Set(last, 5),
+                First(last, 4, None),
+                First(last, 5, Some(last)),
+            ],
+        );
+    }
+}
