@@ -9,7 +9,7 @@ use Rattle.words_core.specs.declared.asked.Asked.TheVariants as asked
 use Rattle.words_core.specs.declared.asked.WordsError.{WordsError}
 use Rattle.words_core.specs.declared.asked.WordsError.TheVariants as errors
 use Rattle.words_core.specs.declared.command.Command.{Command}
-use Rattle.words_core.specs.declared.command.Command.TheVariants.{Format, Serve, Replay, Status, Print, Pack, Generate, Roll, Board, Cross, Audit}
+use Rattle.words_core.specs.declared.command.Command.TheVariants.{Format, Serve, Replay, Status, Print, Pack, Generate, Roll, Board, Cross, Audit, Ship, Standby}
 use Rattle.auction_core.specs.Texts.{lines_of}
 use Rattle.auction_core.proofs.Texting.{lines_have_text}
 use Rattle.command_core.specs.Runs.{Ran, Did, Obeyed}
@@ -30,6 +30,8 @@ understood unbegun Cross status old new ran is =
     let texts = λ (input : List ℕ). lines_have_text (lines_of input) in
     grind (arith, (ran (λ input. (texts input).0) (λ input. (texts input).1)).kind, is)
 understood unbegun Audit status old new ran is = grind (arith, ran.kind, is)
+understood unbegun (Ship from) status old new ran is = grind (arith, ran.kind, is)
+understood unbegun (Standby batch bytes) status old new ran is = grind (arith, ran.kind, is)
 
 -- where the answer is Usage, no call was made
 pub untouched : (unbegun : Type 0) (answer : Result Asked WordsError) (status : status.Status) (old new : Outside) → Did unbegun answer status old new → status ≡ statuses.Usage → unbegun

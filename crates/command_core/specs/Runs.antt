@@ -7,6 +7,8 @@ use Rattle.host_core.specs.Outside.{Outside, Elapses, Sends, Rose}
 use Rattle.host_core.specs.Frames.{OnlySends}
 use Rattle.journal_core.specs.Formatted.{Formatted}
 use Rattle.report_core.specs.Reported.{Reported}
+use Rattle.standby_core.specs.Shipped.{Shipped}
+use Rattle.standby_core.specs.StoodBy.{StoodBy}
 use Rattle.roll_core.specs.Rolled.{Rolled}
 use Rattle.gen_core.specs.declared.plan.DayPlan.{DayPlan}
 use Rattle.gen_core.specs.Sent.{SentDay}
@@ -23,7 +25,7 @@ use Rattle.words_core.specs.declared.asked.Asked.TheVariants as asked
 use Rattle.words_core.specs.declared.asked.WordsError.{WordsError}
 use Rattle.words_core.specs.declared.asked.WordsError.TheVariants as errors
 use Rattle.words_core.specs.declared.command.Command.{Command}
-use Rattle.words_core.specs.declared.command.Command.TheVariants.{Format, Serve, Replay, Status, Print, Pack, Generate, Roll, Board, Cross, Audit}
+use Rattle.words_core.specs.declared.command.Command.TheVariants.{Format, Serve, Replay, Status, Print, Pack, Generate, Roll, Board, Cross, Audit, Ship, Standby}
 
 -- a generated day was sent, or its summary
 abbrev pub Generates : DayPlan → Bool → status.Status → Outside → Outside → Type 0
@@ -43,6 +45,8 @@ Ran unbegun Roll status old new = Rolled unbegun status old new
 Ran unbegun (Board bytes) status old new = Screened unbegun bytes status old new
 Ran unbegun Cross status old new = HasCrossed status old new
 Ran unbegun Audit status old new = Audited status old new
+Ran unbegun (Ship from) status old new = Shipped unbegun from status old new
+Ran unbegun (Standby batch bytes) status old new = StoodBy unbegun batch bytes status old new
 
 -- a text was sent, or the first of its bytes, and nothing else was done
 pub record Shown (text : List ℕ) (status : status.Status) (old new : Outside) : Type 0 where

@@ -11,7 +11,7 @@ broken_law law = if law == 1 then codes "halts: law 1 is broken at frame " else 
 -- one line for each end but the good one, without its newline
 abbrev pub line_of : Status → Option (List ℕ)
 line_of Done = None
-line_of Usage = Some (codes "halts: usage: halts <journal> format|serve|replay|status|print|pack|generate|roll|board|cross|audit")
+line_of Usage = Some (codes "halts: usage: halts <journal> format|serve|replay|status|print|pack|generate|roll|board|cross|audit|ship|standby")
 line_of Truncated = Some (codes "halts: the input ends inside a frame")
 line_of ReadFault = Some (codes "halts: the input could not be read")
 line_of SendFault = Some (codes "halts: the output could not be written")

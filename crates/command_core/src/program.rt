@@ -22,6 +22,7 @@ use replay_core::{ReplayOptions, replay};
 use report_core::report;
 use roll_core::roll;
 use screen_core::board_stream;
+use standby_core::{ship, standby};
 use std::alloc::Global;
 use std::thread::Threads;
 use text_core::{pack_stream, print_stream};
@@ -114,6 +115,8 @@ fn obey<Rt: Threads + Sync, H: Host, G: Gate>(
         Command::Board { bytes } => board_stream(alloc, host, bytes),
         Command::Cross => cross_stream(alloc, host),
         Command::Audit => audit_stream(alloc, host),
+        Command::Ship { from } => ship(alloc, host, from),
+        Command::Standby { batch, bytes } => standby(alloc, host, batch, bytes),
     }
 }
 

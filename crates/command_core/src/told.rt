@@ -44,7 +44,7 @@ pub fn status_line(status: Status) -> Option<StatusLine>
     match status {
         Status::Done => None,
         Status::Usage => Some(StatusLine::plain(
-            "halts: usage: halts <journal> format|serve|replay|status|print|pack|generate|roll|board|cross|audit",
+            "halts: usage: halts <journal> format|serve|replay|status|print|pack|generate|roll|board|cross|audit|ship|standby",
         )),
         Status::Truncated => Some(StatusLine::plain("halts: the input ends inside a frame")),
         Status::ReadFault => Some(StatusLine::plain("halts: the input could not be read")),

@@ -12,6 +12,7 @@ mod morning;
 mod process;
 mod restarts;
 mod rolled;
+mod shipped;
 mod texts;
 mod told;
 
@@ -148,6 +149,9 @@ const OTHER_WORDS: &[&[&str]] = &[
     &["format", "--limit", "2000000001"],
     &["replay", "--from", "1"],
     &["replay", "--workers", "0"],
+    &["ship", "--from", "0"],
+    &["standby", "--batch", "65"],
+    &["standby", "--from", "1"],
 ];
 
 #[test]

@@ -3,6 +3,7 @@
 use crate::text::DayError;
 use host_core::Status;
 use price_core::NoMemory;
+use standby_core::put_part;
 use std::alloc::Global;
 use text_core::read_record;
 use wire_in::encode;
@@ -42,7 +43,18 @@ enum Line<'a> {
     Most(u64),
     End(Status),
     Bytes(&'a str),
+    /// The Part of a record with a number.
+    Part(u64, &'a str),
     Record(&'a str),
+}
+
+/// The number and the record of a Part; none where the number is none, or 0.
+fn part_of(rest: &str) -> Option<Line<'_>> {
+    let (number, record) = rest.split_once(' ')?;
+    match number.parse().ok()? {
+        0 => None,
+        number => Some(Line::Part(number, record)),
+    }
 }
 
 /// Reads a line; none where it sets something to a value out of form.
@@ -56,6 +68,7 @@ fn line_of(line: &str) -> Option<Line<'_>> {
         "most" => Some(Line::Most(rest.parse().ok()?)),
         "ends" => Some(Line::End(status_of(rest)?)),
         "bytes" => Some(Line::Bytes(rest)),
+        "part" => part_of(rest),
         _ => Some(Line::Record(line)),
     }
 }
@@ -68,6 +81,17 @@ impl Day {
         };
         let mut cell = [0; 64];
         let len = encode(&x, &mut cell);
+        self.input.extend_from_slice(&cell[..len])?;
+        Ok(true)
+    }
+
+    /// Puts the Part of a record's line behind what is read. Answers whether the line is one.
+    fn add_part(&mut self, number: u64, line: &str) -> Result<bool, NoMemory> {
+        let Ok(x) = read_record(line.as_bytes()) else {
+            return Ok(false);
+        };
+        let mut cell = [0; 64];
+        let len = put_part(number.max(1), &x, &mut cell);
         self.input.extend_from_slice(&cell[..len])?;
         Ok(true)
     }
@@ -92,6 +116,7 @@ impl Day {
             Line::Most(most) => self.most = most,
             Line::End(end) => self.end = end,
             Line::Bytes(digits) => return self.add_bytes(alloc, digits),
+            Line::Part(number, text) => return self.add_part(number, text),
             Line::Record(text) => return self.add_record(text),
         }
         Ok(true)

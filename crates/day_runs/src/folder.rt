@@ -104,6 +104,7 @@ fn ways_of(alloc: Global, day: &Day) -> Result<Vec<Way>, DayError> {
         for frames in 1..=frames {
             ways.push(Way::Cut { frames, workers: 1 })?;
             ways.push(Way::Cut { frames, workers: 2 })?;
+            ways.push(Way::TakenOver { frames })?;
         }
     }
     if frames <= PLAIN_MAX {

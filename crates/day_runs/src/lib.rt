@@ -5,10 +5,12 @@
 mod day;
 mod folder;
 mod published;
+mod replies;
 mod rolled;
 mod said;
 mod shown;
 mod stated;
+mod taken_over;
 mod tally;
 mod text;
 mod way;

@@ -1,8 +1,11 @@
 //! Files that say what a command answers.
 
+use crate::day::Day;
 use crate::published::{packed, text_of};
+use crate::replies::reply_lines;
 use crate::tally::{tell_difference, tell_tally};
 use crate::text::DayError;
+use crate::way::journal;
 use command_core::{run, tell};
 use host_core::{Status, Stream};
 use memory_host::MemoryHost;
@@ -12,13 +15,22 @@ use std::thread::Threads;
 use std::{fs, io};
 use yard_core::OpenGate;
 
-/// A command that reads an input and nothing else.
+/// A command that reads an input, and maybe an empty journal.
 #[derive(Clone, Copy, Debug)]
 pub enum Command {
     /// Of `audits/NAME.published.lines`, whose frames it reads, `audits/NAME.audit` says what it answers.
     Audit,
     /// Of the auction in `crosses/NAME.lines`, `crosses/NAME.cross` says what it answers.
     Cross,
+    /// Of the Parts in `standbys/NAME.lines`, which an empty journal takes, `standbys/NAME.replies` says what it replies.
+    Standby,
+}
+
+/// What a command reads.
+#[derive(Debug, Drop)]
+struct Read {
+    input: Vec<u8>,
+    disk: Vec<u8>,
 }
 
 /// What a file says that a command answers, and what it answers.
@@ -34,6 +46,7 @@ impl Command {
         match self {
             Command::Audit => ["audit"],
             Command::Cross => ["cross"],
+            Command::Standby => ["standby"],
         }
     }
 
@@ -42,6 +55,7 @@ impl Command {
         match self {
             Command::Audit => "audit",
             Command::Cross => "auction",
+            Command::Standby => "standby",
         }
     }
 
@@ -50,6 +64,7 @@ impl Command {
         match self {
             Command::Audit => "audits",
             Command::Cross => "crosses",
+            Command::Standby => "standbys",
         }
     }
 
@@ -58,6 +73,7 @@ impl Command {
         match self {
             Command::Audit => ".audit",
             Command::Cross => ".cross",
+            Command::Standby => ".replies",
         }
     }
 
@@ -65,29 +81,50 @@ impl Command {
     fn input_ending(self) -> &'static str {
         match self {
             Command::Audit => ".published.lines",
-            Command::Cross => ".lines",
+            Command::Cross | Command::Standby => ".lines",
         }
     }
 
-    /// The bytes that it reads of a file.
-    fn input(self, alloc: Global, text: &str) -> Result<Vec<u8>, DayError> {
+    /// What it reads of a file.
+    fn read(self, alloc: Global, text: &str) -> Result<Read, DayError> {
         match self {
-            Command::Audit => packed(alloc, text),
-            Command::Cross => Ok(Vec::from_slice(alloc, text.as_bytes())?),
+            Command::Audit => Ok(Read {
+                input: packed(alloc, text)?,
+                disk: Vec::new(alloc),
+            }),
+            Command::Cross => Ok(Read {
+                input: Vec::from_slice(alloc, text.as_bytes())?,
+                disk: Vec::new(alloc),
+            }),
+            Command::Standby => {
+                let day = Day::of(alloc, text, String::new(alloc))?;
+                Ok(Read {
+                    disk: journal(alloc, day.limit)?,
+                    input: day.input,
+                })
+            }
+        }
+    }
+
+    /// The lines of what it sent.
+    fn lines(self, alloc: Global, sent: &[u8]) -> Result<String, DayError> {
+        match self {
+            Command::Audit | Command::Cross => text_of(alloc, sent),
+            Command::Standby => reply_lines(alloc, sent),
         }
     }
 }
 
-/// What a command sends for an input, and behind it the line on standard error and the exit code of another end than Done.
+/// What a command sends for what it reads, and behind it the line on standard error and the exit code of another end than Done.
 fn answer<Rt: Threads + Sync>(
     rt: &Rt,
     alloc: Global,
     command: Command,
-    input: &[u8],
+    read: &Read,
 ) -> Result<String, DayError> {
-    let mut host = MemoryHost::new(alloc, input, b"")?;
+    let mut host = MemoryHost::new(alloc, &read.input, &read.disk)?;
     let status = run(rt, alloc, &command.words(), &mut host, &OpenGate);
-    let sent = text_of(alloc, host.sent())?;
+    let sent = command.lines(alloc, host.sent())?;
     if status == Status::Done {
         return Ok(sent);
     }
@@ -108,10 +145,10 @@ fn said_of<Rt: Files + AllocGlobal + Threads + Sync>(
     let input = format!(in alloc; "{folder}/{name}{}", command.input_ending())?;
     let stated = format!(in alloc; "{folder}/{name}{}", command.ending())?;
     let input = fs::read_to_string(rt, input.as_str())?;
-    let input = command.input(alloc, &input)?;
+    let read = command.read(alloc, &input)?;
     Ok(Said {
         stated: fs::read_to_string(rt, stated.as_str())?,
-        given: answer(rt, alloc, command, &input)?,
+        given: answer(rt, alloc, command, &read)?,
     })
 }
 

@@ -5,6 +5,7 @@ use crate::published::{packed, printed, text_of};
 use crate::rolled::serve_rolled;
 use crate::shown::board_lines;
 use crate::stated;
+use crate::taken_over::serve_second;
 use crate::text::DayError;
 use afresh_core::{afresh, is_lawful};
 use audit_core::audit_stream;
@@ -43,6 +44,8 @@ pub enum Way {
     Cut { frames: usize, workers: u32 },
     /// Sessions by so many workers, each of which ends behind an accepted record that begins a day; then the journal is rolled.
     Rolled { workers: u32 },
+    /// A session that ends behind so many frames, whose journal is shipped to a second one, and another session over that.
+    TakenOver { frames: usize },
     /// The evaluation of the accepted records from the whole list, by the definitions alone.
     Plain,
     /// An audit of the messages and refusals that are stated of one day.
@@ -68,6 +71,12 @@ impl Display for Way {
                 write!(
                     f,
                     "serve --workers {workers} up to each day, and roll behind it"
+                )
+            }
+            Way::TakenOver { frames } => {
+                write!(
+                    f,
+                    "serve up to frame {frames}, ship to a standby, then serve --from 1 there"
                 )
             }
             Way::Plain => write!(f, "the plain evaluation"),
@@ -316,6 +325,7 @@ impl Way {
             Way::Replay { workers } => replay_day(rt, alloc, day, workers),
             Way::Cut { frames, workers } => serve_in_two(rt, alloc, day, frames, workers),
             Way::Rolled { workers } => serve_rolled(rt, alloc, day, workers),
+            Way::TakenOver { frames } => serve_second(rt, alloc, day, frames),
             Way::Plain => evaluate_plainly(alloc, day),
             Way::Audit => audit_day(alloc, day),
             Way::Board => show_day(rt, alloc, day),

@@ -6,6 +6,7 @@ mod failing;
 mod frames;
 mod order;
 mod sent;
+mod standing;
 mod stopped;
 
 use host_core::Status;

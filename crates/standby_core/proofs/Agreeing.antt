@@ -42,7 +42,7 @@ bodies_more from x earlier =
 
 -- What is kept
 
-kept-append : (limit : ℕ) (accepted : List Record) (a b : List (List ℕ)) → kept limit accepted (a ++ b) ≡ kept limit (kept limit accepted a) b
+pub kept-append : (limit : ℕ) (accepted : List Record) (a b : List (List ℕ)) → kept limit accepted (a ++ b) ≡ kept limit (kept limit accepted a) b
 kept-append limit accepted [] b = refl
 kept-append limit accepted (body ∷ a) b = kept-append limit (with_part limit accepted (part_of body)) a b
 

@@ -11,7 +11,7 @@ use Rattle.standby_core.specs.Parts.{part_of}
 use Rattle.standby_core.specs.Kept.{HasAt, KeptIsLawful, KeptIsPart, with_part}
 
 -- a test that chooses between two lists, of which both have a property
-chosen : (P : List Record → Type 0) (b : Bool) (next same : List Record) → (b ≡ true → P next) → P same → P (if b then next else same)
+pub chosen : (P : List Record → Type 0) (b : Bool) (next same : List Record) → (b ≡ true → P next) → P same → P (if b then next else same)
 chosen P true next same taken left = taken refl
 chosen P false next same taken left = left
 

@@ -6,3 +6,9 @@ pub mod PartTexts
 pub mod SentBatches
 pub mod Shipments
 pub mod Agreeing
+pub mod Counting
+pub mod Opened
+pub mod StoodBy
+pub mod Taken
+pub mod OneFrame
+pub mod Settling

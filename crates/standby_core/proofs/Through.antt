@@ -52,7 +52,7 @@ held_by {capacity} {gate} {batches} {disk} {rest} p = record {
 lawful_whole : (capacity : ℕ) (records : List Record) → IsLawfulAfter (origin_of None) capacity records → IsLawful capacity records
 lawful_whole capacity records lawful = subst (IsLawful capacity) (append-nil records) (lawful-both capacity records [] lawful tt)
 
-read_through : {batches : List (List Record)} {disk : List ℕ} {reading : Reading} {now : Outside} → Reads batches disk reading now → IsTrue reading.scan.is_closed → IsReadThrough disk
+pub read_through : {batches : List (List Record)} {disk : List ℕ} {reading : Reading} {now : Outside} → Reads batches disk reading now → IsTrue reading.scan.is_closed → IsReadThrough disk
 read_through {batches} {disk} {reading} r is_closed =
     let zero = r.read.closed is_closed in
     let scan = reading.scan in

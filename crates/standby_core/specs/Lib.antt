@@ -4,3 +4,8 @@ pub mod Reading
 pub mod Shipped
 pub mod Shipping
 pub mod Agreement
+pub mod Rounds
+pub mod Standing
+pub mod StoodBy
+pub mod Takeover
+pub mod Running

@@ -3,11 +3,18 @@
 
 mod decoding;
 mod encoding;
+mod judging;
+mod keeping;
 mod law;
+mod opening;
 mod reading;
+mod replying;
+mod round;
 mod shipping;
+mod standing;
 
 pub use decoding::{BadFrame, get_have, get_part};
 pub use encoding::{put_have, put_part};
-pub use law::{one_have, one_list_is_kept, one_part};
+pub use keeping::standby;
+pub use law::{a_standby_takes_over, one_have, one_list_is_kept, one_part};
 pub use shipping::ship;

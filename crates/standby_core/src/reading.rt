@@ -20,7 +20,7 @@ use std::alloc::Global;
 use wire_in::Record;
 
 /// Admits a record that no refusal applies to. It takes no memory.
-fn admit(admission: &mut Admission, x: &Record)
+pub fn admit(admission: &mut Admission, x: &Record)
     requires { admissions.refusal_of admission.old x.now ≡ None }
     ensures stands { (admitted : List Record) → admissions.Stands admission.old admitted → admissions.Stands admission.new (x.now ∷ admitted) }
     ensures capacity { admission.new.capacity ≡ admission.old.capacity }

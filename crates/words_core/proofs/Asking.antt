@@ -5,7 +5,7 @@ use Rattle.clap.specs.Words.{Kinds, HasKind, kind_of}
 use Rattle.clap.specs.declared.error.Error.{Error}
 use Rattle.clap.specs.declared.error.kind.ErrorKind.{ErrorKind}
 use Rattle.clap.specs.declared.error.kind.ErrorKind.TheVariants.{OutOfMemory}
-use Rattle.words_core.specs.Asked.{Allows, Gives, Tells, asks_for_text}
+use Rattle.words_core.specs.Asked.{Allows, Gives, HasFault, IsFault, Tells, asks_for_text}
 use Rattle.words_core.specs.declared.asked.Asked.{Asked}
 use Rattle.words_core.specs.declared.asked.Asked.TheVariants as asked
 use Rattle.words_core.specs.declared.asked.WordsError.{WordsError}
@@ -28,3 +28,8 @@ given kinds command (Ok (asked.Command c)) none named gives = (none, gives)
 given kinds command (Ok (asked.Text text)) none named gives = absurd gives
 given kinds command (Err Usage) none named gives = absurd (named none gives)
 given kinds command (Err NoMemory) none named gives = absurd gives
+
+-- a fault that asks for no text is among those that words may have
+pub refused : (kinds : Kinds) (e : Error) → HasKind kinds e → IsFault (kind_of e) → HasFault kinds
+refused kinds e (inl out) fault = absurd (fault.1 out)
+refused kinds e (inr among) fault = (kind_of e, among, fault.0)

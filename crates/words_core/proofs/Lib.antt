@@ -7,3 +7,4 @@ pub mod Filling
 pub mod Leaves
 pub mod Naming
 pub mod Named
+pub mod Free

@@ -14,7 +14,7 @@ use Rattle.clap.specs.Words.{Text, fault_of, subcommand_of}
 use Rattle.clap.specs.declared.builder.value_parser.ValueParser.TheVariants.{Unsigned}
 use Rattle.words_core.specs.Numbers.{numeral_in}
 use Rattle.words_core.specs.Commands.{kind_of}
-use Rattle.words_core.specs.Line.{CommandLine, app_of_line, board_line, format_line, generate_line, replay_line, serve_line, text_line}
+use Rattle.words_core.specs.Line.{CommandLine, app_of_line, board_line, format_line, generate_line, replay_line, serve_line, ship_line, standby_line, text_line}
 use Rattle.words_core.specs.Asked.{command_found, kind_in, number_if_given, number_of}
 use Rattle.words_core.proofs.Passing.{AllTold, some_kind}
 use Rattle.words_core.proofs.Filling.{MayRead, Reads, Takes, default_there, has_default, level_told, may_read, there_reads}
@@ -125,6 +125,25 @@ board_named = (
       mapped _ _ (number_there c words told (codes "bytes") 1 1073741824 refl (λ v t. only t)),
 )
 
+ship_named : IsNamed (leaf ship_line.top)
+ship_named = (
+  refl,
+  λ help words e.
+      let c = (leaf ship_line.top).rules in
+      let told = (level_told (leaf ship_line.top) words refl e).0 in
+      mapped _ _ (number_there c words told (codes "from") 1 18446744073709551615 refl (λ v t. only t)),
+)
+
+standby_named : IsNamed (leaf standby_line.top)
+standby_named = (
+  refl,
+  λ help words e.
+      let c = (leaf standby_line.top).rules in
+      let told = (level_told (leaf standby_line.top) words refl e).0 in
+      chain _ _ (number_there c words told (codes "batch") 1 64 refl (λ v t. only t))
+      (λ batch. mapped _ _ (number_there c words told (codes "bytes") 1 1099511627776 refl (λ v t. only t))),
+)
+
 wanted : (given : Bool) → check_kinds false false (not given || false) ≡ [] → given ≡ true
 wanted true e = refl
 wanted false e = absurd (some_kind _ _ e)
@@ -148,7 +167,7 @@ pack_named : (line : CommandLine) → IsNamed (leaf (text_line (codes "pack") li
 pack_named line = (refl, λ help words e. mapped _ _ (kind_there line (codes "pack") words e))
 
 all_named : (line : CommandLine) → AllNamed (built (app_of_line line)).subs
-all_named line = (format_named, (serve_named, (replay_named, ((refl, λ help words e. refl), (print_named line, (pack_named line, (generate_named, ((refl, λ help words e. refl), (board_named, ((refl, λ help words e. refl), ((refl, λ help words e. refl), ((refl, λ help. absurd (true≢false help)), tt))))))))))))
+all_named line = (format_named, (serve_named, (replay_named, ((refl, λ help words e. refl), (print_named line, (pack_named line, (generate_named, ((refl, λ help words e. refl), (board_named, ((refl, λ help words e. refl), ((refl, λ help words e. refl), (ship_named, (standby_named, ((refl, λ help. absurd (true≢false help)), tt))))))))))))))
 
 pub names_a_command : (line : CommandLine) (words : List Text) → fault_of (app_of_line line) words ≡ [] → command_found (subcommand_of (app_of_line line) words) ≢ None
 names_a_command line words e none =

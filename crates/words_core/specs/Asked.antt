@@ -15,7 +15,7 @@ use Rattle.words_core.specs.declared.asked.WordsError.TheVariants.{Usage, NoMemo
 use Rattle.words_core.specs.declared.command.Command.{Command}
 use Rattle.words_core.specs.declared.command.Command.TheVariants as commands
 use Rattle.words_core.specs.declared.command.Verb.{Verb}
-use Rattle.words_core.specs.declared.command.Verb.TheVariants.{Format, Serve, Replay, Status, Print, Pack, Generate, Roll, Board, Cross, Audit}
+use Rattle.words_core.specs.declared.command.Verb.TheVariants.{Format, Serve, Replay, Status, Print, Pack, Generate, Roll, Board, Cross, Audit, Ship, Standby}
 
 -- the number of an option
 abbrev pub number_of : ℕ → ℕ → Text → List Row → Option ℕ
@@ -28,6 +28,9 @@ number_if_given least most (Some word) = option_map (λ n. Some n) (numeral_in l
 
 abbrev pub workers_in : List Row → Option ℕ
 workers_in = number_of 1 64 (codes "workers")
+
+abbrev pub batch_in : List Row → Option ℕ
+batch_in = number_of 1 64 (codes "batch")
 
 abbrev pub bytes_in : List Row → Option ℕ
 bytes_in = number_of 1 1099511627776 (codes "bytes")
@@ -44,7 +47,7 @@ abbrev pub command_from : Verb → List Row → Option Command
 command_from Format rows = option_map (λ limit. commands.Format limit) (number_of 1 2000000000 (codes "limit") rows)
 command_from Serve rows =
     option_and_then (λ from. option_and_then (λ workers. option_and_then (λ batch. option_map (λ bytes. commands.Serve from workers batch bytes)
-    (bytes_in rows)) (number_of 1 64 (codes "batch") rows)) (workers_in rows))
+    (bytes_in rows)) (batch_in rows)) (workers_in rows))
     (number_if_given 1 18446744073709551615 (first_of (codes "from") rows))
 command_from Replay rows = option_and_then (λ workers. option_map (λ bytes. commands.Replay workers bytes) (bytes_in rows)) (workers_in rows)
 command_from Status rows = Some commands.Status
@@ -59,6 +62,8 @@ command_from Roll rows = Some commands.Roll
 command_from Board rows = option_map (λ bytes. commands.Board bytes) (number_of 1 1073741824 (codes "bytes") rows)
 command_from Cross rows = Some commands.Cross
 command_from Audit rows = Some commands.Audit
+command_from Ship rows = option_map (λ from. commands.Ship from) (number_of 1 18446744073709551615 (codes "from") rows)
+command_from Standby rows = option_and_then (λ batch. option_map (λ bytes. commands.Standby batch bytes) (bytes_in rows)) (batch_in rows)
 
 abbrev pub command_found : Option (Text × List Row) → Option Command
 command_found found = option_and_then (λ p. option_and_then (λ verb. command_from verb p.1) (verb_of p.0)) found
@@ -109,3 +114,16 @@ pub record Reads (words : List Text) (answer : Result Asked WordsError) : Type 0
 abbrev pub IsAskedInRange : Asked → Type 0
 IsAskedInRange (asked.Command command) = IsInRange command
 IsAskedInRange (asked.Text text) = Unit {0}
+
+-- a fault that asks for no text, and is no want of memory
+abbrev pub IsFault : ErrorKind → Type 0
+IsFault kind = (asks_for_text kind ≡ false) × (kind ≢ OutOfMemory)
+
+-- words may have a fault of these kinds that asks for no text
+abbrev pub HasFault : Kinds → Type 0
+HasFault kinds = SomeKind false kinds
+
+-- words that are refused: `clap` finds a fault in them that asks for no text
+pub record IsRefused (words : List Text) : Type 0 where
+  pub line : CommandLine
+  pub fault : HasFault (fault_of (app_of_line line) words)

@@ -6,7 +6,7 @@ use Rattle.text_core.specs.declared.kind.Kind.TheVariants.{Records, Published}
 use Rattle.words_core.specs.declared.command.Command.{Command}
 use Rattle.words_core.specs.declared.command.Command.TheVariants as commands
 use Rattle.words_core.specs.declared.command.Verb.{Verb}
-use Rattle.words_core.specs.declared.command.Verb.TheVariants.{Format, Serve, Replay, Status, Print, Pack, Generate, Roll, Board, Cross, Audit}
+use Rattle.words_core.specs.declared.command.Verb.TheVariants.{Format, Serve, Replay, Status, Print, Pack, Generate, Roll, Board, Cross, Audit, Ship, Standby}
 
 -- the command of a name
 abbrev pub verb_of : List ℕ → Option Verb
@@ -22,6 +22,8 @@ verb_of word =
     else if bytes_eq word (codes "board") then Some Board
     else if bytes_eq word (codes "cross") then Some Cross
     else if bytes_eq word (codes "audit") then Some Audit
+    else if bytes_eq word (codes "ship") then Some Ship
+    else if bytes_eq word (codes "standby") then Some Standby
     else None
 
 -- the kind of a name
@@ -43,5 +45,7 @@ IsInRange commands.Roll = Unit {0}
 IsInRange (commands.Board bytes) = (1 ≤ bytes) × (bytes ≤ 1073741824)
 IsInRange commands.Cross = Unit {0}
 IsInRange commands.Audit = Unit {0}
+IsInRange (commands.Ship from) = 1 ≤ from
+IsInRange (commands.Standby batch bytes) = (1 ≤ batch) × (batch ≤ 64) × (1 ≤ bytes) × (bytes ≤ 1099511627776)
 IsInRange (commands.Generate seed symbols records workers summary) =
     (1 ≤ symbols) × (symbols ≤ 16384) × (records ≤ 100000000) × (1 ≤ workers) × (workers ≤ 64)

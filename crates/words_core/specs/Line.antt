@@ -82,6 +82,15 @@ cross_line = new_app (codes "cross")
 abbrev pub audit_line : App
 audit_line = new_app (codes "audit")
 
+abbrev pub ship_from_option : Rule
+ship_from_option = with_default (codes "1") (number_option (codes "from") 1 18446744073709551615)
+
+abbrev pub ship_line : App
+ship_line = with_rule (new_app (codes "ship")) ship_from_option
+
+abbrev pub standby_line : App
+standby_line = with_rule (with_rule (new_app (codes "standby")) batch_option) bytes_option
+
 -- the program, of which one command is required; the words do not begin with its own name
 abbrev pub program : App
 program = on_top (λ s. record s { no_binary_name = true; has_version = true; subcommand_required = true }) (new_app (codes "halts"))
@@ -95,13 +104,17 @@ with_sessions =
 abbrev pub with_texts : Bor (List (Bor Text)) → App
 with_texts kinds = with_subcommand (with_subcommand with_sessions (text_line (codes "print") kinds).top) (text_line (codes "pack") kinds).top
 
--- and with those that generate a day, begin a journal behind its last day, and tell where its symbols stand
+-- and with those that generate a day, put a base behind the last record of a journal, and tell where the symbols of a day stand
 abbrev pub with_days : Bor (List (Bor Text)) → App
 with_days kinds = with_subcommand (with_subcommand (with_subcommand (with_texts kinds) generate_line.top) roll_line.top) board_line.top
 
--- the whole command line
+-- and with those that cross an auction and audit a day
+abbrev pub with_audits : Bor (List (Bor Text)) → App
+with_audits kinds = with_subcommand (with_subcommand (with_days kinds) cross_line.top) audit_line.top
+
+-- the whole command line, with those that keep a second journal
 abbrev pub halts_line : Bor (List (Bor Text)) → App
-halts_line kinds = with_subcommand (with_subcommand (with_days kinds) cross_line.top) audit_line.top
+halts_line kinds = with_subcommand (with_subcommand (with_audits kinds) ship_line.top) standby_line.top
 
 -- the command line, wherever the two words of its kinds stand
 pub record CommandLine : Type 0 where

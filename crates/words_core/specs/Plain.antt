@@ -7,7 +7,7 @@ use Rattle.words_core.specs.Numbers.{number_in}
 use Rattle.words_core.specs.declared.command.Command.{Command}
 use Rattle.words_core.specs.declared.command.Command.TheVariants as commands
 use Rattle.words_core.specs.declared.command.Verb.{Verb}
-use Rattle.words_core.specs.declared.command.Verb.TheVariants.{Format, Serve, Replay, Status, Print, Pack, Generate, Roll, Board, Cross, Audit}
+use Rattle.words_core.specs.declared.command.Verb.TheVariants.{Format, Serve, Replay, Status, Print, Pack, Generate, Roll, Board, Cross, Audit, Ship, Standby}
 use Rattle.words_core.specs.declared.options.Options.{Options}
 
 -- no option was given
@@ -83,6 +83,11 @@ with_option Roll given name word = None
 with_option Board given name word = if bytes_eq name (codes "--bytes") then with_bytes given word else None
 with_option Cross given name word = None
 with_option Audit given name word = None
+with_option Ship given name word = if bytes_eq name (codes "--from") then with_from given word else None
+with_option Standby given name word =
+    if bytes_eq name (codes "--batch") then with_batch given word
+    else if bytes_eq name (codes "--bytes") then with_bytes given word
+    else None
 
 -- the options with --summary
 abbrev pub with_summary : Verb → Options → Option Options
@@ -120,6 +125,8 @@ command_with Roll given = Some commands.Roll
 command_with Board given = board_of (unwrap_or given.bytes 1073741824)
 command_with Cross given = Some commands.Cross
 command_with Audit given = Some commands.Audit
+command_with Ship given = Some (commands.Ship (unwrap_or given.from 1))
+command_with Standby given = Some (commands.Standby (unwrap_or given.batch 64) (unwrap_or given.bytes 1099511627776))
 
 -- the command of a plain line; none where the words are no such line
 abbrev pub command_of : List (List ℕ) → Option Command

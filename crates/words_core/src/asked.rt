@@ -37,7 +37,7 @@ pub enum WordsError {
 }
 
 /// The words for kinds of lines.
-static KINDS: [&str; 2] = ["records", "published"];
+pub static KINDS: [&str; 2] = ["records", "published"];
 
 /// What the kind of an error asks for, with the error's text.
 fn answer_to(alloc: Global, error: &Error) -> Result<Asked, WordsError>

@@ -63,7 +63,7 @@ pub enum Command {
         workers: u32,
         summary: bool,
     },
-    /// Puts a base of all records behind the last day of a journal.
+    /// Puts a base of all records behind the last record of a journal, which must be a Day.
     Roll,
     /// Tells the last state and price bands of each symbol of the input, up to so many bytes, from 1 to 1,073,741,824.
     Board {
@@ -73,6 +73,16 @@ pub enum Command {
     Cross,
     /// Audits the published frames of the input.
     Audit,
+    /// Sends the records of a journal behind its last base, from that number on, which is at least 1, for a second journal.
+    Ship {
+        from: u64,
+    },
+    /// Takes such records of the input into a journal: so many frames at most in one batch, from 1 to 64, and so many bytes at
+    /// most, from 1 to 1,099,511,627,776.
+    Standby {
+        batch: u32,
+        bytes: u64,
+    },
 }
 
 /// The name of a command.
@@ -89,6 +99,8 @@ pub enum Verb {
     Board,
     Cross,
     Audit,
+    Ship,
+    Standby,
 }
 
 impl Verb {
@@ -111,6 +123,8 @@ impl Verb {
             "board" => Some(Verb::Board),
             "cross" => Some(Verb::Cross),
             "audit" => Some(Verb::Audit),
+            "ship" => Some(Verb::Ship),
+            "standby" => Some(Verb::Standby),
             _ => None,
         }
     }

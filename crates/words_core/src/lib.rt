@@ -3,6 +3,7 @@
 
 mod asked;
 mod command;
+mod fault;
 mod line;
 mod number;
 mod options;
@@ -11,3 +12,4 @@ mod rows;
 
 pub use asked::{Asked, WordsError, parse};
 pub use command::Command;
+pub use fault::fault_text;

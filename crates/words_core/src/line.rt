@@ -3,7 +3,7 @@
 ghost use Rattle.std.specs.Prelude.{◌≡◌, IfOk, codes, false};
 ghost use Rattle.clap.specs.Words.{App, Rule, app_of, rule_of, new_app, with_rule, with_subcommand, shape_of};
 ghost use Rattle.clap.specs.declared.builder.command.Command.TheViews.{out-Command as fields_of};
-ghost use Rattle.words_core.specs.Line.{number_option, with_default, workers_option, batch_option, bytes_option, kind_option, summary_option, format_line, serve_line, replay_line, status_line, text_line, seed_option, symbols_option, records_option, generate_line, roll_line, board_bytes_option, board_line, cross_line, audit_line, program, with_sessions, with_texts, with_days, halts_line};
+ghost use Rattle.words_core.specs.Line.{number_option, with_default, workers_option, batch_option, bytes_option, kind_option, summary_option, format_line, serve_line, replay_line, status_line, text_line, seed_option, symbols_option, records_option, generate_line, roll_line, board_bytes_option, board_line, cross_line, audit_line, ship_from_option, ship_line, standby_line, program, with_sessions, with_texts, with_days, with_audits, halts_line};
 
 use crate::command::{
     BATCH_MAX, BOARD_BYTES_MAX, BYTES_MAX, LIMIT_MAX, RECORDS_MAX, SYMBOLS_MAX, WORKERS_MAX,
@@ -249,7 +249,7 @@ fn roll_line<'a>(alloc: Global) -> Command<'a>
     command(
         alloc,
         "roll",
-        "Puts a base of all records behind the last day of the journal, from which later starts begin",
+        "Puts a base of all records behind the last one, which must be a Day; later starts begin there",
     )
 }
 
@@ -318,6 +318,91 @@ fn audit_line<'a>(alloc: Global) -> Command<'a>
     .after_help(LAWS)
 }
 
+fn ship_from_option<'a>(alloc: Global) -> Arg<'a>
+    ensures rule { rule_of result ≡ ship_from_option }
+    ensures local { result.global ≡ false }
+{
+    number_option(
+        alloc,
+        "from",
+        1,
+        u64::MAX,
+        "The number of the first record that is sent, from 1 to 18446744073709551615",
+    )
+    .default_value("1")
+}
+
+/// The exit codes of `ship`, as its help has them.
+const SHIP_CODES: &str = "\
+Exit codes:
+  0   all was sent
+  2   the words are not understood
+  5   the output could not be written
+  6   the journal could not be read
+  8   the journal is damaged; some records before the damage may have been sent
+  9   there is no journal
+  10  out of memory";
+
+fn ship_line<'a>(alloc: Global) -> Result<Command<'a>, AllocError>
+    ensures app { IfOk result (λ c. app_of c ≡ ship_line) }
+    ensures local { IfOk result (λ c. (fields_of c).has_globals ≡ false) }
+{
+    with_option(
+        command(
+            alloc,
+            "ship",
+            "Sends the records of the journal behind its last base, as frames for a second journal",
+        )
+        .after_help(SHIP_CODES),
+        ship_from_option(alloc),
+    )
+}
+
+/// The exit codes of `standby`, as its help has them.
+const STANDBY_CODES: &str = "\
+Exit codes:
+  0   the input ended behind a frame, and each frame has its reply
+  2   the words are not understood
+  3   the input ended inside a frame
+  4   the input could not be read
+  5   the output could not be written
+  6   the journal could not be read or written
+  7   the bytes of the session are used up
+  8   the journal is damaged; nothing was taken
+  9   there is no journal
+  10  out of memory";
+
+fn standby_line<'a>(alloc: Global) -> Result<Command<'a>, AllocError>
+    ensures app { IfOk result (λ c. app_of c ≡ standby_line) }
+    ensures local { IfOk result (λ c. (fields_of c).has_globals ≡ false) }
+{
+    let standby = command(
+        alloc,
+        "standby",
+        "Takes the frames that ship sends into this journal, and replies how many records it has",
+    )
+    .after_help(STANDBY_CODES);
+    let standby = with_option(standby, batch_option(alloc))?;
+    with_option(standby, bytes_option(alloc))
+}
+
+/// All exit codes, as the help of the program has them.
+const CODES: &str = "\
+Exit codes:
+  0   all went well
+  2   the words are not understood
+  3   the input ended inside a frame
+  4   the input could not be read
+  5   the output could not be written
+  6   the journal could not be read or written
+  7   the bytes that may be read are used up
+  8   the journal is damaged at the byte that is told
+  9   there is no journal
+  10  out of memory
+  11  the line or frame whose number is told is not understood
+  12  of roll: the last record is not a day
+  13  of audit: a law is broken at the frame that is told";
+
 /// The program without its commands.
 fn program<'a>(alloc: Global) -> Result<Command<'a>, AllocError>
     ensures app { IfOk result (λ c. app_of c ≡ program) }
@@ -331,6 +416,7 @@ fn program<'a>(alloc: Global) -> Result<Command<'a>, AllocError>
     .no_binary_name(true)
     .version(VERSION)
     .subcommand_required(true)
+    .after_help(CODES)
     .bin_name("halts <journal>")
 }
 
@@ -374,8 +460,8 @@ fn with_texts<'a>(alloc: Global, kinds: &'a [&'a str]) -> Result<Command<'a>, Al
     with_command(halts, pack)
 }
 
-/// The program with the commands that generate a day, begin a journal behind its last day, and tell where its symbols stand
-/// besides.
+/// The program with the commands that generate a day, put a base behind the last record of a journal, and tell where the symbols
+/// of a day stand besides.
 fn with_days<'a>(alloc: Global, kinds: &'a [&'a str]) -> Result<Command<'a>, AllocError>
     ensures app { IfOk result (λ c. app_of c ≡ with_days kinds.entry) }
     ensures local { IfOk result (λ c. (fields_of c).has_globals ≡ false) }
@@ -386,11 +472,21 @@ fn with_days<'a>(alloc: Global, kinds: &'a [&'a str]) -> Result<Command<'a>, All
     with_command(halts, board_line(alloc)?)
 }
 
-/// The whole command line, with the words for kinds of lines.
-pub fn halts_line<'a>(alloc: Global, kinds: &'a [&'a str]) -> Result<Command<'a>, AllocError>
-    ensures app { IfOk result (λ c. app_of c ≡ halts_line kinds.entry) }
+/// The program with the commands that cross an auction and audit a day besides.
+fn with_audits<'a>(alloc: Global, kinds: &'a [&'a str]) -> Result<Command<'a>, AllocError>
+    ensures app { IfOk result (λ c. app_of c ≡ with_audits kinds.entry) }
+    ensures local { IfOk result (λ c. (fields_of c).has_globals ≡ false) }
 {
     let halts = with_days(alloc, kinds)?;
     let halts = with_command(halts, cross_line(alloc))?;
     with_command(halts, audit_line(alloc))
+}
+
+/// The whole command line, with the words for kinds of lines.
+pub fn halts_line<'a>(alloc: Global, kinds: &'a [&'a str]) -> Result<Command<'a>, AllocError>
+    ensures app { IfOk result (λ c. app_of c ≡ halts_line kinds.entry) }
+{
+    let halts = with_audits(alloc, kinds)?;
+    let halts = with_command(halts, ship_line(alloc)?)?;
+    with_command(halts, standby_line(alloc)?)
 }

@@ -201,10 +201,12 @@ impl Options {
     {
         match (verb, name) {
             (Verb::Format, "--limit") => self.with_limit(word),
-            (Verb::Serve, "--from") => self.with_from(word),
+            (Verb::Serve | Verb::Ship, "--from") => self.with_from(word),
             (Verb::Serve | Verb::Replay | Verb::Generate, "--workers") => self.with_workers(word),
-            (Verb::Serve, "--batch") => self.with_batch(word),
-            (Verb::Serve | Verb::Replay | Verb::Board, "--bytes") => self.with_bytes(word),
+            (Verb::Serve | Verb::Standby, "--batch") => self.with_batch(word),
+            (Verb::Serve | Verb::Replay | Verb::Board | Verb::Standby, "--bytes") => {
+                self.with_bytes(word)
+            }
             (Verb::Print | Verb::Pack, "--kind") => self.with_kind(word),
             (Verb::Generate, "--seed") => self.with_seed(word),
             (Verb::Generate, "--symbols") => self.with_symbols(word),
@@ -262,6 +264,13 @@ impl Options {
             Verb::Board => board_of(self.bytes.unwrap_or(BOARD_BYTES_MAX)),
             Verb::Cross => Some(Command::Cross),
             Verb::Audit => Some(Command::Audit),
+            Verb::Ship => Some(Command::Ship {
+                from: self.from.unwrap_or(1),
+            }),
+            Verb::Standby => Some(Command::Standby {
+                batch: self.batch.unwrap_or(64),
+                bytes: self.bytes.unwrap_or(BYTES_MAX),
+            }),
         }
     }
 }

@@ -3,7 +3,7 @@
 ghost use Rattle.std.specs.Prelude.{◌≡◌, IfSome, ◌≤◌, codes, option_map};
 ghost use Rattle.clap.specs.Words.{found_of, first_of, rows_of, subcommand_rows_of};
 ghost use Rattle.words_core.specs.Commands.{IsInRange};
-ghost use Rattle.words_core.specs.Asked.{number_of, number_if_given, workers_in, bytes_in, kind_in, is_given, command_from, command_found};
+ghost use Rattle.words_core.specs.Asked.{number_of, number_if_given, workers_in, batch_in, bytes_in, kind_in, is_given, command_from, command_found};
 
 use crate::command::{
     BATCH_MAX, BOARD_BYTES_MAX, BYTES_MAX, Command, LIMIT_MAX, RECORDS_MAX, SYMBOLS_MAX, Verb,
@@ -52,6 +52,14 @@ fn workers_in(found: &ArgMatches<'_>) -> Option<u32>
     Some(workers as u32)
 }
 
+fn batch_in(found: &ArgMatches<'_>) -> Option<u32>
+    ensures exact { result ≡ batch_in (rows_of (found_of found.now)) }
+    ensures range { IfSome result (λ n. (1 ≤ n) × (n ≤ 64)) }
+{
+    let batch = number_of(found, "batch", 1, BATCH_MAX)?;
+    Some(batch as u32)
+}
+
 fn kind_in(found: &ArgMatches<'_>) -> Option<Kind>
     ensures { result ≡ kind_in (rows_of (found_of found.now)) }
 {
@@ -84,12 +92,12 @@ fn serve_of(found: &ArgMatches<'_>) -> Option<Command>
 {
     let from = from_of(found)?;
     let workers = workers_in(found)?;
-    let batch = number_of(found, "batch", 1, BATCH_MAX)?;
+    let batch = batch_in(found)?;
     let bytes = number_of(found, "bytes", 1, BYTES_MAX)?;
     Some(Command::Serve {
         from,
         workers,
-        batch: batch as u32,
+        batch,
         bytes,
     })
 }
@@ -128,6 +136,23 @@ fn board_of(found: &ArgMatches<'_>) -> Option<Command>
     Some(Command::Board { bytes })
 }
 
+fn ship_of(found: &ArgMatches<'_>) -> Option<Command>
+    ensures exact { result ≡ command_from Verb.Ship (rows_of (found_of found.now)) }
+    ensures range { IfSome result IsInRange }
+{
+    let from = number_of(found, "from", 1, u64::MAX)?;
+    Some(Command::Ship { from })
+}
+
+fn standby_of(found: &ArgMatches<'_>) -> Option<Command>
+    ensures exact { result ≡ command_from Verb.Standby (rows_of (found_of found.now)) }
+    ensures range { IfSome result IsInRange }
+{
+    let batch = batch_in(found)?;
+    let bytes = number_of(found, "bytes", 1, BYTES_MAX)?;
+    Some(Command::Standby { batch, bytes })
+}
+
 fn command_from(verb: Verb, found: &ArgMatches<'_>) -> Option<Command>
     ensures exact { result ≡ command_from verb (rows_of (found_of found.now)) }
     ensures range { IfSome result IsInRange }
@@ -148,6 +173,8 @@ fn command_from(verb: Verb, found: &ArgMatches<'_>) -> Option<Command>
         Verb::Board => board_of(found),
         Verb::Cross => Some(Command::Cross),
         Verb::Audit => Some(Command::Audit),
+        Verb::Ship => ship_of(found),
+        Verb::Standby => standby_of(found),
     }
 }
 

@@ -31,7 +31,7 @@ const END: &[u8] = b"\0\0\0\0\0";
 const GATE: usize = 61;
 
 /// A journal that holds two days, kept as one batch.
-fn two_days<Rt: Abort + AllocGlobal + Threads + Sync>(rt: &Rt) -> Result<Vec<u8>, Fail> {
+pub fn two_days<Rt: Abort + AllocGlobal + Threads + Sync>(rt: &Rt) -> Result<Vec<u8>, Fail> {
     let input = [DAY, NEXT_DAY].concat(rt.alloc())?;
     let sent = [HELLO, ACKS].concat(rt.alloc())?;
     runs(rt, &["serve"], &fresh(rt)?, &input, &sent, Status::Done)

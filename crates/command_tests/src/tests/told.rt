@@ -9,7 +9,7 @@ const LINES: &[(Status, &str)] = &[
     (Status::Done, ""),
     (
         Status::Usage,
-        "halts: usage: halts <journal> format|serve|replay|status|print|pack|generate|roll|board|cross|audit\n",
+        "halts: usage: halts <journal> format|serve|replay|status|print|pack|generate|roll|board|cross|audit|ship|standby\n",
     ),
     (Status::ReadFault, "halts: the input could not be read\n"),
     (

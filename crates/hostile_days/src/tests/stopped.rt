@@ -14,7 +14,7 @@ use test_days::Session;
 use test_days::lines::{at, clock};
 
 /// What a stop may leave of each piece that was written and not yet synced.
-const PICKS: [Pick; 4] = [Pick::Old, Pick::New, Pick::Bytes(0x55), Pick::Bytes(0)];
+pub const PICKS: [Pick; 4] = [Pick::Old, Pick::New, Pick::Bytes(0x55), Pick::Bytes(0)];
 
 /// All records as one batch.
 const WHOLE: Way = Way {
@@ -36,7 +36,7 @@ const WAYS: [Way; 4] = [
 
 /// A disk holds so many records at least, and a session over it that is handed the rest of the day, by so many workers, gives the
 /// messages of the whole day.
-fn expect_rest<Rt: Abort + AllocGlobal + Threads + Sync>(
+pub fn expect_rest<Rt: Abort + AllocGlobal + Threads + Sync>(
     rt: &Rt,
     day: &Session,
     disk: &[u8],

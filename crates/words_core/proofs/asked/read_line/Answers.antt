@@ -1,20 +1,10 @@
-use Rattle.std.proofs.Common.{◌≡◌, ◌∙◌, true, sym, ap, subst, refl, map, List}
-use Rattle.std.specs.Borrow.{Bor}
-use Rattle.clap.specs.Words.{HasKind, Text, fault_of, is_simple, is_simple_and_free, subcommand_of}
-use Rattle.clap.proofs.OnLiterals.{clap_on_literals}
-use Rattle.words_core.specs.Line.{halts_line}
+use Rattle.std.proofs.Common.{◌∙◌, sym, ap, subst, map}
+use Rattle.clap.specs.Words.{HasKind, fault_of, is_simple, is_simple_and_free, subcommand_of}
 use Rattle.words_core.specs.Asked.{Gives, command_found}
 use Rattle.words_core.proofs.Asking.{told, given}
+use Rattle.words_core.proofs.Free.{is_free, is_plain}
 use Rattle.words_core.proofs.Named.{names_a_command}
 use Rattle.words_core.proofs.asked.read_line.Goals as goal
-
-is_free : (kinds : Bor (List (Bor Text))) → is_simple_and_free (halts_line kinds) ≡ true
-unfolding clap_on_literals
-is_free kinds = refl
-
-is_plain : (kinds : Bor (List (Bor Text))) → is_simple (halts_line kinds) ≡ true
-unfolding clap_on_literals
-is_plain kinds = refl
 
 pub returns-in-Ok-try_get_matches_from-clause-allowed : goal.returns-in-Ok-try_get_matches_from-clause-allowed
 returns-in-Ok-try_get_matches_from-clause-allowed c =
