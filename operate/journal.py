@@ -70,8 +70,8 @@ def started(words, **streams):
 
 
 def end_of(child):
-    """The exit code of a program that has ended or will, and the line that it told, without its first word."""
-    told = child.stderr.read().decode(errors="replace").strip()
+    """The exit code of a program that has ended or will, and the first line that it told, without its first word."""
+    told = child.stderr.read().decode(errors="replace").strip().partition("\n")[0]
     return child.wait(), told.removeprefix("halts: ")
 
 

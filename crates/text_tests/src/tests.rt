@@ -1,6 +1,7 @@
 //! Tests of lines: what each record and each message prints, and what a line reads as.
 
 mod bad_frames;
+mod details;
 mod pictures;
 mod streams;
 mod words;

@@ -4,7 +4,7 @@ use Taken::{As, Refused, Told};
 use std::alloc::Global;
 use std::process::Abort;
 use text_core::Kind;
-use words_core::{Asked, Command, WordsError, parse};
+use words_core::{Asked, Command, WordsError, fault_text, parse};
 
 /// How the words of a process are taken: as a command, as a question that is answered by a text with these words in it, or
 /// not at all.
@@ -56,6 +56,16 @@ fn generate(seed: u64, symbols: u32, records: u32, workers: u32, summary: bool) 
     })
 }
 
+/// Records of a journal from that number on.
+fn ship(from: u64) -> Taken {
+    As(Command::Ship { from })
+}
+
+/// A second journal, which takes its records by batches of at most so many frames, up to so many bytes.
+fn standby(batch: u32, bytes: u64) -> Taken {
+    As(Command::Standby { batch, bytes })
+}
+
 /// A replay by so many workers.
 fn replay(workers: u32) -> Taken {
     As(Command::Replay {
@@ -101,6 +111,24 @@ fn plain_lines_ask_for_their_commands(rt: HostRuntime) {
                     kind: Kind::Published,
                 }),
             ),
+        ],
+    );
+}
+
+#[test]
+fn a_second_journal_is_asked_for(rt: HostRuntime) {
+    expect(
+        &rt,
+        &[
+            (&["ship"], ship(1)),
+            (&["ship", "--from", "18446744073709551615"], ship(u64::MAX)),
+            (&["ship", "--from=+07"], ship(7)),
+            (&["standby"], standby(64, BYTES_MAX)),
+            (
+                &["standby", "--bytes", "20", "--batch", "1"],
+                standby(1, 20),
+            ),
+            (&["standby", "--batch=5"], standby(5, BYTES_MAX)),
         ],
     );
 }
@@ -194,6 +222,11 @@ const REFUSED: &[(&[&str], Taken)] = &[
     (&["status", "--workers", "2"], Refused),
     (&["status", "now"], Refused),
     (&["roll", "--workers", "2"], Refused),
+    (&["ship", "--from", "0"], Refused),
+    (&["ship", "--bytes", "2"], Refused),
+    (&["standby", "--batch", "65"], Refused),
+    (&["standby", "--bytes=0"], Refused),
+    (&["standby", "--from", "1"], Refused),
     (&["stop"], Refused),
 ];
 
@@ -208,6 +241,16 @@ const TOLD: &[(&[&str], Taken)] = &[
     (&["-h"], Told("generate")),
     (&["help"], Told("status")),
     (&["roll", "--help"], Told("Usage: halts <journal> roll")),
+    (
+        &["help", "ship"],
+        Told("from 1 to 18446744073709551615 [default: 1]"),
+    ),
+    (&["ship", "--help"], Told("  0   all was sent")),
+    (
+        &["help", "standby"],
+        Told("  3   the input ended inside a frame"),
+    ),
+    (&["--help"], Told("  13  of audit: a law is broken")),
     (&["--version"], Told("halts 0.1.0")),
     (
         &["format", "--help"],
@@ -230,4 +273,11 @@ const TOLD: &[(&[&str], Taken)] = &[
 #[test]
 fn help_and_the_version_are_told(rt: HostRuntime) {
     expect(&rt, TOLD);
+}
+
+#[test]
+fn what_is_wrong_with_words_is_told(rt: HostRuntime) {
+    let told = fault_text(rt.alloc(), &["serve", "--batch", "65"]);
+    assert!(rt; told.is_some_and(|text| text.as_str().contains("65")));
+    assert!(rt; fault_text(rt.alloc(), &["status"]).is_none());
 }
