@@ -111,11 +111,18 @@ impl Round {
         self.most
     }
 
-    /// Removes all replies and records. The room stays.
-    pub fn clear(&mut self)
-        ensures { self.new ≡ record self.old { replies = []; records = [] } }
+    /// Removes the records, once they are kept. The replies to their frames stay.
+    pub fn clear_records(&mut self)
+        ensures { self.new ≡ record self.old { records = [] } }
+    {
+        self.batch.clear();
+    }
+
+    /// Removes all replies, where no record waits to be kept. The room stays.
+    pub fn clear_replies(&mut self)
+        requires kept { self.old.records ≡ [] }
+        ensures { self.new ≡ record self.old { replies = [] } }
     {
         self.replies.clear();
-        self.batch.clear();
     }
 }

@@ -91,14 +91,15 @@ fn keep_round<H: Host>(journal: &mut Journal, round: &Round, host: &mut H) -> Re
 }
 
 impl Standby {
-    /// Appends the replies to the frames that wait.
+    /// Appends the replies to the frames that wait, none of whose records waits to be kept.
     fn reply_round<H: Host>(&mut self, outbox: &mut Outbox, host: &mut H) -> Result<(), Fault>
+        requires kept { self.old.round.records ≡ [] }
         requires few { self.old.answered < 2 ^ 63 }
         ensures pending { (begin : Option (List ℕ)) (text : List ℕ) → Expects begin (H.outside host.old).sent outbox.old text
             → OnOk result (Expects begin (H.outside host.new).sent outbox.new (text ++ spelled self.old.round.replies)) }
         ensures moments { (begin : Option (List ℕ)) (text : List ℕ) → Expects begin (H.outside host.old).sent outbox.old text
             → Elapses (H.outside host.old) (H.outside host.new) (SendsPrefix begin (text ++ spelled self.old.round.replies) (H.outside host.old)) }
-        ensures round { OnOk result (self.new.round ≡ record self.old.round { replies = []; records = [] }) }
+        ensures round { OnOk result (self.new.round ≡ record self.old.round { replies = [] }) }
         ensures most { self.new.round.most ≡ self.old.round.most }
         ensures answered { OnOk result (self.new.answered ≡ self.old.answered + length self.old.round.replies) }
         ensures rest { self.new ≡ record self.old { round = self.new.round; answered = self.new.answered } }
@@ -108,7 +109,7 @@ impl Standby {
     {
         append_replies(outbox, host, self.round.replies())?;
         self.answered += self.round.len() as u64;
-        self.round.clear();
+        self.round.clear_replies();
         Ok(())
     }
 
@@ -130,6 +131,7 @@ impl Standby {
         ensures unstarved { result ≢ Err Fault.Memory }
     {
         keep_round(&mut self.journal, &self.round, host)?;
+        self.round.clear_records();
         self.reply_round(outbox, host)
     }
 
