@@ -188,6 +188,7 @@ impl Engine {
     /// Evaluates the oldest of the accepted records that wait, and keeps its messages. Where there is one worker, it takes
     /// memory at a Trade alone, and none where the stock of the trade has room for it. Several workers may have found none
     /// ahead. After an error the engine is of no further use.
+    #[inline(always)]
     pub fn evaluate(&mut self, x: &Record) -> Result<(), NoMemory>
         requires room { self.old.published + most_messages < 2 ^ 64 }
         requires count { self.old.evaluated + 1 < 2 ^ 64 }

@@ -16,6 +16,7 @@ use crate::since::{ALWAYS_DUE, Since, alarm_of, pass, renew};
 use crate::symbols::{evaluate, evaluate_each};
 use alarms::Alarms;
 use price_core::NoMemory;
+use rulebook::MOST_NAMES;
 use session_core::Moment;
 use std::alloc::Global;
 use std::marker::Model;
@@ -124,7 +125,8 @@ impl Section {
         ensures fresh { IfOk result (λ section. AreFresh carried.now count section.symbols) }
     {
         let mut section = Section::new(alloc)?;
-        section.reserve(count as usize)?;
+        // Room for all names is taken at once: places that are made together cost next to nothing.
+        section.reserve(MOST_NAMES)?;
         for id in 0..count {
             let symbol = Symbol::restore(alloc, id as u16, is_among(carried, id as u16)).unwrap();
             section.push(symbol);
