@@ -1,7 +1,6 @@
 pub mod Pending
 pub mod Sending
 pub mod Taken
-pub mod Reading
 pub mod Asking
 pub mod Pieces
 pub mod Streamed

@@ -38,11 +38,10 @@ expects_still same is expects = record { sent = expects.sent; known = is ∙ exp
 pub prefix_sent : (old : Outside) (before now : Option (List ℕ)) (text : List ℕ) → is_some now ≡ is_some before
     → ((sent : List ℕ) → now ≡ Some sent → (image : List ℕ) × SendsPrefix before text old image sent) → SentPrefix before now text
 prefix_sent old None None text same at_end = record { since = []; unsent = text; sent = refl; prefix = refl }
-prefix_sent old None (Some sent) text same at_end = cc same
-prefix_sent old (Some before) None text same at_end = cc same
 prefix_sent old (Some before) (Some sent) text same at_end =
     let stop = (at_end sent refl).1 in
     record { since = stop.sent; unsent = stop.rest; sent = ap Some (stop.known (before ++ stop.sent) refl); prefix = stop.prefix }
+prefix_sent old before now text same at_end = cc same
 
 -- while nothing is sent, nothing of it was
 pub sends_none : (text : List ℕ) (old : Outside) (image bytes : List ℕ) → Stays old image bytes → SendsPrefix old.sent text old image bytes

@@ -1,11 +1,11 @@
 -- An input that is answered piece by piece.
-use Rattle.std.proofs.Common.{◌≡◌, ◌⊎◌, inl, inr, ℕ, ◌+◌, ◌<◌, ◌≤◌, Bool, true, false, List, length, take, drop, refl, sym, ap, ◌∙◌, arith}
-use Rattle.std.specs.Prelude.{Option, Some, option_map, nat_lt, ◌&&◌, Result, Ok, Err, IfOk}
-use Rattle.std.proofs.lemmas.Bool.Decides.{nat_tests}
-use Rattle.std.proofs.lemmas.List.{drop-drop, length-drop, length-take}
-use Rattle.host_core.specs.Outside.{Outside}
-use Rattle.host_core.specs.Frames.{OnlySends}
+use Rattle.std.proofs.Common.{◌≡◌, inl, ℕ, ◌+◌, ◌≤◌, List, length, take, drop, refl, sym, ap, ◌∙◌, arith}
+use Rattle.std.specs.Prelude.{Option, Some, option_map, Result, Ok, Err, IfOk}
+use Rattle.std.proofs.lemmas.List.{drop-drop, length-drop, length-take, take-append-le, take-append-drop}
+use Rattle.host_core.specs.Outside.{Outside, Takes}
+use Rattle.host_core.specs.Frames.{OnlySends, OnlyReadsInput}
 use Rattle.host_core.proofs.Moments.{further, unchanged}
+use Rattle.host_core.proofs.Chains.{stays_left}
 use Rattle.stream_core.specs.Taking.{TakesPiece, OnlyExchanges}
 use Rattle.stream_core.specs.Answering.{HasRead, IsNext, LeavesInput}
 
@@ -24,6 +24,11 @@ exchanges_both first second = record {
 pub sends_exchange : {old new : Outside} → OnlySends old new → OnlyExchanges old new
 sends_exchange sends = record { disk = sends.disk; left = sends.left; disk_faults = sends.disk_faults; continues = sends.continues }
 
+-- what is sent, and then a piece that is read
+pub exchanges_on : {old mid new : Outside} → OnlySends old mid → OnlyReadsInput mid new → OnlyExchanges old new
+exchanges_on first second =
+    exchanges_both (sends_exchange first) (record { disk = second.disk; left = stays_left second.moments; disk_faults = second.disk_faults; continues = second.continues })
+
 -- what only sends leaves the input alone
 pub sends_leave : {old new : Outside} → OnlySends old new → LeavesInput old new
 sends_leave sends = record { input = sends.input; asks = sends.asks; read_faults = sends.read_faults; continues = sends.continues }
@@ -38,6 +43,17 @@ leaves_both first second = record {
 
 pub leaves_none : (now : Outside) → LeavesInput now now
 leaves_none now = record { input = refl; asks = refl; read_faults = refl; continues = unchanged now }
+
+-- the bytes that were read are a prefix of the whole buffer
+pub takes_piece : (old mid new : Option (List ℕ)) (buffer : List ℕ) (most n : ℕ) → mid ≡ old → Takes mid new (take most buffer) n → TakesPiece most old new buffer n
+takes_piece old mid new buffer most n same takes = record {
+  within = omega (arith, takes.bound, length-take most buffer);
+  left = takes.left ∙ ap (option_map (λ (input : List ℕ). drop n input)) same;
+  given = λ input known.
+      ap (take n) (sym (take-append-drop most buffer)) ∙ take-append-le n (take most buffer) (drop most buffer) takes.bound ∙ takes.given input (same ∙ known);
+  there = λ input known. takes.there input (same ∙ known);
+  end = λ input known none. inl (takes.end input (same ∙ known) none);
+}
 
 -- n bytes more were read
 module _ {reads : ℕ → List ℕ → Outside → Type 0} {input : List ℕ} {count : ℕ} {waiting : List ℕ} {old : Outside} (was : HasRead reads input count waiting old)
@@ -57,16 +73,6 @@ module _ {reads : ℕ → List ℕ → Outside → Type 0} {input : List ℕ} {c
 
   pub left_more : mid ≡ Some (drop (count + n) input)
   left_more = takes.left ∙ ap (option_map (λ (bytes : List ℕ). drop n bytes)) was.input_left ∙ ap (λ (bytes : List ℕ). Some bytes) (drop-drop n count input)
-
--- a loop goes on where a piece was read and further bytes are taken
-pub stopped : (n : ℕ) (takes : Bool) {on : Bool} → nat_lt 0 n && takes ≡ on → on ≡ true → (0 < n) × (takes ≡ true)
-stopped n true is going = grind (arith, nat_tests, is, going)
-stopped n false is going = grind (arith, nat_tests, is, going)
-
--- and ends where none was, or none is
-pub closed_by : (n : ℕ) (takes : Bool) {on : Bool} → nat_lt 0 n && takes ≡ on → on ≡ false → (takes ≡ false) ⊎ (n ≡ 0)
-closed_by n true is closed = inr (grind (arith, nat_tests, is, closed))
-closed_by n false is closed = inl refl
 
 -- what holds at an end
 pub if_ok : {T E : Type 0} (r : Result T E) {P Q : T → Type 0} → ((x : T) → P x → Q x) → IfOk r P → IfOk r Q

@@ -1,16 +1,16 @@
 -- The status of a run that answers an input, and what it says.
-use Rattle.std.proofs.Common.{◌≡◌, ◌≢◌, ℕ, ◌<◌, List, length, drop, refl, subst}
+use Rattle.std.proofs.Common.{◌≡◌, ◌≢◌, ℕ, ◌<◌, List, length, drop, refl, ap, subst, arith}
 use Rattle.std.specs.Prelude.{Some, min, Result, Ok, Err, IfOk}
 use Rattle.std.specs.Io.KnownBytes.{append_known}
 use Rattle.host_core.specs.declared.fault.Fault.{Fault}
 use Rattle.host_core.specs.declared.fault.Fault.TheVariants as fault
 use Rattle.host_core.specs.declared.status.Status.{Status}
 use Rattle.host_core.specs.declared.status.Status.TheVariants.{ReadFault, SendFault, NoMemory}
-use Rattle.host_core.specs.Outside.{Outside, Agrees, MayLeave, Elapses, Rose, NoFault, Continues}
-use Rattle.host_core.specs.Faults.{Causes}
+use Rattle.host_core.specs.Outside.{Outside, Agrees, MayLeave, Elapses, Rose, Continues}
+use Rattle.host_core.specs.Faults.{Causes, status_of}
 use Rattle.host_core.proofs.Moments.{ended, nothing, widened, unchanged}
 use Rattle.host_core.proofs.Causes.{no_fault}
-use Rattle.stream_core.specs.Pending.{SendsPrefix, SentPrefix}
+use Rattle.stream_core.specs.Pending.{SendsPrefix}
 use Rattle.stream_core.specs.Taking.{ReadsAtMost}
 use Rattle.stream_core.specs.Asking.{Prompt}
 use Rattle.stream_core.specs.Ends.{IsEnd, answer_of}
@@ -44,53 +44,31 @@ pub record Ran (text whole : List ℕ → List ℕ) (end_of : List ℕ → Statu
   pub disk_faults : new.disk_faults ≡ old.disk_faults
   pub continues : Continues old new
 
+-- each fault has a status of its own
+same_fault : (e f : Fault) → status_of e ≡ status_of f → e ≡ f
+same_fault e f is = grind (arith, is)
+
 module _ {Ends IsAnswer : Status → Type 0} (tells : TellsApart Ends IsAnswer) where
-  at_an_end : (result : Result Status Fault) (P : Status → Type 0) → IfOk result P → result ≢ Err fault.Disk → Ends (answer_of result) → P (answer_of result)
-  at_an_end (Ok s) P p unkept end = p
-  at_an_end (Err fault.Read) P p unkept end = absurd (tells.no_read end)
-  at_an_end (Err fault.Send) P p unkept end = absurd (tells.no_send end)
-  at_an_end (Err fault.Disk) P p unkept end = absurd (unkept refl)
-  at_an_end (Err fault.Memory) P p unkept end = absurd (tells.no_memory end)
-
   -- a fault is told by its status, and by no other
-  module _ (old new : Outside) where
-    at_a_read : (result : Result Status Fault) → IfOk result (λ s. Ends s × IsAnswer s) → answer_of result ≡ ReadFault → result ≡ Err fault.Read
-    at_a_read (Ok s) end is = absurd (tells.no_read (subst Ends is end.0))
-    at_a_read (Err fault.Read) end is = refl
-    at_a_read (Err f) end is = absurd cc
+  told_by : (f : Fault) → (Ends (status_of f) → ⊥) → (result : Result Status Fault) → IfOk result (λ s. Ends s × IsAnswer s) → answer_of result ≡ status_of f → result ≡ Err f
+  told_by f none (Ok s) end is = absurd (none (subst Ends is end.0))
+  told_by f none (Err e) end is = ap Err (same_fault e f is)
 
-    at_a_send : (result : Result Status Fault) → IfOk result (λ s. Ends s × IsAnswer s) → answer_of result ≡ SendFault → result ≡ Err fault.Send
-    at_a_send (Ok s) end is = absurd (tells.no_send (subst Ends is end.0))
-    at_a_send (Err fault.Send) end is = refl
-    at_a_send (Err f) end is = absurd cc
-
-    at_a_want : (result : Result Status Fault) → IfOk result (λ s. Ends s × IsAnswer s) → answer_of result ≡ NoMemory → result ≡ Err fault.Memory
-    at_a_want (Ok s) end is = absurd (tells.no_memory (subst Ends is end.0))
-    at_a_want (Err fault.Memory) end is = refl
-    at_a_want (Err f) end is = absurd cc
-
-    answers : (result : Result Status Fault) → IfOk result (λ s. Ends s × IsAnswer s) → result ≢ Err fault.Disk → IsAnswer (answer_of result)
-    answers (Ok s) end unkept = end.1
-    answers (Err fault.Read) end unkept = tells.read
-    answers (Err fault.Send) end unkept = tells.send
-    answers (Err fault.Disk) end unkept = absurd (unkept refl)
-    answers (Err fault.Memory) end unkept = tells.memory
-
-    completes : (result : Result Status Fault) → IfOk result (λ s. Ends s × IsAnswer s) → result ≢ Err fault.Disk → Causes result old new
-        → answer_of result ≢ NoMemory → ¬ (Rose old.read_faults new.read_faults) → ¬ (Rose old.send_faults new.send_faults) → Ends (answer_of result)
-    completes (Ok s) end unkept causes memory no_reads no_sends = end.0
-    completes (Err fault.Read) end unkept causes memory no_reads no_sends = absurd (no_reads causes)
-    completes (Err fault.Send) end unkept causes memory no_reads no_sends = absurd (no_sends causes)
-    completes (Err fault.Disk) end unkept causes memory no_reads no_sends = absurd (unkept refl)
-    completes (Err fault.Memory) end unkept causes memory no_reads no_sends = absurd (memory refl)
+  -- the status is an answer, what holds at an end holds where the status is one, and it is one where nothing failed
+  told : (old new : Outside) (result : Result Status Fault) (P : Status → Type 0) → IfOk result (λ s. Ends s × IsAnswer s) → result ≢ Err fault.Disk → Causes result old new
+      → IsAnswer (answer_of result) × (Ends (answer_of result) → IfOk result P → P (answer_of result))
+      × (answer_of result ≢ NoMemory → ¬ (Rose old.read_faults new.read_faults) → ¬ (Rose old.send_faults new.send_faults) → Ends (answer_of result))
+  told old new (Ok s) P end unkept causes = (end.1, λ ends p. p, λ memory no_reads no_sends. end.0)
+  told old new (Err fault.Read) P end unkept causes = (tells.read, λ ends p. absurd (tells.no_read ends), λ memory no_reads no_sends. absurd (no_reads causes))
+  told old new (Err fault.Send) P end unkept causes = (tells.send, λ ends p. absurd (tells.no_send ends), λ memory no_reads no_sends. absurd (no_sends causes))
+  told old new (Err fault.Disk) P end unkept causes = absurd (unkept refl)
+  told old new (Err fault.Memory) P end unkept causes = (tells.memory, λ ends p. absurd (tells.no_memory ends), λ memory no_reads no_sends. absurd (memory refl))
 
   -- what is taken is so at an end alone
   read_out : (result : Result Status Fault) (P : Status → Type 0) → IfOk result (λ s. IsEnd s → P s) → IsEnd (answer_of result) → P (answer_of result)
   read_out (Ok s) P p out = p out
   read_out (Err fault.Read) P p out = absurd out
-  read_out (Err fault.Send) P p out = absurd out
-  read_out (Err fault.Disk) P p out = absurd out
-  read_out (Err fault.Memory) P p out = absurd out
+  read_out (Err f) P p out = absurd out
 
   -- what the run did, told by its status; a run that returned is one that was stopped at its end
   pub streamed : {text whole : List ℕ → List ℕ} {end_of : List ℕ → Status} {most : ℕ} (result : Result Status Fault) {old new : Outside} → Ran text whole end_of Ends IsAnswer most result old new
@@ -98,24 +76,21 @@ module _ {Ends IsAnswer : Status → Type 0} (tells : TellsApart Ends IsAnswer) 
       → {starved : Type 0} → (result ≡ Err fault.Memory → starved) → Streamed text whole end_of Ends IsAnswer starved most (answer_of result) old new
   streamed {whole = whole} result {old} {new} ran sent_now stops_now short = record {
     moments = ran.moments;
-    exact = λ input is. at_an_end result _ (ran.exact input is) ran.unkept;
+    exact = λ input is ends. (told old new result _ ran.end ran.unkept ran.causes).1 ends (ran.exact input is);
     taken = λ input is. read_out result _ (ran.taken input is);
-    unread = λ input is failed. ran.unread input is (at_a_read old new result ran.end failed);
+    unread = λ input is failed. ran.unread input is (told_by fault.Read tells.no_read result ran.end failed);
     part = λ input is. prefix_sent old old.sent new.sent (whole input) ran.continues.sent (λ sent known.
-        let stop = stops_now sent known in (
-          stop.0,
-          subst (λ (b : List ℕ). SendsPrefix old.sent (whole input) old stop.0 b) (sent_now stop.0 stop.1.bytes stop.1.left sent known) (ended (ran.moments input is) stop.1),
-        ));
+        let stop = stops_now sent known in (stop.0, rw (sent_now stop.0 stop.1.bytes stop.1.left sent known) at (ended (ran.moments input is) stop.1)));
     prompt = ran.prompt;
-    starved = λ is. short (at_a_want old new result ran.end is);
+    starved = λ is. short (told_by fault.Memory tells.no_memory result ran.end is);
     bytes = ran.bytes;
-    complete = completes old new result ran.end ran.unkept ran.causes;
-    read_cause = λ is. subst (λ (r : Result Status Fault). Causes r old new) (at_a_read old new result ran.end is) ran.causes;
-    send_cause = λ is. subst (λ (r : Result Status Fault). Causes r old new) (at_a_send old new result ran.end is) ran.causes;
-    memory = λ is. subst (λ (r : Result Status Fault). Causes r old new) (at_a_want old new result ran.end is) ran.causes;
+    complete = (told old new result IsAnswer ran.end ran.unkept ran.causes).2;
+    read_cause = λ is. subst (λ (r : Result Status Fault). Causes r old new) (told_by fault.Read tells.no_read result ran.end is) ran.causes;
+    send_cause = λ is. subst (λ (r : Result Status Fault). Causes r old new) (told_by fault.Send tells.no_send result ran.end is) ran.causes;
+    memory = λ is. subst (λ (r : Result Status Fault). Causes r old new) (told_by fault.Memory tells.no_memory result ran.end is) ran.causes;
     disk = ran.disk;
     disk_faults = ran.disk_faults;
-    kind = answers old new result ran.end ran.unkept;
+    kind = (told old new result IsAnswer ran.end ran.unkept ran.causes).0;
     continues = ran.continues;
   }
 

@@ -1,12 +1,9 @@
 -- How much of the input was taken.
 use Rattle.std.proofs.Common.{◌≡◌, ℕ, ◌+◌, ◌≤◌, List, drop, refl, sym, ap, subst, ◌∙◌, arith}
 use Rattle.std.specs.Prelude.{Option, Some, None, option_map}
+use Rattle.std.proofs.lemmas.Iterator.Adapters.{option_map_id}
 use Rattle.std.proofs.lemmas.List.{drop-drop}
 use Rattle.stream_core.specs.Taking.{ReadsAtMost}
-
-pub drop-none : (known : Option (List ℕ)) → option_map (λ (input : List ℕ). drop 0 input) known ≡ known
-drop-none None = refl
-drop-none (Some input) = refl
 
 drop-twice : (a b : ℕ) (known : Option (List ℕ)) → option_map (λ (input : List ℕ). drop b input) (option_map (λ (input : List ℕ). drop a input) known) ≡ option_map (λ (input : List ℕ). drop (a + b) input) known
 drop-twice a b None = refl
@@ -14,7 +11,7 @@ drop-twice a b (Some input) = ap (λ (left : List ℕ). Some left) (drop-drop b 
 
 -- nothing was taken
 pub takes_none : (most : ℕ) (old new : Option (List ℕ)) → new ≡ old → ReadsAtMost most old new
-takes_none most old new same = record { count = 0; within = omega arith; left = same ∙ sym (drop-none old) }
+takes_none most old new same = record { count = 0; within = omega arith; left = same ∙ sym (option_map_id old) }
 
 -- some bytes were taken, and then some more
 pub takes_on : (a b most : ℕ) (old mid new : Option (List ℕ)) → a + b ≤ most → ReadsAtMost a old mid → ReadsAtMost b mid new → ReadsAtMost most old new

@@ -1,4 +1,4 @@
-use Rattle.std.proofs.Common.{◌≡◌, ◌+◌, ◌-◌, ◌<◌, ◌≤◌, ℕ, true, false, cond, length}
+use Rattle.std.proofs.Common.{◌≡◌, ◌+◌, ◌-◌, ◌≤◌, ℕ, true, false, cond}
 use Rattle.host_core.specs.Outside.{Continues, NoFault}
 use Rattle.stream_core.specs.Asking.{Prompt}
 use Rattle.stream_core.specs.Taking.{ReadsAtMost}
@@ -8,9 +8,8 @@ use Rattle.stream_core.proofs.answering.answer_input.Given as goal
 abbrev pub invariant-loop-open : goal.invariant-loop-open
 invariant-loop-open g l = record {
   within : l.read ≤ l.most;
-  buffer : 0 < length l.buffer;
   goes_on : l.open ≡ true → g.A.Answerer.goes_on l.answerer ≡ true;
-  ready : g.A.Answerer.ready l.answerer (g.H.Host.outside l.host) (l.most - l.read);
+  ready : (more : ℕ) → l.read + more ≤ l.most → g.A.Answerer.ready l.answerer (g.H.Host.outside l.host) more;
   reads : (given : g.A.Answerer.Given) → g.A.Answerer.limit given ≡ l.most → HasRead (g.A.Answerer.reads l.initial.answerer given) (g.A.Answerer.input given) 0 l.initial.outbox (g.H.Host.outside l.initial.host)
       → HasRead (g.A.Answerer.reads l.answerer given) (g.A.Answerer.input given) l.read l.outbox (g.H.Host.outside l.host);
   runs : (given : g.A.Answerer.Given) → g.A.Answerer.limit given ≡ l.most → HasRead (g.A.Answerer.reads l.initial.answerer given) (g.A.Answerer.input given) 0 l.initial.outbox (g.H.Host.outside l.initial.host)

@@ -1,6 +1,6 @@
 use Rattle.std.proofs.Common.{◌∙◌}
 use Rattle.stream_core.proofs.Asking.{one_ask}
-use Rattle.stream_core.proofs.Reading.{takes_piece}
+use Rattle.stream_core.proofs.Pieces.{takes_piece}
 use Rattle.stream_core.proofs.Sending.{sends_stays}
 use Rattle.stream_core.proofs.input.exchange.Goals as goal
 
