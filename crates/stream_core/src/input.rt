@@ -26,7 +26,7 @@ fn read_piece<H: Host>(host: &mut H, buffer: &mut [u8], most: usize) -> Result<u
 
 /// Sends all that waits, and then reads the next piece of at most so many bytes into a prefix of a buffer. It answers how
 /// many were read: 0 at the input's end, and where none may be read. After an error the outbox is of no further use.
-#[tactic(auto, using(crate::proofs::Pieces::exchanges_on, crate::proofs::Asking::no_ask))]
+#[tactic(auto, using(crate::proofs::Pieces::exchanges_on, crate::proofs::Pieces::takes_piece, crate::proofs::Asking::no_ask))]
 pub fn exchange<H: Host>(
     outbox: &mut Outbox,
     host: &mut H,

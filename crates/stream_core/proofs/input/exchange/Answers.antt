@@ -1,6 +1,5 @@
 use Rattle.std.proofs.Common.{◌∙◌}
 use Rattle.stream_core.proofs.Asking.{one_ask}
-use Rattle.stream_core.proofs.Pieces.{takes_piece}
 use Rattle.stream_core.proofs.Sending.{sends_stays}
 use Rattle.stream_core.proofs.input.exchange.Goals as goal
 
@@ -16,6 +15,3 @@ pub returns-clause-prompt : goal.returns-clause-prompt
 returns-clause-prompt g c = λ text begin input count left there expects.
     one_ask text begin input count (g.H.Host.outside c.flush.new.host) (g.H.Host.outside c.read_piece.new.host) c.flush.ensures.keeps.asks (c.flush.ensures.keeps.input ∙ left) there
     ((c.in-Ok.ensures).sent begin _ expects) (c.in-Ok-read_piece.ensures).reads.asks
-
-pub returns-clause-taken : goal.returns-clause-taken
-returns-clause-taken g c = takes_piece _ _ _ _ c.args.most _ c.flush.ensures.keeps.input (c.in-Ok-read_piece.ensures).reads.read
