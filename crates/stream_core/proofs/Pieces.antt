@@ -1,7 +1,7 @@
 -- An input that is answered piece by piece.
 use Rattle.std.proofs.Common.{◌≡◌, inl, ℕ, ◌+◌, ◌≤◌, List, length, take, drop, refl, sym, ap, ◌∙◌, arith}
 use Rattle.std.specs.Prelude.{Option, Some, option_map, Result, Ok, Err, IfOk}
-use Rattle.std.proofs.lemmas.List.{drop-drop, length-drop, length-take, take-append-le, take-append-drop}
+use Rattle.std.proofs.lemmas.List.{drop-drop, length-drop, length-take, length-take-le, take-append-le, take-append-drop}
 use Rattle.host_core.specs.Outside.{Outside, Takes}
 use Rattle.host_core.specs.Frames.{OnlySends, OnlyReadsInput}
 use Rattle.host_core.proofs.Moments.{further, unchanged}
@@ -63,13 +63,11 @@ module _ {reads : ℕ → List ℕ → Outside → Type 0} {input : List ℕ} {c
 
   -- and these are the next ones
   pub is_next : (most : ℕ) → count + room ≤ most → n ≤ length buffer → IsNext input most count (take n buffer)
-  is_next most le fits =
-      let same : length (take n buffer) ≡ n = omega (arith, length-take n buffer, fits) in
-      record {
-        is = ap (λ (k : ℕ). take k (drop count input)) same ∙ sym (takes.given (drop count input) was.input_left);
-        there = omega (arith, same, there_more);
-        within = omega (arith, same, le, takes.within);
-      }
+  is_next most le fits = record {
+    is = ap (λ (k : ℕ). take k (drop count input)) (length-take-le n buffer fits) ∙ sym (takes.given (drop count input) was.input_left);
+    there = omega (arith, length-take n buffer, there_more);
+    within = omega (arith, length-take n buffer, le, takes.within);
+  }
 
   pub left_more : mid ≡ Some (drop (count + n) input)
   left_more = takes.left ∙ ap (option_map (λ (bytes : List ℕ). drop n bytes)) was.input_left ∙ ap (λ (bytes : List ℕ). Some bytes) (drop-drop n count input)

@@ -9,7 +9,7 @@ use Rattle.stream_core.proofs.Sending.{sends_none}
 use Rattle.stream_core.proofs.Taken.{takes_none, takes_on}
 use Rattle.stream_core.proofs.Pieces.{exchanges_none, if_ok, is_next, left_more, there_more}
 use Rattle.stream_core.proofs.answering.answer_input.Given.{Over}
-use Rattle.stream_core.proofs.answering.answer_input.Goals.{After-exchange, After-feed}
+use Rattle.stream_core.proofs.answering.answer_input.Goals.{After-exchange, In_ok-count}
 use Rattle.stream_core.proofs.answering.answer_input.Goals as goal
 
 pub loop-open-init : goal.loop-open-init
@@ -67,53 +67,8 @@ returns-in_err-count-clause-prompt g c given same was = asks g (goal.at.returns-
 pub returns-in_err-count-clause-does : goal.returns-in_err-count-clause-does
 returns-in_err-count-clause-does g c = g.A.Answerer.does_on _ _ _ _ _ _ c.loop-open.invariant.does (g.A.Answerer.does_exchange _ _ _ c.exchange.ensures.keeps)
 
--- nothing was read
-pub loop-open-preserved-then-count-eq0 : goal.loop-open-preserved-then-count-eq0
-loop-open-preserved-then-count-eq0 g c =
-    let at = goal.at.loop-open-preserved-then-count-eq0 g c in
-    let none : c.in_ok-count.count ≡ 0 = c.if-count-eq0.true in
-    let took = c.in_ok-count.ensures.taken in
-    let same_read : c.loop-open.read + c.in_ok-count.count ≡ c.loop-open.read = omega (arith, none) in
-    record {
-      within = c.loop-open.invariant.within;
-      goes_on = λ on. c.loop-open.invariant.goes_on c.loop-open-test.true;
-      ready = λ more le. g.A.Answerer.ready_on _ _ _ _ c.exchange.ensures.keeps (c.loop-open.invariant.ready more le);
-      reads = λ given same was.
-          let now = c.loop-open.invariant.reads given same was in
-          let sent = c.in_ok-count.ensures.sent (g.A.Answerer.begin given) _ (g.A.Answerer.expects _ given c.loop-open.read _ _ now.reads) in
-          record {
-            input_left = rw same_read at (left_more now took);
-            there = now.there;
-            reads = rw c.in_ok-count.ensures.empty (g.A.Answerer.sent_on _ given c.loop-open.read _ _ _ now.reads c.exchange.ensures.keeps sent);
-          };
-      runs = λ given same was. sends g at.After-exchange given same was;
-      prompt = λ given same was. asks g at.After-exchange given same was;
-      through = λ given same was closed.
-          let now = c.loop-open.invariant.reads given same was in
-          record {
-            there = now.there;
-            within = c.loop-open.invariant.within;
-            ended = inr (
-              c.in_ok-count.ensures.sent (g.A.Answerer.begin given) _ (g.A.Answerer.expects _ given c.loop-open.read _ _ now.reads),
-              elim (took.end _ now.input_left none) [
-                | inl nothing ↦ inl (omega (arith, now.there, length-drop c.loop-open.read (g.A.Answerer.input given), ap length nothing))
-                | inr full ↦ inr (omega (arith, full, c.min-room.ensures, c.loop-open.auto.buffer, c.requires.buffer, c.loop-open.invariant.within))
-              ],
-            );
-          };
-      taken = takes_on c.loop-open.read c.in_ok-count.count _ _ _ _ (omega (arith, none)) c.loop-open.invariant.taken (record { count = c.in_ok-count.count; within = omega arith; left = took.left });
-      does = g.A.Answerer.does_on _ _ _ _ _ _ c.loop-open.invariant.does (g.A.Answerer.does_exchange _ _ _ c.exchange.ensures.keeps);
-      continues = further c.loop-open.invariant.continues c.exchange.ensures.keeps.continues;
-      none = faultless c.loop-open.invariant.none c.in_ok-count.ensures.causes;
-    }
-
-pub feed-requires-clause-ready : goal.feed-requires-clause-ready
-feed-requires-clause-ready g c =
-    g.A.Answerer.ready_on _ _ _ _ c.exchange.ensures.keeps
-    (c.loop-open.invariant.ready _ (omega (arith, length-take c.in_ok-count.count c.exchange.new.buffer, c.in_ok-count.ensures.taken.within, c.min-room.ensures, c.loop-open.invariant.within)))
-
--- a piece was read, and is answered
-module _ (g : Over) (c : After-feed g) (given : g.A.Answerer.Given) (same : g.A.Answerer.limit given ≡ c.args.most)
+-- all that waited was sent, and these bytes are the next ones
+module _ (g : Over) (c : In_ok-count g) (given : g.A.Answerer.Given) (same : g.A.Answerer.limit given ≡ c.args.most)
     (was : HasRead (g.A.Answerer.reads c.args.answerer.now given) (g.A.Answerer.input given) 0 c.args.outbox.now (g.H.Host.outside c.args.host.now)) where
   mid : g.A.Answerer.reads c.loop-open.answerer given c.loop-open.read c.exchange.new.outbox (g.H.Host.outside c.exchange.new.host)
   mid =
@@ -123,19 +78,59 @@ module _ (g : Over) (c : After-feed g) (given : g.A.Answerer.Given) (same : g.A.
 
   next : IsNext (g.A.Answerer.input given) (g.A.Answerer.limit given) c.loop-open.read (take c.in_ok-count.count c.exchange.new.buffer)
   next =
-      let took = c.in_ok-count.ensures.taken in
-      is_next (c.loop-open.invariant.reads given same was) took (g.A.Answerer.limit given) (omega (arith, same, c.loop-open.invariant.within, c.min-room.ensures))
-      (omega (arith, took.within, c.min-room.ensures, c.exchange.auto.buffer))
+      is_next (c.loop-open.invariant.reads given same was) c.in_ok-count.ensures.taken (g.A.Answerer.limit given) (omega (arith, same, c.loop-open.invariant.within, c.min-room.ensures))
+      (omega (arith, c.in_ok-count.ensures.taken.within, c.min-room.ensures, c.exchange.auto.buffer))
+
+-- nothing was read
+pub loop-open-preserved-then-count-eq0 : goal.loop-open-preserved-then-count-eq0
+loop-open-preserved-then-count-eq0 g c =
+    let at = goal.at.loop-open-preserved-then-count-eq0 g c in
+    let took = c.in_ok-count.ensures.taken in
+    let same_read : c.loop-open.read + c.in_ok-count.count ≡ c.loop-open.read = omega (arith, c.if-count-eq0.true) in
+    record {
+      within = c.loop-open.invariant.within;
+      goes_on = λ on. c.loop-open.invariant.goes_on c.loop-open-test.true;
+      ready = λ more le. g.A.Answerer.ready_on _ _ _ _ c.exchange.ensures.keeps (c.loop-open.invariant.ready more le);
+      reads = λ given same was.
+          let now = c.loop-open.invariant.reads given same was in
+          record { input_left = rw same_read at (left_more now took); there = now.there; reads = mid g at.In_ok-count given same was };
+      runs = λ given same was. sends g at.After-exchange given same was;
+      prompt = λ given same was. asks g at.After-exchange given same was;
+      through = λ given same was closed.
+          let now = c.loop-open.invariant.reads given same was in
+          record {
+            there = now.there;
+            within = c.loop-open.invariant.within;
+            ended = inr (
+              c.in_ok-count.ensures.sent (g.A.Answerer.begin given) _ (g.A.Answerer.expects _ given c.loop-open.read _ _ now.reads),
+              elim (took.end _ now.input_left c.if-count-eq0.true) [
+                | inl nothing ↦ inl (omega (arith, now.there, length-drop c.loop-open.read (g.A.Answerer.input given), ap length nothing))
+                | inr full ↦ inr (omega (arith, full, c.min-room.ensures, c.loop-open.auto.buffer, c.requires.buffer, c.loop-open.invariant.within))
+              ],
+            );
+          };
+      taken = takes_on c.loop-open.read c.in_ok-count.count _ _ _ _ (omega (arith, same_read)) c.loop-open.invariant.taken
+          (record { count = c.in_ok-count.count; within = omega arith; left = took.left });
+      does = g.A.Answerer.does_on _ _ _ _ _ _ c.loop-open.invariant.does (g.A.Answerer.does_exchange _ _ _ c.exchange.ensures.keeps);
+      continues = further c.loop-open.invariant.continues c.exchange.ensures.keeps.continues;
+      none = faultless c.loop-open.invariant.none c.in_ok-count.ensures.causes;
+    }
+
+-- a piece was read, and is answered
+pub feed-requires-clause-ready : goal.feed-requires-clause-ready
+feed-requires-clause-ready g c =
+    g.A.Answerer.ready_on _ _ _ _ c.exchange.ensures.keeps
+    (c.loop-open.invariant.ready _ (omega (arith, length-take c.in_ok-count.count c.exchange.new.buffer, c.in_ok-count.ensures.taken.within, c.min-room.ensures, c.loop-open.invariant.within)))
 
 pub returns-in_err-feed-clause-leaves : goal.returns-in_err-feed-clause-leaves
 returns-in_err-feed-clause-leaves g c given same was =
     let at = goal.at.returns-in_err-feed-clause-leaves g c in
     g.A.Answerer.leaves_on given _ _ _ _ _ _ (sends g at.After-exchange given same was)
-    (c.feed.ensures.leaves given c.loop-open.read (mid g at.After-feed given same was) (next g at.After-feed given same was))
+    (c.feed.ensures.leaves given c.loop-open.read (mid g at.In_ok-count given same was) (next g at.In_ok-count given same was))
 
 pub returns-in_err-feed-clause-starved : goal.returns-in_err-feed-clause-starved
 returns-in_err-feed-clause-starved g c given same was short =
-    let at = (goal.at.returns-in_err-feed-clause-starved g c).After-feed in
+    let at = (goal.at.returns-in_err-feed-clause-starved g c).In_ok-count in
     c.feed.ensures.starved given c.loop-open.read (mid g at given same was) (next g at given same was) (search rules)
 
 pub returns-in_err-feed-clause-prompt : goal.returns-in_err-feed-clause-prompt
@@ -165,11 +160,11 @@ loop-open-preserved g c =
       reads = λ given same was. record {
         input_left = c.feed.ensures.keeps.input ∙ left_more (c.loop-open.invariant.reads given same was) took;
         there = there_more (c.loop-open.invariant.reads given same was) took;
-        reads = rw whole at (c.in_ok-feed.ensures.reads given c.loop-open.read (mid g at.After-feed given same was) (next g at.After-feed given same was));
+        reads = rw whole at (c.in_ok-feed.ensures.reads given c.loop-open.read (mid g at.In_ok-count given same was) (next g at.In_ok-count given same was));
       };
       runs = λ given same was.
           g.A.Answerer.runs_on given _ _ _ _ _ _ (sends g at.After-exchange given same was)
-          (c.in_ok-feed.ensures.runs given c.loop-open.read (mid g at.After-feed given same was) (next g at.After-feed given same was));
+          (c.in_ok-feed.ensures.runs given c.loop-open.read (mid g at.In_ok-count given same was) (next g at.In_ok-count given same was));
       prompt = λ given same was. more_asks _ _ _ (asks g at.After-exchange given same was) (no_ask _ _ _ c.feed.ensures.keeps.asks);
       through = λ given same was closed. record {
         there = there_more (c.loop-open.invariant.reads given same was) took;
