@@ -1,53 +1,38 @@
 -- The words of a line, one after the other.
-use Rattle.std.proofs.Common.{◌≡◌, ℕ, zero, suc, ◌+◌, Bool, true, List, [], ◌∷◌, ◌++◌, length, get_or, take, drop, Option, Some, refl, sym, ap, subst, ◌∙◌, arith, append_assoc, append-nil, length-take-le, length-drop, ◌-◌}
-use Rattle.std.specs.Prelude.{not, ◌==◌}
-use Rattle.std.specs.Str.{IsAscii}
-use Rattle.std.proofs.lemmas.Str.{IsAscii-append}
-use Rattle.std.proofs.lemmas.Str.Ascii.{IsAscii-nil, IsAscii-cons}
+use Rattle.std.proofs.Common.{◌≡◌, ℕ, zero, suc, Bool, true, List, [], ◌∷◌, ◌++◌, length, get_or, Option, Some, IsAscii, not, ◌==◌, refl, sym, ap, ◌∙◌, arith, append_assoc, append-nil}
 use Rattle.std.specs.List.{list_all, prefix_len}
 use Rattle.std.proofs.lemmas.Bool.Decides.{nat_tests}
-use Rattle.std.proofs.lemmas.List.Sums.{prefix_len-le-length}
-use Rattle.std.proofs.Math.Seq.{take-append_seam, take-length, drop-append-add, drop-nil}
+use Rattle.std.proofs.lemmas.List.Folds.{length-prefix_len}
+use Rattle.std.proofs.lemmas.Str.{IsAscii-append}
+use Rattle.std.proofs.lemmas.Str.Ascii.{IsAscii-nil, IsAscii-cons}
+use Rattle.std.proofs.Math.Seq.{take-append_seam, drop-append-add, drop-nil}
 use Rattle.wire_core.specs.Names.{is_visible}
 use Rattle.text_core.specs.Lines.{followed_by, line_of}
 use Rattle.text_core.specs.Reading.{word_len, word_at, behind}
 use Rattle.text_core.proofs.Plain.{IsPlain, both, visible_ascii}
 
-pub word_first : (n : ℕ) (line : List ℕ) → n ≡ 0 → take (word_len line) line ≡ word_at n line
-unfolding word_at
-word_first n line e = rw e refl
-
-pub word_next : (j n : ℕ) (line rest : List ℕ) → n ≡ suc j → rest ≡ drop (word_len line + 1) line → word_at j rest ≡ word_at n line
-unfolding word_at
-word_next j n line rest e d = rw (e, d) refl
-
 -- the words of a line from the second on, by what stands behind those before
-pub word_1 : (line : List ℕ) → word_at 1 line ≡ word_at 0 (behind line)
+word_later : (n : ℕ) (line : List ℕ) → word_at (suc n) line ≡ word_at n (behind line)
 unfolding word_at behind
-word_1 line = refl
+word_later n line = refl
+
+pub word_1 : (line : List ℕ) → word_at 1 line ≡ word_at 0 (behind line)
+word_1 line = word_later 0 line
 
 pub word_2 : (line : List ℕ) → word_at 2 line ≡ word_at 0 (behind (behind line))
-unfolding word_at behind
-word_2 line = refl
+word_2 line = word_later 1 line ∙ word_1 (behind line)
 
 pub word_3 : (line : List ℕ) → word_at 3 line ≡ word_at 0 (behind (behind (behind line)))
-unfolding word_at behind
-word_3 line = refl
+word_3 line = word_later 2 line ∙ word_2 (behind line)
 
 pub word_4 : (line : List ℕ) → word_at 4 line ≡ word_at 0 (behind (behind (behind (behind line))))
-unfolding word_at behind
-word_4 line = refl
+word_4 line = word_later 3 line ∙ word_3 (behind line)
 
 pub word_5 : (line : List ℕ) → word_at 5 line ≡ word_at 0 (behind (behind (behind (behind (behind line)))))
-unfolding word_at behind
-word_5 line = refl
+word_5 line = word_later 4 line ∙ word_4 (behind line)
 
 pub word_6 : (line : List ℕ) → word_at 6 line ≡ word_at 0 (behind (behind (behind (behind (behind (behind line))))))
-unfolding word_at behind
-word_6 line = refl
-
-pub rest_is : (k : ℕ) (line : List ℕ) → take (length line - k) (drop k line) ≡ drop k line
-rest_is k line = ap (λ n. take n (drop k line)) (sym (length-drop k line)) ∙ take-length (drop k line)
+word_6 line = word_later 5 line ∙ word_5 (behind line)
 
 -- further words, each behind a blank
 abbrev pub further : List (List ℕ) → List ℕ
@@ -73,9 +58,7 @@ prefix_length (b ∷ word) words h =
     rw (in_word b parts.0, prefix_length word words parts.1) (omega arith)
 
 first_len : (word : List ℕ) (words : List (List ℕ)) → IsPlain word → word_len (word ++ further words) ≡ length word
-first_len word words h =
-    length-take-le (prefix_len is_in_word (word ++ further words)) _ (prefix_len-le-length is_in_word (word ++ further words))
-    ∙ prefix_length word words h.visible
+first_len word words h = length-prefix_len is_in_word (word ++ further words) ∙ prefix_length word words h.visible
 
 abbrev pub ArePlain : List (List ℕ) → Type 0
 ArePlain [] = Unit {0}
@@ -112,5 +95,4 @@ further_ascii (word ∷ words) h = IsAscii-cons 32 _ (omega arith) (IsAscii-appe
 -- a line of plain words is ASCII
 pub line_ascii : (words : List (List ℕ)) → ArePlain words → IsAscii (line_of words)
 line_ascii [] h = IsAscii-nil
-line_ascii (word ∷ words) h =
-    subst IsAscii (sym (followed_is word words)) (IsAscii-append word (further words) (visible_ascii word h.0.visible) (further_ascii words h.1))
+line_ascii (word ∷ words) h = rw (followed_is word words) (IsAscii-append word (further words) (visible_ascii word h.0.visible) (further_ascii words h.1))

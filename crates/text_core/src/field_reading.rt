@@ -20,6 +20,7 @@ fn word_len(line: &[u8]) -> usize
 }
 
 /// A word of a line, from 0 on; empty where the line has fewer.
+#[tactic(auto, unfolding(crate::specs::Reading::word_at))]
 pub fn word(line: &[u8], n: u8) -> &[u8]
     ensures { result.now ≡ word_at n line.now }
 {

@@ -227,6 +227,7 @@ pub fn write_frame(line: &mut Line, f: &Frame)
 }
 
 /// The line of a published frame in its ranges, without its newline.
+#[tactic(auto, using(crate::proofs::Frames::frame_ascii))]
 pub fn print_frame(alloc: Global, f: &Frame) -> Result<String, NoMemory>
     requires { InRange f.now }
     ensures text { IfOk result (λ line. string_bytes line ≡ line_of_frame f.now) }

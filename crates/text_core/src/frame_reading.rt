@@ -238,6 +238,7 @@ fn prints(line: &[u8], f: &Frame) -> bool
 }
 
 /// The published frame that a line prints, without its newline; an error exactly where it prints none.
+#[tactic(auto, unfolding(crate::specs::Reading::frame_in))]
 pub fn read_frame(line: &[u8]) -> Result<Frame, BadLine>
     ensures exact { result_ok result ≡ frame_in line.now }
     ensures found { IfOk result (PrintsFrame line.now) }

@@ -222,6 +222,7 @@ impl Line {
     }
 
     /// Appends a price as a further word, in dollars.
+    #[tactic(auto, using(std::proofs::Common::append_assoc, crate::proofs::Plain::price_digits))]
     pub fn price(&mut self, price: Price)
         requires { length self.old ≤ 200 }
         ensures text { self.new ≡ self.old ++ 32 ∷ price_word price }
@@ -252,6 +253,7 @@ impl Line {
     }
 
     /// Appends an index value as a further word, in points.
+    #[tactic(auto, using(std::proofs::Common::append_assoc, crate::proofs::Plain::index_digits))]
     pub fn index(&mut self, value: Index)
         requires { length self.old ≤ 200 }
         ensures text { self.new ≡ self.old ++ 32 ∷ index_word value }

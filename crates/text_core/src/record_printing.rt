@@ -211,6 +211,7 @@ pub fn write_record(line: &mut Line, x: &Record)
 }
 
 /// The line of a record in its ranges, without its newline.
+#[tactic(auto, using(crate::proofs::Records::record_ascii))]
 pub fn print_record(alloc: Global, x: &Record) -> Result<String, NoMemory>
     requires { InRange x.now }
     ensures text { IfOk result (λ line. string_bytes line ≡ line_of_record x.now) }

@@ -263,6 +263,7 @@ fn prints(line: &[u8], x: &Record) -> bool
 }
 
 /// The record that a line prints, without its newline; an error exactly where it prints none.
+#[tactic(auto, unfolding(crate::specs::Reading::record_in))]
 pub fn read_record(line: &[u8]) -> Result<Record, BadLine>
     ensures exact { result_ok result ≡ record_in line.now }
     ensures found { IfOk result (PrintsRecord line.now) }

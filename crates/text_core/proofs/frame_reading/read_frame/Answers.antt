@@ -1,23 +1,15 @@
 use Rattle.std.proofs.Common.{Ok, ap}
-use Rattle.text_core.proofs.Frames.{nothing_read, same_read, not_refused}
-use Rattle.text_core.proofs.Packing.{no_frame, frame_taken, frame_refused}
+use Rattle.text_core.specs.Lines.{PrintsFrame}
+use Rattle.text_core.proofs.Exactly.{none_printed, read_printed, not_refused}
+use Rattle.text_core.proofs.Frames.{frame_found}
 use Rattle.text_core.proofs.frame_reading.read_frame.Goals as goal
 
 pub returns-in_default-clause-only : goal.returns-in_default-clause-only
-returns-in_default-clause-only c = λ x p. nothing_read c.args.line.now x c.frame.result c.in_default.is c.frame.ensures p
+returns-in_default-clause-only c = λ x p. none_printed (PrintsFrame c.args.line.now) _ (frame_found c.args.line.now) c.frame.result c.in_default.is c.frame.ensures x p
 
 pub returns-then-prints-clause-only : goal.returns-then-prints-clause-only
-returns-then-prints-clause-only c = λ x p. ap Ok (same_read c.args.line.now x _ c.frame.result c.in-Some.is c.frame.ensures p)
+returns-then-prints-clause-only c = λ x p. ap Ok (read_printed (PrintsFrame c.args.line.now) _ (frame_found c.args.line.now) c.frame.result _ c.in-Some.is c.frame.ensures x p)
 
 pub returns-else-prints-clause-only : goal.returns-else-prints-clause-only
 returns-else-prints-clause-only c = λ x p.
-    not_refused c.args.line.now x _ c.prints.result (same_read c.args.line.now x _ c.frame.result c.in-Some.is c.frame.ensures p) c.if-prints.false c.prints.ensures.tells p
-
-pub returns-in_default-clause-exact : goal.returns-in_default-clause-exact
-returns-in_default-clause-exact c = no_frame c.args.line.now c.frame.result c.in_default.is c.frame.ensures
-
-pub returns-then-prints-clause-exact : goal.returns-then-prints-clause-exact
-returns-then-prints-clause-exact c = frame_taken c.args.line.now _ c.frame.result c.prints.result c.in-Some.is c.frame.ensures c.prints.ensures.value c.if-prints.true
-
-pub returns-else-prints-clause-exact : goal.returns-else-prints-clause-exact
-returns-else-prints-clause-exact c = frame_refused c.args.line.now _ c.frame.result c.prints.result c.in-Some.is c.frame.ensures c.prints.ensures.value c.if-prints.false
+    not_refused (PrintsFrame c.args.line.now) _ (frame_found c.args.line.now) c.frame.result _ c.prints.result c.in-Some.is c.frame.ensures c.if-prints.false c.prints.ensures.tells.1 x p
