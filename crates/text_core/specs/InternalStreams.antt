@@ -10,14 +10,14 @@ use Rattle.text_core.specs.declared.kind.Kind.{Kind}
 use Rattle.text_core.specs.declared.task.Task.{Task}
 use Rattle.text_core.specs.declared.task.Task.TheVariants.{Print, Pack}
 use Rattle.text_core.specs.declared.writer.Writer.{Writer}
-use Rattle.host_core.specs.Outside.{Outside}
+use Rattle.host_core.specs.Outside.{Outside, Elapses}
 use Rattle.text_core.specs.declared.translator.Translator.{Translator}
 use Rattle.text_core.specs.declared.stream.Translation.{Translation}
 use Rattle.stream_core.specs.Taking.{OnlyExchanges}
 use Rattle.stream_core.proofs.Pieces.{exchanges_both}
 use Rattle.stream_core.proofs.Pending.{expects_nothing}
 use Rattle.text_core.specs.Translated.{IsEnd, IsAnswer}
-use Rattle.stream_core.specs.Pending.{Expects}
+use Rattle.stream_core.specs.Pending.{Expects, SendsPrefix}
 use Rattle.text_core.specs.Streams.{units_of, rest_of, last_unit, output_of, outputs, text_of, text_for, units_within}
 
 -- so many of these units were answered, and then one was bad, or all were
@@ -39,6 +39,11 @@ IsOneLine bytes = list_all (λ b. not (b == 10)) bytes ≡ true
 pub record Reads (task : Task) (kind : Kind) (begin : Option (List ℕ)) (read : List ℕ) (translator : Translator) (waiting : List ℕ) (sent : Option (List ℕ)) : Type 0 where
   pub answers : Answers task kind begin (units_of task read) translator.writer waiting sent
   pub begun : translator.writer.bad ≡ false → Begins task translator (rest_of task read)
+
+-- a run comes to this at its end, and at each of its moments only the first of this text was sent
+pub record Run (begin : Option (List ℕ)) (text : List ℕ) (old new : Outside) (end : Type 0) : Type 0 where
+  pub ends : end
+  pub moments : Elapses old new (SendsPrefix begin text old)
 
 -- what a stream is given: what it is taken for, what its lines are of, what had been sent before, its input, and how many bytes of
 -- that may be read

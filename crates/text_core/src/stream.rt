@@ -11,7 +11,7 @@ ghost use Rattle.stream_core.specs.Pending.{SendsPrefix};
 ghost use Rattle.stream_core.proofs.Sending.{sends_longer, sends_whole};
 ghost use Rattle.text_core.specs.Streams.{rest_of, text_of, text_for, end_of};
 ghost use Rattle.text_core.specs.Translated.{IsEnd, IsAnswer, Translated, Printed, Packed, bytes_max};
-ghost use Rattle.text_core.specs.InternalStreams.{Answers, Given, Reads, Rests, Translates, closed_units, ending_of, ends_before, fewer_left, rests_on, translates_sent, whole_text};
+ghost use Rattle.text_core.specs.InternalStreams.{Answers, Given, Reads, Rests, Run, Translates, closed_units, ending_of, ends_before, fewer_left, rests_on, translates_sent, whole_text};
 
 use crate::kind::Kind;
 use crate::task::Task;
@@ -49,10 +49,9 @@ fn close_at<H: Host>(
     at_end: bool,
 ) -> Result<(), Fault>
     requires few { translator.old.writer.number < 2 ^ 42 }
-    ensures answers { (begin : Option (List ℕ)) (read : List ℕ) → Reads task kind begin read translator.old outbox.old (H.outside host.old).sent
-        → OnOk result (Answers task kind begin (closed_units task at_end read) translator.new.writer outbox.new (H.outside host.new).sent) }
-    ensures moments { (begin : Option (List ℕ)) (read : List ℕ) → Reads task kind begin read translator.old outbox.old (H.outside host.old).sent
-        → Elapses (H.outside host.old) (H.outside host.new) (SendsPrefix begin (text_of task kind (closed_units task at_end read)) (H.outside host.old)) }
+    ensures run { (begin : Option (List ℕ)) (read : List ℕ) → Reads task kind begin read translator.old outbox.old (H.outside host.old).sent
+        → Run begin (text_of task kind (closed_units task at_end read)) (H.outside host.old) (H.outside host.new)
+        (OnOk result (Answers task kind begin (closed_units task at_end read) translator.new.writer outbox.new (H.outside host.new).sent)) }
     ensures cutter { translator.new.cutter ≡ translator.old.cutter }
     ensures bad { translator.old.writer.bad ≡ true → translator.new.writer.bad ≡ true }
     ensures few { OnOk result (translator.new.writer.number < 2 ^ 43) }
@@ -198,7 +197,7 @@ fn take_room(alloc: Global) -> Result<Room, NoMemory>
 
 /// Translates the input, up to its end, to so many bytes, or to its first bad unit.
 fn translate<H: Host>(alloc: Global, host: &mut H, task: Task, kind: Kind) -> Status
-    ensures translated { Translated (host.new ≡ host.old) task kind bytes_max result (H.outside host.old) (H.outside host.new) }
+    ensures { Translated (host.new ≡ host.old) task kind bytes_max result (H.outside host.old) (H.outside host.new) }
 {
     let Ok(mut room) = take_room(alloc) else {
         return Status::NoMemory;

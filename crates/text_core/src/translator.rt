@@ -9,9 +9,9 @@ ghost use Rattle.wire_core.specs.Frames.{framed};
 ghost use Rattle.wire_in.specs.Cutting.{pending, bodies_of, rest_of};
 ghost use Rattle.text_core.specs.declared.task.Task.TheVariants as tasks;
 ghost use Rattle.stream_core.specs.Pending.{SendsPrefix};
-ghost use Rattle.text_core.specs.Streams.{units_of, text_of, last_unit};
+ghost use Rattle.text_core.specs.Streams.{units_of, text_of, text_for, last_unit};
 ghost use Rattle.text_core.specs.Streams as streams;
-ghost use Rattle.text_core.specs.InternalStreams.{Answers, Reads, IsOneLine};
+ghost use Rattle.text_core.specs.InternalStreams.{Answers, Reads, Run, IsOneLine};
 
 use crate::kind::Kind;
 use crate::line::Line;
@@ -79,10 +79,9 @@ impl Translator {
         requires open { self.old.writer.bad ≡ false }
         requires few { self.old.writer.number < 2 ^ 42 }
         requires some { 0 < length piece.now }
-        ensures reads { (begin : Option (List ℕ)) (read : List ℕ) → Reads tasks.Print kind begin read self.old outbox.old (H.outside host.old).sent
-            → IfOk result (λ n. Reads tasks.Print kind begin (read ++ take n piece.now) self.new outbox.new (H.outside host.new).sent) }
-        ensures moments { (begin : Option (List ℕ)) (read : List ℕ) → Reads tasks.Print kind begin read self.old outbox.old (H.outside host.old).sent
-            → Elapses (H.outside host.old) (H.outside host.new) (SendsPrefix begin (text_of tasks.Print kind (units_of tasks.Print read)) (H.outside host.old)) }
+        ensures run { (begin : Option (List ℕ)) (read : List ℕ) → Reads tasks.Print kind begin read self.old outbox.old (H.outside host.old).sent
+            → Run begin (text_for tasks.Print kind read) (H.outside host.old) (H.outside host.new)
+            (IfOk result (λ n. Reads tasks.Print kind begin (read ++ take n piece.now) self.new outbox.new (H.outside host.new).sent)) }
         ensures used { IfOk result (λ n. (0 < n) × (n ≤ length piece.now)) }
         ensures few { OnOk result (self.new.writer.number ≤ self.old.writer.number + 1) }
         ensures keeps { OnlySends (H.outside host.old) (H.outside host.new) }
@@ -113,10 +112,9 @@ impl Translator {
         requires open { self.old.writer.bad ≡ false }
         requires few { self.old.writer.number < 2 ^ 42 }
         requires line { IsOneLine last.now }
-        ensures reads { (begin : Option (List ℕ)) (read : List ℕ) → Reads tasks.Pack kind begin read self.old outbox.old (H.outside host.old).sent
-            → OnOk result (Reads tasks.Pack kind begin (read ++ last.now ++ 10 ∷ []) self.new outbox.new (H.outside host.new).sent) }
-        ensures moments { (begin : Option (List ℕ)) (read : List ℕ) → Reads tasks.Pack kind begin read self.old outbox.old (H.outside host.old).sent
-            → Elapses (H.outside host.old) (H.outside host.new) (SendsPrefix begin (text_of tasks.Pack kind (units_of tasks.Pack read)) (H.outside host.old)) }
+        ensures run { (begin : Option (List ℕ)) (read : List ℕ) → Reads tasks.Pack kind begin read self.old outbox.old (H.outside host.old).sent
+            → Run begin (text_for tasks.Pack kind read) (H.outside host.old) (H.outside host.new)
+            (OnOk result (Reads tasks.Pack kind begin (read ++ last.now ++ 10 ∷ []) self.new outbox.new (H.outside host.new).sent)) }
         ensures few { OnOk result (self.new.writer.number ≤ self.old.writer.number + 1) }
         ensures keeps { OnlySends (H.outside host.old) (H.outside host.new) }
         ensures causes { Causes result (H.outside host.old) (H.outside host.new) }
@@ -144,10 +142,9 @@ impl Translator {
         requires open { self.old.writer.bad ≡ false }
         requires few { self.old.writer.number < 2 ^ 42 }
         requires some { 0 < length piece.now }
-        ensures reads { (begin : Option (List ℕ)) (read : List ℕ) → Reads tasks.Pack kind begin read self.old outbox.old (H.outside host.old).sent
-            → IfOk result (λ n. Reads tasks.Pack kind begin (read ++ take n piece.now) self.new outbox.new (H.outside host.new).sent) }
-        ensures moments { (begin : Option (List ℕ)) (read : List ℕ) → Reads tasks.Pack kind begin read self.old outbox.old (H.outside host.old).sent
-            → Elapses (H.outside host.old) (H.outside host.new) (SendsPrefix begin (text_of tasks.Pack kind (units_of tasks.Pack read)) (H.outside host.old)) }
+        ensures run { (begin : Option (List ℕ)) (read : List ℕ) → Reads tasks.Pack kind begin read self.old outbox.old (H.outside host.old).sent
+            → Run begin (text_for tasks.Pack kind read) (H.outside host.old) (H.outside host.new)
+            (IfOk result (λ n. Reads tasks.Pack kind begin (read ++ take n piece.now) self.new outbox.new (H.outside host.new).sent)) }
         ensures used { IfOk result (λ n. (0 < n) × (n ≤ length piece.now)) }
         ensures few { OnOk result (self.new.writer.number ≤ self.old.writer.number + 1) }
         ensures keeps { OnlySends (H.outside host.old) (H.outside host.new) }
@@ -174,10 +171,9 @@ impl Translator {
         requires open { self.old.writer.bad ≡ false }
         requires few { self.old.writer.number < 2 ^ 42 }
         requires some { 0 < length piece.now }
-        ensures reads { (begin : Option (List ℕ)) (read : List ℕ) → Reads task kind begin read self.old outbox.old (H.outside host.old).sent
-            → IfOk result (λ n. Reads task kind begin (read ++ take n piece.now) self.new outbox.new (H.outside host.new).sent) }
-        ensures moments { (begin : Option (List ℕ)) (read : List ℕ) → Reads task kind begin read self.old outbox.old (H.outside host.old).sent
-            → Elapses (H.outside host.old) (H.outside host.new) (SendsPrefix begin (text_of task kind (units_of task read)) (H.outside host.old)) }
+        ensures run { (begin : Option (List ℕ)) (read : List ℕ) → Reads task kind begin read self.old outbox.old (H.outside host.old).sent
+            → Run begin (text_for task kind read) (H.outside host.old) (H.outside host.new)
+            (IfOk result (λ n. Reads task kind begin (read ++ take n piece.now) self.new outbox.new (H.outside host.new).sent)) }
         ensures used { IfOk result (λ n. (0 < n) × (n ≤ length piece.now)) }
         ensures few { OnOk result (self.new.writer.number ≤ self.old.writer.number + 1) }
         ensures keeps { OnlySends (H.outside host.old) (H.outside host.new) }

@@ -1,10 +1,10 @@
 use Rattle.std.proofs.Common.{◌≡◌, ℕ, ◌+◌, ◌++◌, List, length, take, drop, refl, sym, ap, ◌∙◌, arith}
 use Rattle.std.proofs.Math.Seq.{take-add}
 use Rattle.stream_core.proofs.Pending.{on_ok, whenever_ok}
-use Rattle.stream_core.proofs.Sending.{sends_longer, sends_same}
+use Rattle.stream_core.proofs.Sending.{sends_same}
 use Rattle.stream_core.proofs.Pieces.{sends_exchange, sends_leave}
 use Rattle.text_core.specs.Streams.{text_for}
-use Rattle.text_core.proofs.Answering.{reads_same}
+use Rattle.text_core.proofs.Answering.{reads_same, sends_more}
 use Rattle.text_core.proofs.Reading.{within_prefix}
 use Rattle.text_core.proofs.Units.{not_true}
 use Rattle.text_core.proofs.stream.TranslationAnswerer.feed.Goals as goal
@@ -30,17 +30,12 @@ returns-clause-reads g c given count translates next =
 
 pub returns-clause-leaves : goal.returns-clause-leaves
 returns-clause-leaves g c given count translates next =
-    let prefix = within_prefix given.task given.most given.input given.kind (count + length c.args.piece.now) next.within in
     let moments = rw (translates.task_is, translates.kind_is) at (c.feed.ensures.moments given.begin (take count given.input)) in
-    sends_longer _ prefix.more _ prefix.whole
-    (sends_same _ _ (ap (λ (b : List ℕ). text_for given.task given.kind b) (joined count given.input c.args.piece.now next.is)) (moments translates.reads))
+    sends_more (within_prefix given.task given.most given.input given.kind (count + length c.args.piece.now) next.within)
+    (sends_same _ _ (ap (text_for given.task given.kind) (joined count given.input c.args.piece.now next.is)) (moments translates.reads))
 
 pub returns-clause-runs : goal.returns-clause-runs
-returns-clause-runs g c given count translates next =
-    let prefix = within_prefix given.task given.most given.input given.kind (count + length c.args.piece.now) next.within in
-    let moments = rw (translates.task_is, translates.kind_is) at (c.feed.ensures.moments given.begin (take count given.input)) in
-    whenever_ok c.feed.result (sends_longer _ prefix.more _ prefix.whole
-    (sends_same _ _ (ap (λ (b : List ℕ). text_for given.task given.kind b) (joined count given.input c.args.piece.now next.is)) (moments translates.reads)))
+returns-clause-runs g c given count translates next = whenever_ok c.feed.result (returns-clause-leaves g c given count translates next)
 
 pub returns-clause-does : goal.returns-clause-does
 returns-clause-does g c = record { same = refl; keeps = sends_exchange c.feed.ensures.keeps }

@@ -1,5 +1,4 @@
-use Rattle.std.proofs.Common.{◌∙◌, ◌<◌, length, ap, arith}
-use Rattle.std.proofs.lemmas.Bool.Decides.{nat_tests}
+use Rattle.std.proofs.Common.{◌∙◌, sym}
 use Rattle.stream_core.proofs.Pending.{on_ok}
 use Rattle.stream_core.proofs.Sending.{sends_none}
 use Rattle.text_core.specs.declared.task.Task.TheVariants.{Pack}
@@ -12,10 +11,8 @@ returns-then-is_empty-clause-moments g c = λ begin read reads. sends_none (g.H.
 
 pub returns-clause-answers : goal.returns-clause-answers
 returns-clause-answers g c = λ begin read reads.
-    let some : 0 < length c.as_slice.result.now =
-    grind (arith, nat_tests, c.is_empty.ensures, c.if-is_empty.false, ap length c.as_slice.ensures.value) in
-    on_ok c.answer.result (c.answer.ensures.answers begin _ reads.answers)
-    (λ answers. last_line (units_of Pack read) c.as_slice.result.now (rest_of Pack read) (c.as_slice.ensures.value ∙ reads.begun c.requires.open) some answers)
+    on_ok c.answer.result (c.answer.ensures.answers begin _ reads.answers) (λ answers.
+    last_line (units_of Pack read) c.args.self.now.line (rest_of Pack read) (reads.begun c.requires.open) (sym c.is_empty.ensures ∙ c.if-is_empty.false) (rw c.as_slice.ensures.value at answers))
 
 pub returns-clause-moments : goal.returns-clause-moments
 returns-clause-moments g c = λ begin read reads. c.answer.ensures.moments begin _ reads.answers
