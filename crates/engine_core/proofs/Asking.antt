@@ -1,6 +1,5 @@
 -- The reads of a session, and of its next polls.
-use Rattle.std.proofs.Common.{◌≡◌, ℕ, List}
-use Rattle.std.specs.Prelude.{Option}
+use Rattle.std.proofs.Common.{◌≡◌, ℕ, List, Option}
 use Rattle.host_core.specs.Outside.{Ask}
 use Rattle.stream_core.proofs.Asking as asking
 use Rattle.engine_core.specs.Sessions.{Start, Prompt, answers_to}

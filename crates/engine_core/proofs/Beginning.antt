@@ -1,6 +1,5 @@
 -- A session that has read nothing.
-use Rattle.std.proofs.Common.{◌≡◌, ℕ, List, [], refl, sym, ap, arith}
-use Rattle.std.specs.Prelude.{Some}
+use Rattle.std.proofs.Common.{◌≡◌, ℕ, List, [], Some, refl, ap, arith}
 use Rattle.host_core.specs.Outside.{Outside}
 use Rattle.wire_in.specs.declared.record.Record.{Record}
 use Rattle.wire_in.specs.Cutting.{pending}
@@ -11,7 +10,6 @@ use Rattle.stream_core.specs.Pending.{Expects}
 use Rattle.engine_core.specs.Sessions.{Start}
 use Rattle.engine_core.specs.Serving.{Reads}
 use Rattle.engine_core.proofs.Expecting.{expected-none}
-use Rattle.stream_core.proofs.Pending.{expects_same}
 
 -- it has the records of its start, and what is sent before the first answer waits or was sent
 pub begins : (holds : List Record → Outside → Type 0) (start : Start) (input : List ℕ) (session : Session) (now : Outside)
@@ -27,7 +25,7 @@ begins holds start input session now cutter round fresh engine workers idle held
       answers = record {
         waits = record { waiting = []; whole = refl; number_is = fresh; outcomes_are = round };
         evaluates = record { engine_is = engine; workers = workers; ahead = idle };
-        pending_is = expects_same _ _ (sym (expected-none start)) expects;
+        pending_is = rw (expected-none start) expects;
       };
     };
     held = held;

@@ -1,10 +1,7 @@
 -- What is expected for more frames, and what is safe for them.
-use Rattle.std.proofs.Common.{◌≡◌, ℕ, ◌+◌, ◌≤◌, Bool, true, false, List, [], ◌∷◌, ◌++◌, length, take, drop, refl, sym, ap, subst, ◌∙◌, append_assoc, length-append, arith}
-use Rattle.std.specs.Prelude.{reverse}
+use Rattle.std.proofs.Common.{◌≡◌, ℕ, ◌+◌, ◌≤◌, Bool, List, [], ◌∷◌, ◌++◌, length, reverse, take, drop, refl, sym, ap, subst, ◌∙◌, append_assoc, append-nil, take_at, take-append-drop, length-append, add_comm, arith}
 use Rattle.std.specs.Io.KnownBytes.{append_known}
-use Rattle.std.proofs.lemmas.List.{append-nil, take_at, take-append-drop}
 use Rattle.std.proofs.lemmas.List.Elements.{All-nil}
-use Rattle.std.proofs.Math.Nat.{add_comm}
 use Rattle.host_core.specs.Outside.{Outside, Agrees}
 use Rattle.wire_in.specs.declared.record.Record.{Record}
 use Rattle.wire_in.specs.Cutting.{bodies_of, rest_of}
@@ -12,7 +9,6 @@ use Rattle.wire_in.proofs.Cuts.{bodies_of-append}
 use Rattle.wire_out.specs.declared.message.Frame.{Frame}
 use Rattle.rulebook.specs.Sent.{spelled, replies, reply, judged, with_record, accepted_of}
 use Rattle.rulebook.proofs.Sending.{spelled-append, replies-append, accepted_of-append, unacknowledged-append}
-use Rattle.journal_core.specs.Layout.{records_of}
 use Rattle.stream_core.specs.Pending.{SendsPrefix}
 use Rattle.engine_core.specs.Sessions.{Start, held_after, expected, with_acknowledgements, IsSafe}
 use Rattle.engine_core.specs.Rounds.{outcomes_of, records_in}
@@ -20,8 +16,7 @@ use Rattle.engine_core.specs.Serving.{IsKeeping}
 use Rattle.engine_core.proofs.Rounds.{batch_of}
 
 with_acknowledgements-append : (acknowledges : Bool) (a b : List Frame) → with_acknowledgements acknowledges (a ++ b) ≡ with_acknowledgements acknowledges a ++ with_acknowledgements acknowledges b
-with_acknowledgements-append acknowledges a b =
-    elim acknowledges as (λ v. with_acknowledgements v (a ++ b) ≡ with_acknowledgements v a ++ with_acknowledgements v b) [ true ↦ refl | false ↦ unacknowledged-append a b ]
+with_acknowledgements-append acknowledges a b = grind (arith, unacknowledged-append)
 
 -- what further frames add
 abbrev pub added : Start → List (List ℕ) → List (List ℕ) → List ℕ
@@ -37,11 +32,8 @@ pub expected-one : (start : Start) (a : List (List ℕ)) (body : List ℕ)
     → expected start (a ++ body ∷ []) ≡ expected start a ++ spelled (with_acknowledgements start.acknowledges (reply (length a + 1) (held_after start a) (judged start.capacity (held_after start a) body)))
 expected-one start a body = expected-more start a (body ∷ []) ∙ simp append-nil
 
-pub held-more : (start : Start) (a b : List (List ℕ)) → held_after start (a ++ b) ≡ accepted_of start.capacity (held_after start a) b
-held-more start a b = accepted_of-append start.capacity start.held a b
-
 pub held-one : (start : Start) (a : List (List ℕ)) (body : List ℕ) → held_after start (a ++ body ∷ []) ≡ with_record (held_after start a) (judged start.capacity (held_after start a) body)
-held-one start a body = held-more start a (body ∷ [])
+held-one start a body = accepted_of-append start.capacity start.held a (body ∷ [])
 
 -- these are the first of all bytes
 pub record Begins (prefix all : List ℕ) : Type 0 where
@@ -56,7 +48,7 @@ pub held_further : (start : Start) {prefix all : List ℕ} → Begins prefix all
 held_further start {prefix} begins =
     let rest = bodies_of (rest_of prefix ++ begins.more) in
     let grows = accepted_grows start.capacity (held_after start (bodies_of prefix)) rest in
-    (grows.0, sym grows.1 ∙ sym (held-more start (bodies_of prefix) rest) ∙ ap (held_after start) (sym (bodies_of-append prefix begins.more) ∙ ap bodies_of begins.whole))
+    (grows.0, sym grows.1 ∙ sym (accepted_of-append start.capacity start.held (bodies_of prefix) rest) ∙ ap (held_after start) (sym (bodies_of-append prefix begins.more) ∙ ap bodies_of begins.whole))
 
 -- no batch is being kept
 pub at_rest : {most : ℕ} {recovers : List Record → List (List Record) → List ℕ → Type 0} {start : Start} {bodies : List (List ℕ)} {records : List Record} {image : List ℕ}
@@ -66,9 +58,9 @@ at_rest {most = most} more next recovered = record { pending = []; few = omega a
 -- and what is kept of some frames is so of more
 pub keeping_further : {most : ℕ} {recovers wider : List Record → List (List Record) → List ℕ → Type 0} {start : Start} {prefix all : List ℕ} {records : List Record} {image : List ℕ} → Begins prefix all
     → (keeping : IsKeeping most recovers start (bodies_of prefix) records image) → wider records keeping.pending image → IsKeeping most wider start (bodies_of all) records image
-keeping_further {start = start} {records = records} begins keeping recovered =
+keeping_further {start = start} begins keeping recovered =
     let grows = held_further start begins in
-    let next = append_assoc grows.0 keeping.more (records_of keeping.pending ++ records) ∙ ap (λ (r : List Record). grows.0 ++ r) keeping.next ∙ grows.1 in
+    let next = append_assoc grows.0 keeping.more _ ∙ ap (λ (r : List Record). grows.0 ++ r) keeping.next ∙ grows.1 in
     record { pending = keeping.pending; few = keeping.few; small = keeping.small; more = grows.0 ++ keeping.more; next = next; recovered = recovered }
 
 -- what some frames gave is recovered, and a prefix of what is expected for them was sent
@@ -113,5 +105,4 @@ module _ (recovers : List Record → List ℕ → Type 0) (start : Start) where
 -- before the first frame
 pub expected-none : (start : Start) → expected start [] ≡ start.opening
 unfolding expected
-expected-none start =
-    ap (λ (frames : List Frame). start.opening ++ spelled frames) (elim start.acknowledges as (λ v. with_acknowledgements v [] ≡ []) [ true ↦ refl | false ↦ refl ]) ∙ append-nil start.opening
+expected-none start = grind (arith, append-nil)

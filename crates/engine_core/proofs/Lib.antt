@@ -1,13 +1,10 @@
-pub mod Messages
 pub mod Rounds
 pub mod Expecting
 pub mod Answering
-pub mod Keeping
 pub mod Unwritten
 pub mod Reading
 pub mod Running
 pub mod Asking
-pub mod Ending
 pub mod Statuses
 pub mod Starving
 pub mod Beginning

@@ -1,16 +1,14 @@
 -- The input, read piece by piece.
-use Rattle.std.proofs.Common.{◌≡◌, ◌⊎◌, ℕ, ◌+◌, ◌-◌, ◌≤◌, Bool, false, List, [], ◌++◌, length, take, drop, sym, ap, subst, ◌∙◌, arith}
-use Rattle.std.specs.Prelude.{Option, Ok}
+use Rattle.std.proofs.Common.{◌≡◌, ℕ, ◌+◌, ◌-◌, ◌≤◌, List, [], ◌++◌, take, drop, take-add, Option, sym, ap, subst, ◌∙◌, arith}
 use Rattle.std.specs.Io.KnownBytes.{append_known}
-use Rattle.std.proofs.Math.Seq.{take-add}
 use Rattle.host_core.specs.Outside.{Outside}
 use Rattle.wire_in.specs.declared.record.Record.{Record}
 use Rattle.wire_in.specs.Cutting.{bodies_of}
-use Rattle.engine_core.specs.declared.session.Session.{Session}
 use Rattle.stream_core.specs.Pending.{Expects}
-use Rattle.engine_core.specs.Sessions.{Start, held_after, expected, Answered, Prompt}
-use Rattle.engine_core.specs.Serving.{Reads, Runs}
 use Rattle.stream_core.specs.Taking.{TakesPiece}
+use Rattle.engine_core.specs.declared.session.Session.{Session}
+use Rattle.engine_core.specs.Sessions.{Start, held_after, expected, Answered}
+use Rattle.engine_core.specs.Serving.{Reads}
 use Rattle.engine_core.proofs.Answering.{none_waits}
 use Rattle.engine_core.proofs.Expecting.{Begins}
 
@@ -35,18 +33,8 @@ module _ {holds : List Record → Outside → Type 0} {start : Start} {input : L
       → ((records : List Record) → holds records old → holds records new) → Answered holds start input count new
   answered_by new same sent still = record { input_left = same ∙ reads.input_left; there = reads.there; sent = sent; held = still _ held_all }
 
--- A session since it began: what it has read, its run, when it asked, and once it is closed all of it answered.
-pub record Polls (at_once : ℕ) (holds : List Record → Outside → Type 0) (recovers later : List Record → List (List Record) → List ℕ → Type 0) (start : Start) (input : List ℕ) (most read : ℕ) (on : Bool) (session : Session) (old now : Outside) : Type 0 where
-  pub reads : Reads holds start input read session now
-  pub runs : Runs {T = Unit {0}} at_once holds recovers later start (take read input) (take most input) (Ok tt) session old now
-  pub prompt : Prompt start input old.asks now.asks
-  pub end : on ≡ false → ((read ≡ length input) ⊎ (read ≡ most)) × Answered holds start input read now
-
 -- n bytes more were read
-module _ {holds : List Record → Outside → Type 0} {start : Start} {input : List ℕ} {count : ℕ} {session : Session} {old : Outside} (reads : Reads holds start input count session old)
-    {most n : ℕ} {mid : Option (List ℕ)} {buffer : List ℕ} (takes : TakesPiece most old.input mid buffer n) where
-  pub piece_is : take count input ++ take n buffer ≡ take (count + n) input
-  piece_is = ap (λ (b : List ℕ). take count input ++ b) (takes.given (drop count input) reads.input_left) ∙ sym (take-add count n input)
-
-  pub piece_begins : (m : ℕ) → count + n ≤ m → Begins (take count input ++ take n buffer) (take m input)
-  piece_begins m le = subst (λ (b : List ℕ). Begins b (take m input)) (sym piece_is) (up_to (count + n) m input le)
+pub piece_is : {holds : List Record → Outside → Type 0} {start : Start} {input : List ℕ} {count : ℕ} {session : Session} {old : Outside} → Reads holds start input count session old
+    → {most n : ℕ} {mid : Option (List ℕ)} {buffer : List ℕ} → TakesPiece most old.input mid buffer n → take count input ++ take n buffer ≡ take (count + n) input
+piece_is {input = input} {count = count} reads {n = n} takes =
+    ap (λ (b : List ℕ). take count input ++ b) (takes.given (drop count input) reads.input_left) ∙ sym (take-add count n input)

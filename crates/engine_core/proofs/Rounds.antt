@@ -1,6 +1,5 @@
 -- The outcomes of a round, and the records that it accepts.
-use Rattle.std.proofs.Common.{◌≡◌, ℕ, ◌≤◌, List, [], ◌∷◌, ◌++◌, length, refl, sym, ap, ◌∙◌, append_assoc, arith}
-use Rattle.std.specs.Prelude.{Some, None, Ok, Err}
+use Rattle.std.proofs.Common.{◌≡◌, ℕ, ◌≤◌, List, [], ◌∷◌, ◌++◌, length, Some, None, Ok, Err, refl, sym, ap, ◌∙◌, append_assoc, arith}
 use Rattle.std.proofs.lemmas.List.{reverse-append}
 use Rattle.wire_in.specs.declared.record.Record.{Record}
 use Rattle.wire_in.specs.Reading.{record_of}
@@ -30,8 +29,7 @@ one_record held (Err refusal) later = refl
 pub batch_of : (capacity : ℕ) (held : List Record) (bodies : List (List ℕ)) → with_batch held (records_in (outcomes_of capacity held bodies)) ≡ accepted_of capacity held bodies
 batch_of capacity held [] = refl
 batch_of capacity held (body ∷ later) =
-    let next = with_record held (judged capacity held body) in
-    one_record held (judged capacity held body) (outcomes_of capacity next later) ∙ batch_of capacity next later
+    one_record held (judged capacity held body) _ ∙ batch_of capacity (with_record held (judged capacity held body)) later
 
 -- what was judged may follow
 pub admissible_judged : (capacity : ℕ) (held : List Record) (body : List ℕ) → IsAdmissible capacity held (judged capacity held body)
@@ -43,15 +41,13 @@ admissible_judged capacity held body =
 
 one_admissible : (capacity : ℕ) (held : List Record) (outcome : Outcome) (later : List Outcome) → IsAdmissible capacity held outcome → AreAdmissible capacity (with_record held outcome) (records_in later)
     → AreAdmissible capacity held (records_in (outcome ∷ later))
-one_admissible capacity held (Ok x) later one rest = (one, rest)
-one_admissible capacity held (Err refusal) later one rest = rest
+one_admissible capacity held outcome later one rest = grind arith
 
 -- the accepted records of a round may follow one after the other
 pub admissible_records : (capacity : ℕ) (held : List Record) (bodies : List (List ℕ)) → AreAdmissible capacity held (records_in (outcomes_of capacity held bodies))
 admissible_records capacity held [] = tt
 admissible_records capacity held (body ∷ later) =
-    let next = with_record held (judged capacity held body) in
-    one_admissible capacity held (judged capacity held body) (outcomes_of capacity next later) (admissible_judged capacity held body) (admissible_records capacity next later)
+    one_admissible capacity held (judged capacity held body) _ (admissible_judged capacity held body) (admissible_records capacity (with_record held (judged capacity held body)) later)
 
 -- the first frame of a round
 pub judged_first : (capacity : ℕ) (held : List Record) (outcome : Outcome) (later : List Outcome) (waiting : List (List ℕ)) → outcome ∷ later ≡ outcomes_of capacity held waiting
@@ -62,13 +58,11 @@ judged_first capacity held outcome later (body ∷ rest) is = (body, rest, refl,
 
 pub records-append : (a b : List Outcome) → records_in (a ++ b) ≡ records_in a ++ records_in b
 records-append [] b = refl
-records-append (Ok x ∷ a) b = ap (λ (r : List Record). x ∷ r) (records-append a b)
-records-append (Err refusal ∷ a) b = records-append a b
+records-append (outcome ∷ a) b = let later = records-append a b in grind (arith, later)
 
 pub few_records : (outcomes : List Outcome) → length (records_in outcomes) ≤ length outcomes
 few_records [] = omega arith
-few_records (Ok x ∷ later) = let le = few_records later in omega (arith, le)
-few_records (Err refusal ∷ later) = let le = few_records later in omega (arith, le)
+few_records (outcome ∷ later) = let le = few_records later in grind (arith, le)
 
 -- a whole frame behind whole frames
 pub whole_on : (read taken body : List ℕ) → rest_of read ≡ [] → framed body ≡ taken → (bodies_of (read ++ taken) ≡ bodies_of read ++ body ∷ []) × (rest_of (read ++ taken) ≡ [])

@@ -1,6 +1,5 @@
 -- Memory that is short.
-use Rattle.std.proofs.Common.{◌≡◌, ◌≢◌, ℕ, subst, arith}
-use Rattle.std.specs.Prelude.{List, Option, Result, Ok, Err, IfErr}
+use Rattle.std.proofs.Common.{◌≡◌, ◌≢◌, ℕ, List, Option, Result, Ok, Err, IfErr, subst, arith}
 use Rattle.host_core.specs.declared.fault.Fault.{Fault}
 use Rattle.host_core.specs.declared.fault.Fault.TheVariants as fault
 use Rattle.wire_in.specs.declared.record.Record.{Record}

@@ -1,6 +1,5 @@
 -- The status of a run, and what it says.
-use Rattle.std.proofs.Common.{◌≡◌, arith}
-use Rattle.std.specs.Prelude.{Result, Ok, Err, IfOk}
+use Rattle.std.proofs.Common.{◌≡◌, Result, Err, IfOk, arith}
 use Rattle.host_core.specs.declared.fault.Fault.{Fault}
 use Rattle.host_core.specs.declared.fault.Fault.TheVariants as fault
 use Rattle.host_core.specs.declared.status.Status.{Status}
@@ -11,9 +10,7 @@ use Rattle.stream_core.specs.Ends.{IsEnd, answer_of}
 use Rattle.engine_core.specs.Ends.{Told}
 
 pub at_an_end : (result : Result Status Fault) (P : Status → Type 0) → IfOk result P → IsEnd (answer_of result) → P (answer_of result)
-at_an_end (Ok s) P p end = p
-at_an_end (Err fault.Read) P p end = absurd end
-at_an_end (Err f) P p end = absurd end
+at_an_end result P p end = grind arith
 
 pub at_a_read : (result : Result Status Fault) → IfOk result IsEnd → answer_of result ≡ ReadFault → result ≡ Err fault.Read
 at_a_read result end is = grind arith

@@ -201,8 +201,10 @@ fn refuse<H: Host>(
     number: u64,
     refusal: Refusal,
 ) -> Result<(), Fault>
-    ensures appends { (acknowledges : Bool) (begin : Option (List ℕ)) (text : List ℕ) → Expects begin (H.outside host.old).sent outbox.old text
-        → Appends result begin (text ++ spelled (with_acknowledgements acknowledges (refused number refusal))) outbox.new (H.outside host.old) (H.outside host.new) }
+    ensures pending { (acknowledges : Bool) (begin : Option (List ℕ)) (text : List ℕ) → Expects begin (H.outside host.old).sent outbox.old text
+        → OnOk result (Expects begin (H.outside host.new).sent outbox.new (text ++ spelled (with_acknowledgements acknowledges (refused number refusal)))) }
+    ensures moments { (begin : Option (List ℕ)) (text : List ℕ) → Expects begin (H.outside host.old).sent outbox.old text
+        → Elapses (H.outside host.old) (H.outside host.new) (SendsPrefix begin text (H.outside host.old)) }
     ensures keeps { OnlySends (H.outside host.old) (H.outside host.new) }
     ensures causes { Causes result (H.outside host.old) (H.outside host.new) }
     ensures fault { IfErr result (λ fault. fault ≡ Fault.Send) }

@@ -82,6 +82,7 @@ impl Round {
     }
 
     /// The accepted records among them, the oldest first.
+    #[tactic(auto, using(crate::proofs::Rounds::few_records))]
     pub fn accepted(&self) -> &Vec<Record>
         ensures accepted { result.now.items ≡ records_in self.now.outcomes }
         ensures few { length result.now.items ≤ self.now.most }

@@ -231,7 +231,7 @@ fn settle<Rt: Threads + Sync, K: Keeper, H: Host, G: Gate>(
     ensures runs { (start : Start) (read : List ℕ) → start.acknowledges ≡ K.acknowledges → Serves (K.holds keeper.old) start read session.old (H.outside host.old)
         → Runs session.old.round.most (K.holds keeper.new) (K.recovers keeper.old (H.outside host.old)) (K.recovers keeper.new (H.outside host.new)) start read read result session.new (H.outside host.old) (H.outside host.new) }
     ensures empty { OnOk result (session.new.round.outcomes ≡ []) }
-    ensures most { OnOk result (session.new.round.most ≡ session.old.round.most) }
+    ensures most { session.new.round.most ≡ session.old.round.most }
     ensures ready { OnOk result (IsReady (K.has_room keeper.new (H.outside host.new).disk) K.most session.new) }
     ensures answered { OnOk result (session.new.answered ≡ session.old.answered + length session.old.round.outcomes) }
     ensures keeps { OnlyAnswers (K.touches session.old.round.most) (H.outside host.old) (H.outside host.new) }

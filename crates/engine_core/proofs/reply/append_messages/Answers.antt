@@ -1,10 +1,6 @@
-use Rattle.std.proofs.Common.{◌+◌, ◌++◌, List, length, refl, sym, ap, ◌∙◌, append_assoc, arith}
+use Rattle.std.proofs.Common.{length, refl, ap, ◌∙◌, append_assoc, arith}
 use Rattle.host_core.proofs.Chains.{onward, sends_nothing}
 use Rattle.host_core.proofs.Causes.{no_fault, faultless}
-use Rattle.wire_out.specs.declared.message.Frame.TheVariants.{Numbered}
-use Rattle.wire_out.specs.declared.message.Stamped.{Stamped}
-use Rattle.wire_out.specs.Spelling.{spelling}
-use Rattle.rulebook.specs.Sent.{spelled, numbered}
 use Rattle.stream_core.proofs.Sending.{sends_none, sends_longer, sends_on}
 use Rattle.engine_core.proofs.Answering.{drop_one}
 use Rattle.engine_core.proofs.reply.append_messages.Goals as goal
@@ -14,7 +10,7 @@ loop-message-init g c = record {
   number = omega arith;
   pending = λ begin text expects. (text, expects, refl);
   moments = λ begin text expects.
-      sends_longer text (spelled (numbered c.args.before c.args.messages.now)) _ refl
+      sends_longer text _ _ refl
       (sends_none (g.H.Host.outside c.args.host.now) (g.met.H.Host.sent_now c.args.host.now) _ text expects);
   keeps = sends_nothing _;
   none = no_fault _;
@@ -23,17 +19,12 @@ loop-message-init g c = record {
 
 pub loop-message-preserved : goal.loop-message-preserved
 loop-message-preserved g c =
-    let number = c.loop-message.number in
     let split = drop_one c.args.messages.now c.loop-message.message-index c.message-item.result c.loop-message-test.true c.message-item.is in
-    let frame = spelling (Numbered (number + 1) c.message-item.result) in
     record {
       number = omega (arith, c.loop-message.invariant.number);
       pending = λ begin text expects.
-          let now = c.loop-message.invariant.pending begin text expects in (
-            now.0 ++ frame,
-            c.in_ok-append.ensures.pending begin now.0 now.1,
-            append_assoc now.0 frame _ ∙ ap (λ (ms : List Stamped). now.0 ++ spelled (numbered number ms)) (sym split) ∙ now.2,
-          );
+          let now = c.loop-message.invariant.pending begin text expects in
+          (_, c.in_ok-append.ensures.pending begin now.0 now.1, append_assoc now.0 _ _ ∙ rw split at now.2);
       moments = λ begin text expects.
           let now = c.loop-message.invariant.pending begin text expects in
           sends_on (c.loop-message.invariant.moments begin text expects) now.0 _ now.2 (c.append.ensures.moments begin now.0 now.1);

@@ -1,5 +1,4 @@
-use Rattle.std.proofs.Common.{◌≡◌, ◌+◌, ◌++◌, ℕ, List, [], drop}
-use Rattle.std.specs.Prelude.{Option}
+use Rattle.std.proofs.Common.{◌≡◌, ◌+◌, ◌++◌, ℕ, List, [], drop, Option}
 use Rattle.host_core.specs.Outside.{Elapses, NoFault}
 use Rattle.host_core.specs.Frames.{OnlySends}
 use Rattle.rulebook.specs.Sent.{spelled, numbered}

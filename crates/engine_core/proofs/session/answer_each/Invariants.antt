@@ -1,5 +1,4 @@
-use Rattle.std.proofs.Common.{◌≡◌, ◌+◌, ℕ, List, drop}
-use Rattle.std.specs.Prelude.{Ok}
+use Rattle.std.proofs.Common.{◌≡◌, ◌+◌, ℕ, List, drop, Ok}
 use Rattle.host_core.specs.Outside.{NoFault}
 use Rattle.host_core.specs.Frames.{OnlySends}
 use Rattle.engine_core.specs.Sessions.{Start}

@@ -1,5 +1,4 @@
-use Rattle.std.proofs.Common.{◌≡◌, [], ap, sym, rules}
-use Rattle.engine_core.specs.Rounds.{RoundState}
+use Rattle.std.proofs.Common.{sym, rules}
 use Rattle.engine_core.proofs.session.answer_round.Goals as goal
 
 pub returns-in_err-answer_each-clause-replies : goal.returns-in_err-answer_each-clause-replies
@@ -10,9 +9,8 @@ returns-in_err-answer_each-clause-replies g c start before all same answers =
 pub returns-clause-replies : goal.returns-clause-replies
 returns-clause-replies g c start before all same answers =
     let each = c.in_ok-answer_each.ensures.replies start _ all same (rw (sym c.outcomes.ensures.outcomes) at (c.prepare_round.ensures.answers start before all _ answers)) in
-    let none : c.clear.new.self.outcomes ≡ [] = ap (λ (r : RoundState). r.outcomes) c.clear.ensures in
     record {
-      answers = rw (none, c.len.ensures.len) (rw c.outcomes.ensures.outcomes at each.answers);
+      answers = rw (c.clear.ensures, c.len.ensures.len) (rw c.outcomes.ensures.outcomes at each.answers);
       moments = each.moments;
       starved = λ is. absurd cc;
     }

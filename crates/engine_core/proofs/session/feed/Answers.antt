@@ -1,10 +1,8 @@
-use Rattle.std.proofs.Common.{ℕ, ◌++◌, List, take, drop, refl, ap, ◌∙◌, append_assoc, arith, rules}
-use Rattle.std.proofs.lemmas.List.{append-nil, take_all, take-append-drop}
+use Rattle.std.proofs.Common.{ℕ, ◌++◌, List, take, drop, take_all, take-append-drop, refl, ap, ◌∙◌, append_assoc, append-nil, arith, rules}
+use Rattle.host_core.proofs.Moments.{unchanged}
 use Rattle.host_core.proofs.Causes.{no_fault, faultless}
-use Rattle.host_core.proofs.Chains.{sends_nothing}
 use Rattle.engine_core.proofs.Expecting.{Begins}
-use Rattle.engine_core.proofs.Keeping.{answers_sends, answers_on}
-use Rattle.engine_core.proofs.Running.{idles, runs_on}
+use Rattle.engine_core.proofs.Running.{idles, answers_on, runs_on}
 use Rattle.engine_core.proofs.session.feed.Goals as goal
 
 -- the bytes of a piece that were taken, and those that are left
@@ -21,7 +19,7 @@ loop-at-init g c = record {
   ready = c.requires.ready;
   runs = λ start read same serves.
       rw (append-nil read) (idles serves _ (record { more = c.args.piece.now; whole = refl }) (g.met.H.Host.sent_now c.args.host.now) (λ records image held left. g.K.Keeper.recovers_now c.args.keeper.now records _ image held left));
-  keeps = answers_sends _ (sends_nothing _) (g.K.Keeper.untouched _ _ _ refl refl);
+  keeps = record { input = refl; asks = refl; read_faults = refl; continues = unchanged _; to_disk = g.K.Keeper.untouched _ _ _ refl refl };
   none = no_fault _;
 }
 
@@ -31,7 +29,7 @@ loop-at-preserved g c = record {
   empty = c.in_ok-settle.ensures.empty;
   few = omega (arith, c.loop-at.invariant.few, c.in_ok-settle.ensures.answered, c.fill-at.ensures.few, c.fill-at.ensures.answered);
   still = λ none. absurd (omega (arith, none, c.fill-at.ensures.offset.0));
-  most = c.in_ok-settle.ensures.most ∙ c.fill-at.ensures.most ∙ c.loop-at.invariant.most;
+  most = c.settle.ensures.most ∙ c.fill-at.ensures.most ∙ c.loop-at.invariant.most;
   ready = c.in_ok-settle.ensures.ready;
   runs = λ start read same serves.
       let was = c.loop-at.invariant.runs start read same serves in

@@ -1,5 +1,4 @@
-use Rattle.std.proofs.Common.{◌≡◌, ◌+◌, ◌-◌, ◌≤◌, ◌++◌, [], ℕ, List, length, take}
-use Rattle.std.specs.Prelude.{Ok}
+use Rattle.std.proofs.Common.{◌≡◌, ◌+◌, ◌-◌, ◌≤◌, ◌++◌, [], ℕ, List, length, take, Ok}
 use Rattle.host_core.specs.Outside.{NoFault}
 use Rattle.engine_core.specs.Sessions.{Start}
 use Rattle.engine_core.specs.Serving.{Serves, Runs, IsReady, OnlyAnswers}

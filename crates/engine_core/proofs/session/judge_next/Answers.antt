@@ -1,13 +1,10 @@
-use Rattle.std.proofs.Common.{◌≡◌, ℕ, List, [], ◌∷◌, ◌++◌, length, sym, subst, ap, ◌∙◌, append_assoc, length-append, arith}
-use Rattle.wire_in.specs.declared.record.Record.{Record}
+use Rattle.std.proofs.Common.{◌≡◌, ℕ, List, [], ◌∷◌, ◌++◌, length, sym, ap, ◌∙◌, append_assoc, length-append, arith}
 use Rattle.rulebook.specs.Sent.{admitted, judged, with_record}
-use Rattle.evaluator_core.specs.Evaluating.{workers_of}
-use Rattle.engine_core.specs.declared.engine.Engine.{Engine}
+use Rattle.rulebook.proofs.Sending.{accepted_of-append}
 use Rattle.engine_core.specs.Rounds.{RoundState, records_in}
-use Rattle.engine_core.specs.EngineState.{Represents, IsRoomy}
 use Rattle.engine_core.specs.Sessions.{held_after}
 use Rattle.engine_core.proofs.Rounds.{outcomes-append, records-append}
-use Rattle.engine_core.proofs.Expecting.{held-more, held-one}
+use Rattle.engine_core.proofs.Expecting.{held-one}
 use Rattle.engine_core.proofs.session.judge_next.Goals as goal
 
 pub returns-clause-answers : goal.returns-clause-answers
@@ -23,13 +20,12 @@ returns-clause-answers c start answered all after number outbox sent whole answe
         waiting = waits.waiting ++ body ∷ [];
         whole = sym (append_assoc answered waits.waiting (body ∷ [])) ∙ ap (λ (b : List (List ℕ)). b ++ body ∷ []) waits.whole ∙ sym whole;
         number_is = waits.number_is;
-        outcomes_are = ap (λ (r : RoundState). r.outcomes) c.push.ensures ∙ (λ i. waits.outcomes_are i ++ (is ∙ ap (λ (b : List (List ℕ)). judged start.capacity (held_after start b) body) (sym waits.whole)) i ∷ []) ∙ simp (outcomes-append, held-more);
+        outcomes_are = ap (λ (r : RoundState). r.outcomes) c.push.ensures ∙ (λ i. waits.outcomes_are i ++ (is ∙ ap (λ (b : List (List ℕ)). judged start.capacity (held_after start b) body) (sym waits.whole)) i ∷ []) ∙ simp (outcomes-append, accepted_of-append);
       };
       evaluates = record {
-        engine_is = subst (λ (h : List Record). Represents c.admit.new.engine start.capacity h (held_after start answered)) (ap (with_record held) is ∙ sym (held-one start all body) ∙ ap (held_after start) (sym whole))
-            (c.admit.ensures.represents start.capacity held _ answers.evaluates.engine_is);
-        workers = ap (λ (e : Engine). workers_of e.evaluator) c.admit.ensures.rest ∙ answers.evaluates.workers;
-        ahead = rw (ap (λ (e : Engine). e.evaluator) c.admit.ensures.rest) answers.evaluates.ahead;
+        engine_is = rw (ap (with_record held) is ∙ sym (held-one start all body) ∙ ap (held_after start) (sym whole)) at (c.admit.ensures.represents start.capacity held _ answers.evaluates.engine_is);
+        workers = rw c.admit.ensures.rest answers.evaluates.workers;
+        ahead = rw c.admit.ensures.rest answers.evaluates.ahead;
       };
       pending_is = answers.pending_is;
     }
@@ -37,11 +33,4 @@ returns-clause-answers c start answered all after number outbox sent whole answe
 pub returns-clause-sound : goal.returns-clause-sound
 returns-clause-sound c = λ answered sound.
     let more = simp (records-append, length-append) at (ap (λ (r : RoundState). length (records_in r.outcomes)) c.push.ensures) in
-    let evaluated = ap (λ (e : Engine). e.evaluated) c.admit.ensures.rest in
-    record {
-      within = c.admit.ensures.within sound.within;
-      count = omega (arith, sound.count, c.admit.ensures.count, more, evaluated);
-      few = omega (arith, sound.few, ap (λ (e : Engine). e.published) c.admit.ensures.rest, evaluated);
-      small = omega (arith, sound.small, evaluated);
-      roomy = subst IsRoomy (sym c.admit.ensures.rest) sound.roomy;
-    }
+    rw c.admit.ensures.rest (omega (arith, sound.count, sound.few, sound.small, sound.roomy, c.admit.ensures.within sound.within, c.admit.ensures.count, more))

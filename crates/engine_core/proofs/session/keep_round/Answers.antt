@@ -1,11 +1,7 @@
-use Rattle.std.proofs.Common.{◌≡◌, ◌≤◌, ℕ, List, length, sym, ap, arith, inl, refl}
+use Rattle.std.proofs.Common.{inl, refl}
 use Rattle.host_core.proofs.Moments.{nothing, widened}
-use Rattle.wire_in.specs.declared.record.Record.{Record}
 use Rattle.engine_core.proofs.Unwritten.{idle}
 use Rattle.engine_core.proofs.session.keep_round.Goals as goal
-
-small : (accepted records : List Record) (most : ℕ) → accepted ≡ records → length accepted ≤ most → length records ≤ most
-small accepted records most is few = omega (arith, ap length is, few)
 
 pub returns-then-is_empty-clause-moments : goal.returns-then-is_empty-clause-moments
 returns-then-is_empty-clause-moments g c = λ records holds.
@@ -16,13 +12,13 @@ pub returns-then-is_empty-clause-nothing : goal.returns-then-is_empty-clause-not
 returns-then-is_empty-clause-nothing g c = λ none. idle (g.H.Host.outside c.args.host.now) (g.met.H.Host.sent_now c.args.host.now)
 
 pub returns-then-is_empty-clause-few : goal.returns-then-is_empty-clause-few
-returns-then-is_empty-clause-few g c = small _ _ _ c.accepted-batch.ensures.accepted c.accepted-batch.ensures.few
+returns-then-is_empty-clause-few g c = rw c.accepted-batch.ensures.accepted at c.accepted-batch.ensures.few
 
 pub returns-then-is_empty-clause-touches : goal.returns-then-is_empty-clause-touches
 returns-then-is_empty-clause-touches g c = g.K.Keeper.untouched _ _ _ refl refl
 
 pub returns-clause-few : goal.returns-clause-few
-returns-clause-few g c = small _ _ _ c.accepted-batch.ensures.accepted c.accepted-batch.ensures.few
+returns-clause-few g c = rw c.accepted-batch.ensures.accepted at c.accepted-batch.ensures.few
 
 pub returns-clause-touches : goal.returns-clause-touches
-returns-clause-touches g c = g.K.Keeper.touches_more _ _ _ _ (small _ _ _ (sym c.deref.ensures.value) c.accepted-batch.ensures.few) c.keep.ensures.touches
+returns-clause-touches g c = g.K.Keeper.touches_more _ _ _ _ (rw (← c.deref.ensures.value) at c.accepted-batch.ensures.few) c.keep.ensures.touches

@@ -1,5 +1,4 @@
-use Rattle.std.proofs.Common.{rules, ◌≡◌, ◌++◌, length, [], ◌∷◌, ap, arith, length-append}
-use Rattle.std.specs.Prelude.{Ok, Err, IfOk, All}
+use Rattle.std.proofs.Common.{rules, ◌≡◌, ◌++◌, length, [], ◌∷◌, Ok, Err, IfOk, All, ap, arith, length-append}
 use Rattle.std.proofs.lemmas.List.Elements.{All-nil, All-cons, All-append}
 use Rattle.wire_in.specs.Spelling.{InRange}
 use Rattle.engine_core.proofs.Rounds.{few_records, records-append}
@@ -8,10 +7,8 @@ use Rattle.engine_core.proofs.round.Round.push.Goals as goal
 
 pub accept-requires : goal.accept-requires
 accept-requires c =
-    let held = ap (λ (r : RoundState). length r.outcomes) c.self.view_is in
-    let most = ap (λ (r : RoundState). r.most) c.self.view_is in
     let few = few_records c.self.inside.outcomes.items in
-    record { room = omega (arith, few, ap length c.self.invariant.accepted_are, c.requires.room, held, most, c.self.invariant.reserve_records, c.self.inside.accepted.ok.0) }
+    record { room = grind (arith, few, c.self.view_is, c.self.invariant.accepted_are, c.requires.room, c.self.invariant.reserve_records, c.self.inside.accepted.ok.0) }
 
 pub invariant_of-self : goal.invariant_of-self
 invariant_of-self c =

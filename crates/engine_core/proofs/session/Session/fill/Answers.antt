@@ -1,20 +1,18 @@
-use Rattle.std.proofs.Common.{◌++◌, length, take, ap, ◌∙◌, append_assoc, arith}
-use Rattle.std.proofs.Math.Seq.{take-add}
-use Rattle.std.proofs.lemmas.List.{take_rest, length-drop}
+use Rattle.std.proofs.Common.{◌++◌, length, take, take-add, length-drop, ap, ◌∙◌, append_assoc, arith}
+use Rattle.std.proofs.lemmas.List.{take_rest}
 use Rattle.engine_core.proofs.session.Session.fill.Goals as goal
 
 pub loop-at-preserved : goal.loop-at-preserved
 loop-at-preserved c =
     let piece = c.args.piece.now in
     let at = c.loop-at.at in
-    let n = c.advance-at.result in
     let left = ap length (take_rest piece at) ∙ length-drop at piece in
     record {
       within = omega (arith, c.advance-at.ensures.used.0, left, c.loop-at.invariant.within);
       few = omega (arith, c.loop-at.invariant.few, c.advance-at.ensures.more, c.advance-at.ensures.used.1, left, c.loop-at-test.true);
       most = c.advance-at.ensures.most ∙ c.loop-at.invariant.most;
       judges = λ start answered read sent judges.
-          rw (take_rest piece at, append_assoc, ← take-add at n piece) at
+          rw (take_rest piece at, append_assoc, ← take-add at c.advance-at.result piece) at
           (c.advance-at.ensures.judges start answered (read ++ take at piece) sent (c.loop-at.invariant.judges start answered read sent judges));
       sound = λ sound. c.advance-at.ensures.sound (c.loop-at.invariant.sound sound);
       capacity = c.advance-at.ensures.capacity ∙ c.loop-at.invariant.capacity;

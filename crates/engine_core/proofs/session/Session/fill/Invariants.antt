@@ -1,5 +1,4 @@
-use Rattle.std.proofs.Common.{◌≡◌, ◌+◌, ◌-◌, ◌≤◌, ◌++◌, ℕ, List, length, take}
-use Rattle.std.specs.Prelude.{Option}
+use Rattle.std.proofs.Common.{◌≡◌, ◌+◌, ◌-◌, ◌≤◌, ◌++◌, ℕ, List, length, take, Option}
 use Rattle.engine_core.specs.Sessions.{Start}
 use Rattle.engine_core.specs.Serving.{Judges, IsSound}
 use Rattle.engine_core.proofs.session.Session.fill.Given as goal
