@@ -1,31 +1,30 @@
 -- What a session did, whatever ended it.
-use Rattle.std.proofs.Common.{◌≡◌, ◌≢◌, ◌⊎◌, inl, inr, ⊎_elim, ℕ, List, [], ◌++◌, length, take, drop, refl, sym, ap, subst, ◌∙◌, append_assoc, arith}
+use Rattle.std.proofs.Common.{◌≡◌, ◌≢◌, inl, inr, ⊎_elim, ℕ, List, [], ◌++◌, length, take, drop, refl, sym, ap, subst, ◌∙◌, append_assoc, arith}
 use Rattle.std.specs.Prelude.{Option, Some, min}
 use Rattle.std.proofs.lemmas.List.{append-nil, take-append-drop}
 use Rattle.host_core.specs.declared.status.Status.{Status}
-use Rattle.host_core.specs.declared.status.Status.TheVariants.{Usage, ReadFault, SendFault, DiskFault, Damaged, NoJournal, NoMemory, BadText}
+use Rattle.host_core.specs.declared.status.Status.TheVariants.{Damaged, NoJournal, NoMemory}
 use Rattle.host_core.specs.Outside.{Outside, Agrees, MayLeave, Elapses, Ends, IsSettled, Continues}
 use Rattle.host_core.proofs.Moments.{widened, goes_on, ended, returned, further}
-use Rattle.host_core.proofs.Causes.{faultless, no_fault}
-use Rattle.host_core.proofs.Chains.{reads_nothing}
+use Rattle.host_core.specs.Frames.{OnlyReadsDisk}
+use Rattle.host_core.proofs.Causes.{faultless}
 use Rattle.wire_in.specs.declared.base.Base.{Base}
 use Rattle.wire_in.specs.declared.record.Record.{Record}
 use Rattle.wire_in.specs.Cutting.{bodies_of}
-use Rattle.journal_core.specs.Layout.{Holds, HoldsTo}
-use Rattle.journal_core.specs.Extended.{Extends, IsGrown}
-use Rattle.engine_core.proofs.Reading.{held_all}
+use Rattle.journal_core.specs.Layout.{Holds}
+use Rattle.journal_core.specs.Extended.{Extends}
+use Rattle.engine_core.proofs.Reading.{held_all, up_to}
 use Rattle.journal_core.specs.Journal.{JournalState, IsAtRest}
 use Rattle.journal_core.specs.Walk.{HasNoHeader}
 use Rattle.journal_core.proofs.OneList.{alone}
 use Rattle.journal_core.proofs.Readable.{readable}
-use Rattle.engine_core.specs.declared.session.Session.{Session}
 use Rattle.stream_core.specs.Taking.{ReadsAtMost}
 use Rattle.engine_core.specs.Ends.{Told}
-use Rattle.stream_core.specs.Pending.{SendsPrefix, SentPrefix}
+use Rattle.stream_core.specs.Pending.{SentPrefix}
 use Rattle.engine_core.specs.Serving.{Reads, Leaves}
 use Rattle.engine_core.specs.Sessions.{expected}
 use Rattle.engine_core.proofs.Asking.{no_ask, more_asks}
-use Rattle.engine_core.proofs.Expecting.{Begins as BeginsBytes, keeping_further, safe_of, safe_more, safe_further, added, expected-more}
+use Rattle.engine_core.proofs.Expecting.{keeping_further, safe_of, safe_more, safe_further, added, expected-more}
 use Rattle.stream_core.proofs.Pending.{prefix_sent}
 use Rattle.stream_core.proofs.Taken.{takes_none, takes_between}
 use Rattle.engine_core.specs.Sessions as engine
@@ -34,22 +33,17 @@ use Rattle.journal_core.proofs.Extending.{extends_same, extends_on, grown_small}
 use Rattle.live_core.specs.declared.start.Serving.{Serving}
 use Rattle.live_core.specs.Safe.{Begin, Begins, start_of, IsSafe, IsSafeOrPending}
 use Rattle.recovery_core.specs.Damage.{IsDamagedAt, StopsAtDamage}
-use Rattle.recovery_core.specs.Ends.{TellsDamage}
-use Rattle.live_core.specs.Ends.{Answered, IsAnswer, IsKept, IsUnserved}
+use Rattle.recovery_core.specs.Ends.{TellsDamage, TellsNoStart}
+use Rattle.live_core.specs.Ends.{Answered, IsKept, IsUnserved}
 use Rattle.live_core.specs.Written.{HasGrown}
 use Rattle.live_core.specs.Served.{Served}
 use Rattle.live_core.specs.InternalKeeping.{Regains, held_now}
 use Rattle.recovery_core.specs.Origins.{again}
-use Rattle.recovery_core.specs.Recoveries.{IsReadThrough, StarvesOn, HasDamage, Hinders}
-use Rattle.live_core.specs.InternalServing.{IsRestored, IsUnread, Serves, IsAnswered}
-use Rattle.recovery_core.proofs.Held.{short_damaged, short_held}
+use Rattle.recovery_core.specs.Recoveries.{IsReadThrough, Hinders}
+use Rattle.live_core.specs.InternalServing.{IsHindered, IsRestored, IsUnread, Serves, IsAnswered}
+use Rattle.recovery_core.proofs.Held.{damaged_headed, short_damaged, short_held}
 use Rattle.recovery_core.proofs.OneDamage.{one_damage, lawful_undamaged, read_headed, read_undamaged}
-use Rattle.recovery_core.proofs.Recovering.{why_at}
-use Rattle.live_core.proofs.Restoring.{one_disk, unbegun}
-
--- what is told is an answer
-answers : (status : Status) (old new : Outside) → Told status old new → IsAnswer status
-answers status old new told = grind arith
+use Rattle.live_core.proofs.Restoring.{one_disk, reads_only}
 
 -- The stops.
 
@@ -63,7 +57,7 @@ settle : {begin : Begin} {input : List ℕ} (start : Outside) → Begins begin i
 settle start begins settled bodies image bytes (inl safe) = safe
 settle {begin} start begins settled bodies image bytes (inr pending) =
     safe_of _ (start_of begin) [] bodies image bytes [] (expected (start_of begin) [])
-    (subst (λ i. Holds i begin.capacity begin.held) (one_disk begins.disk_known (settled.only image pending.was)) begins.holds)
+    (rw (one_disk begins.disk_known (settled.only image pending.was)) at begins.holds)
     (λ content is. pending.unsent ∙ sym (append-nil begin.sent) ∙ one_disk refl is) refl
 
 -- what was sent at a stop
@@ -86,12 +80,7 @@ part_of start begin bodies image bytes (inr pending) =
 
 hinders_damage : (damaged : ℕ → Type 0) (missing starved : Type 0) (s : Status) (old new : Outside) (at : ℕ) → Hinders damaged missing starved s old new → ¬ missing → ((other : ℕ) → damaged other → other ≡ at)
     → TellsDamage at s
-hinders_damage damaged missing starved (Damaged other) old new at why has offset = inl (ap (λ k. Damaged k) (offset other why.1))
-hinders_damage damaged missing starved s old new at why has offset = grind arith
-
-pub answered_as : {most : ℕ} {before after : JournalState} {session : Session} {old new : Outside} {s same : Status} → same ≡ s → IsAnswered most before after session s old new
-    → IsAnswered most before after session same old new
-answered_as {most} {before} {after} {session} {old} {new} is = subst (λ s. IsAnswered most before after session s old new) (sym is)
+hinders_damage damaged missing starved s old new at why has offset = grind (arith, offset)
 
 module _ (here : Type 0) (workers : ℕ) (from : Option ℕ) (batch most : ℕ) (status : Status) (old new : Outside)
     (sent_now : (image bytes : List ℕ) → new.leaves new.moment image bytes → Agrees new.sent bytes) (read_passes : (disk : List ℕ) → new.disk ≡ Some disk → MayLeave new disk)
@@ -100,9 +89,6 @@ module _ (here : Type 0) (workers : ℕ) (from : Option ℕ) (batch most : ℕ) 
   module _ (serves : (begin : Begin) (input : List ℕ) → begin.from ≡ from → Begins begin input old → Serves here workers from batch begin input most status old new)
       (continues : Continues old new) (told : Told status old new)
       (unserved : IsUnserved status → IsUnread here workers from status old new) (unsound : (disk : List ℕ) → old.disk ≡ Some disk → ¬ IsReadThrough disk → IsUnread here workers from status old new) where
-    told_at : (s : Status) → status ≡ s → Told s old new
-    told_at s is = subst (λ s. Told s old new) is told
-
     module _ (begin : Begin) (input : List ℕ) (same : begin.from ≡ from) (begins : Begins begin input old) where
       ends_by : {stops : List ℕ → List ℕ → Type 0} → Elapses old new stops → Ends stops new
       ends_by run = returned run continues sent_now read_passes begins.disk begin.sent begins.disk_known begins.sent_known
@@ -113,24 +99,20 @@ module _ (here : Type 0) (workers : ℕ) (from : Option ℕ) (batch most : ℕ) 
       part : SentPrefix old.sent new.sent (expected (start_of begin) (bodies_of (take most input)))
       part = rw (begins.sent_known, ends.sent_known) (part_of old begin (bodies_of (take most input)) ends.image ends.bytes ends.left)
 
-    headless : (disk : List ℕ) → old.disk ≡ Some disk → HasNoHeader disk → IsUnread here workers from status old new
-    headless disk known none = unsound disk known (λ read. read_headed read none)
+    headless : (disk : List ℕ) → old.disk ≡ Some disk → HasNoHeader disk → TellsNoStart status × (status ≡ NoMemory → here) × OnlyReadsDisk old new
+    headless disk known none = (unsound disk known (λ read. read_headed read none)).no_header disk known none
 
     damaged : {capacity at : ℕ} {base : Option Base} {before : List Record} {disk : List ℕ} → old.disk ≡ Some disk → IsDamagedAt capacity at base before disk → IsUnread here workers from status old new
     damaged {disk = disk} known damage = unsound disk known (λ read. read_undamaged damage read)
 
     damage_part : (capacity at : ℕ) (base : Option Base) (before : List Record) (disk : List ℕ) → old.disk ≡ Some disk → IsDamagedAt capacity at base before disk → SentPrefix old.sent new.sent (again from base before)
     damage_part capacity at base before disk known damage = prefix_sent old old.sent new.sent (again from base before) continues.sent (λ sent is.
-        let now = stops_now sent is in (
-          now.0,
-          subst (λ bytes. SendsPrefix old.sent (again from base before) old now.0 bytes) (sent_now now.0 now.1.bytes now.1.left sent is)
-              (ended ((damaged known damage).damage_moments capacity at base before disk known damage) now.1),
-        ))
+        let now = stops_now sent is in
+        (now.0, rw (sent_now now.0 now.1.bytes now.1.left sent is) at (ended ((damaged known damage).damage_moments capacity at base before disk known damage) now.1)))
 
     -- why there was no session
-    why : (s : Status) → status ≡ s → IsUnserved s → Hinders (λ at. (disk : List ℕ) → old.disk ≡ Some disk → HasDamage at disk) ((disk : List ℕ) → old.disk ≡ Some disk → HasNoHeader disk)
-        (here ⊎ ((disk : List ℕ) → old.disk ≡ Some disk → StarvesOn workers from old.sent disk new)) s old new
-    why s is un = why_at _ _ _ old new s is (unserved (subst IsUnserved (sym is) un)).hinders
+    why : (s : Status) → status ≡ s → IsUnserved s → IsHindered here workers from s old new
+    why s is un = rw is at (unserved (rw is un)).hinders
 
     stops : (at : ℕ) → status ≡ Damaged at → (disk : List ℕ) → old.disk ≡ Some disk → StopsAtDamage from old.sent at disk new
     stops at is disk known =
@@ -150,41 +132,42 @@ module _ (here : Type 0) (workers : ℕ) (from : Option ℕ) (batch most : ℕ) 
       part = part;
       prompt = λ begin input same begins. (serves begin input same begins).prompt;
       starved = λ begin input same begins. (serves begin input same begins).starved begins.disk begins.disk_known begins.holds;
-      no_journal = λ is. (why NoJournal is tt).1;
-      no_header = λ disk known none. ((headless disk known none).no_header disk known none).0;
-      no_header_starved = λ disk known none. (headless disk known none).no_header_starved disk known none;
-      unsent = λ is. (unserved (subst IsUnserved (sym is) tt)).unsent is;
+      no_journal = λ is. (why NoJournal is tt).1.1;
+      no_header = λ disk known none. ⊎_elim (λ told. told) (λ there. absurd (damaged_headed (stops there.0 there.1 disk known).damaged none)) (headless disk known none).0;
+      no_header_starved = λ disk known none. (headless disk known none).1;
+      unsent = λ is. (why NoJournal is tt).1.0.sent;
       left_alone = λ disk known none.
-          record { input = (headless disk known none).keeps.input; sent = ((headless disk known none).no_header disk known none).1; disk = (headless disk known none).keeps.disk };
+          let reads = (headless disk known none).2 in
+          record { input = reads.input; sent = reads.sent; disk = reads.disk };
       damaged = stops;
       undamaged = undamaged;
       damage_is_told = λ capacity at base before disk known damage has.
-          hinders_damage _ _ _ status old new at (damaged known damage).hinders (λ missing. has (missing disk known))
+          hinders_damage _ _ _ status old new at (damaged known damage).hinders (λ missing. has (missing.1 disk known))
           (λ other there. one_damage (there disk known).3 damage);
       damage_is_left = λ capacity at base before disk known damage. (damaged known damage).keeps.disk;
       damage_is_unserved = λ capacity at base before disk known damage. (damaged known damage).keeps.input;
       damage_part = damage_part;
       damage_moments = λ capacity at base before disk known damage. (damaged known damage).damage_moments capacity at base before disk known damage;
       damage_starved = λ capacity at base before disk known damage is.
-          ⊎_elim (λ now. inl now) (λ hungry. inr (short_damaged from new damage (hungry disk known))) (why_at _ _ _ old new NoMemory is (damaged known damage).hinders).1;
+          ⊎_elim (λ now. inl now) (λ hungry. inr (short_damaged from new damage (hungry disk known))) (rw is at (damaged known damage).hinders).1;
       untouched = λ un. (unserved un).keeps.disk;
       input_is_left = λ un. (unserved un).keeps.input;
       written = record {
         extends = extends;
         unwritten = λ begin input same begins. (serves begin input same begins).unwritten;
-        headless = λ disk known none. (headless disk known none).headless disk known none;
+        headless = λ disk known none. reads_only (headless disk known none).2;
         stops = λ begin input same begins. (serves begin input same begins).stops;
         at_return = λ begin input same begins. ends_by begin input same begins (serves begin input same begins).stops;
       };
       bytes = bytes;
       complete = λ begin input begins memory no_reads no_sends no_disks.
-          let journal : status ≢ NoJournal = λ is. readable.header begins.disk begin.capacity begin.held begins.holds ((why NoJournal is tt).1 begins.disk begins.disk_known) in
+          let journal : status ≢ NoJournal = λ is. readable.header begins.disk begin.capacity begin.held begins.holds ((why NoJournal is tt).1.1 begins.disk begins.disk_known) in
           grind (arith, told, journal, undamaged begin input begins, memory, no_reads, no_sends, no_disks);
-      read_cause = told_at ReadFault;
-      send_cause = told_at SendFault;
-      disk_cause = told_at DiskFault;
-      memory = told_at NoMemory;
-      kind = answers status old new told;
+      read_cause = λ is. rw is at told;
+      send_cause = λ is. rw is at told;
+      disk_cause = λ is. rw is at told;
+      memory = λ is. rw is at told;
+      kind = grind (arith, told);
       continues = continues;
     }
 
@@ -194,10 +177,10 @@ module _ (here : Type 0) (workers : ℕ) (from : Option ℕ) (batch most : ℕ) 
       served (λ begin input same begins. record {
         moments = widened (u.moments begin input same begins) _ (first_stops old begin (bodies_of (take most input)));
         exact = λ end. absurd (grind (arith, u.hinders));
-        unread = λ is. absurd (why_at _ _ _ old new ReadFault is u.hinders);
+        unread = λ is. absurd (rw is at u.hinders);
         prompt = no_ask (start_of begin) input u.keeps.asks;
         starved = λ disk known holds is. ⊎_elim (λ now. inl now) (λ hungry. inr (⊎_elim (λ base. inl base) (λ behind. inr (inl behind)) (short_held new holds (hungry disk known))))
-            (why_at _ _ _ old new NoMemory is u.hinders).1;
+            (rw is at u.hinders).1;
         unwritten = λ none. u.nothing begin input same begins;
         stops = widened (u.nothing begin input same begins).moments _ (λ image bytes left. inl left);
       })
@@ -205,19 +188,20 @@ module _ (here : Type 0) (workers : ℕ) (from : Option ℕ) (batch most : ℕ) 
       (takes_none most old.input new.input u.keeps.input)
 
   -- A session that answered.
-  module _ {mid : Outside} (serving : Serving) (journal : JournalState) (r : IsRestored from serving old mid)
-      (a : IsAnswered most serving.keeper.journal journal serving.session status mid new) (frames : serving.session.round.most ≡ batch) where
+  module _ {mid : Outside} (serving : Serving) (journal : JournalState) (r : IsRestored from serving old mid) (frames : serving.session.round.most ≡ batch)
+      (by_rounds : IsAnswered serving.session.round.most most serving.keeper.journal journal serving.session status mid new) where
+    -- by batches of as many frames as were asked for
+    a : IsAnswered batch most serving.keeper.journal journal serving.session status mid new
+    a = subst (λ n. IsAnswered n most serving.keeper.journal journal serving.session status mid new) frames by_rounds
+
     module _ (begin : Begin) (input : List ℕ) (same : begin.from ≡ from) (begins : Begins begin input old) where
       reads : Reads (IsAtRest serving.keeper.journal) (start_of begin) input 0 serving.session mid
       reads = r.reads begin input same begins
 
-      whole : BeginsBytes (take most input) (take most input)
-      whole = record { more = []; whole = append-nil (take most input) }
-
       run : Elapses mid new (IsSafe begin (bodies_of (take most input)))
       run =
           widened (a.grows (start_of begin) input refl reads) _
-          (safe_further _ (start_of begin) whole (λ records image. Holds image begin.capacity records)
+          (safe_further _ (start_of begin) (up_to most most input (omega arith)) (λ records image. Holds image begin.capacity records)
           (λ records image k. subst (λ c. Holds image c records) (r.capacity begin input same begins) (record { gate = k.recovered.grown.next; held = k.recovered.grown.holds })))
 
       -- the last stop shows what capacity the journal has
@@ -226,29 +210,24 @@ module _ (here : Type 0) (workers : ℕ) (from : Option ℕ) (batch most : ℕ) 
         settled = rest.settled;
         holds = λ disk known.
             let now = held_now journal records new disk rest (read_passes disk known) in
-            subst (λ (capacity : ℕ). Holds disk capacity records) (alone.records disk journal.capacity begin.capacity records _ now (ended run (read_passes disk known)).recovered).0 now;
+            rw (alone.records disk journal.capacity begin.capacity records _ now (ended run (read_passes disk known)).recovered).0 at now;
       }
-
-      -- what is left by batches of as many frames as a round has is left by batches of as many as were asked for
-      grows : Elapses mid new (Leaves batch (λ records pending image. Regains serving.keeper.journal mid records pending image) (start_of begin) (bodies_of (take most input)))
-      grows = subst (λ n. Elapses mid new (Leaves n (λ records pending image. Regains serving.keeper.journal mid records pending image) (start_of begin) (bodies_of (take most input)))) frames
-          (a.grows (start_of begin) input refl reads)
 
       -- what grew from an image of the restored session grew from one of the start
       has_grown : {image bytes : List ℕ} → Leaves batch (λ records pending image. Regains serving.keeper.journal mid records pending image) (start_of begin) (bodies_of (take most input)) image bytes
           → HasGrown batch begin (bodies_of (take most input)) old image
       has_grown {image} safe =
+          let rest = held_all reads r.empty in
           let k = safe.recovered in
           let g = k.recovered in
           record {
             before = g.before;
             was = ended (r.nothing begin input same begins).moments g.was;
             gate = serving.keeper.journal.gate;
-            held = subst (λ c. HoldsTo c serving.keeper.journal.gate begin.held g.before) (r.capacity begin input same begins) ((held_all reads r.empty).keeps g.before ((held_all reads r.empty).settled.only g.before g.was)).held;
+            held = rw (r.capacity begin input same begins) at (rest.keeps g.before (rest.settled.only g.before g.was)).held;
             count = safe.count;
             within = safe.within;
-            grown = keeping_further whole k (subst (λ c. IsGrown c serving.keeper.journal.gate batch (engine.held_after (start_of begin) (take safe.count (bodies_of (take most input)))) k.pending g.before image)
-                (r.capacity begin input same begins) (grown_small batch k.small g.grown));
+            grown = keeping_further (up_to most most input (omega arith)) k (rw (r.capacity begin input same begins) at (grown_small batch k.small g.grown));
           }
 
       all_answered : (count : ℕ) → engine.Answered (IsAtRest journal) (start_of begin) input count new → Answered begin input count new
@@ -266,14 +245,10 @@ module _ (here : Type 0) (workers : ℕ) (from : Option ℕ) (batch most : ℕ) 
         prompt = more_asks (start_of begin) input (no_ask (start_of begin) input r.keeps.asks) (a.prompt (start_of begin) input refl reads);
         starved = λ disk known holds is. inr (inr (inr (a.starved (start_of begin) input refl reads is)));
         unwritten = λ none. still_nothing (r.nothing begin input same begins) (a.nothing (start_of begin) input refl reads none);
-        stops = goes_on (widened (r.nothing begin input same begins).moments _ (λ image bytes left. inl left)) grows (λ image bytes safe. inr (has_grown safe));
+        stops = goes_on (widened (r.nothing begin input same begins).moments _ (λ image bytes left. inl left)) (a.grows (start_of begin) input refl reads) (λ image bytes safe. inr (has_grown safe));
       }
 
     pub answered_served : Served here workers from batch most status old new
     answered_served =
         served serves (further r.keeps.continues a.continues) (grind (arith, faultless, r.none, a.told)) (λ un. absurd (a.served un)) (λ disk known un. absurd (un (r.sound disk known)))
-        (extends_on batch old mid new (extends_same r.keeps.disk r.keeps.continues.storing) (subst (λ n. Extends n mid new) frames a.extends)) (takes_between most old.input mid.input new.input new.input r.keeps.input refl a.bytes)
-
--- memory ran out before anything happened
-pub roomless : (here : Type 0) → here → (workers : ℕ) (from : Option ℕ) (now : Outside) → ((image bytes : List ℕ) → now.leaves now.moment image bytes → Agrees now.sent bytes) → IsUnread here workers from NoMemory now now
-roomless here before workers from now sent_now = unbegun here workers from NoMemory (reads_nothing now sent_now) (inl (inr (inr refl))) (no_fault now, inl before)
+        (extends_on batch old mid new (extends_same r.keeps.disk r.keeps.continues.storing) a.extends) (takes_between most old.input mid.input new.input new.input r.keeps.input refl a.bytes)

@@ -1,8 +1,9 @@
 -- A session whose journal was read to its end, and one whose journal was not.
 use Rattle.std.specs.Prelude.{◌≡◌, ◌⊎◌, ℕ, ◌<◌, ◌≤◌, List, [], length, min, take, true, Option, Some}
 use Rattle.host_core.specs.declared.status.Status.{Status}
-use Rattle.host_core.specs.declared.status.Status.TheVariants.{ReadFault, NoJournal, NoMemory}
+use Rattle.host_core.specs.declared.status.Status.TheVariants.{ReadFault, NoMemory}
 use Rattle.host_core.specs.Outside.{Outside, MayLeave, Elapses, NoFault, Continues}
+use Rattle.host_core.specs.Frames.{OnlyReadsDisk}
 use Rattle.wire_in.specs.declared.base.Base.{Base}
 use Rattle.wire_in.specs.Cutting.{bodies_of}
 use Rattle.wire_in.specs.declared.record.Record.{Record}
@@ -27,7 +28,7 @@ use Rattle.live_core.specs.declared.start.Serving.{Serving}
 use Rattle.live_core.specs.Safe.{Begin, Begins, start_of, IsSafeOrPending}
 use Rattle.recovery_core.specs.Damage.{IsDamagedAt}
 use Rattle.live_core.specs.Ends as ends
-use Rattle.recovery_core.specs.Ends.{TellsNoJournal}
+use Rattle.recovery_core.specs.Ends.{TellsNoStart}
 use Rattle.live_core.specs.Ends.{IsUnserved}
 use Rattle.recovery_core.specs.Origins.{again}
 use Rattle.recovery_core.specs.Starved.{StarvedAtBase, StarvedBehind}
@@ -63,19 +64,23 @@ pub record IsRestored (from : Option ℕ) (serving : Serving) (old new : Outside
   pub keeps : OnlyRecovers old new
   pub none : NoFault old new
 
+-- why no session begins: damage and the want of a journal are those of the disk, and want of memory comes before the first call or while
+-- the journal is read
+abbrev pub IsHindered : Type 0 → ℕ → Option ℕ → Status → Outside → Outside → Type 0
+IsHindered unbegun workers from status old new =
+    Hinders (λ at. (disk : List ℕ) → old.disk ≡ Some disk → HasDamage at disk) (OnlyReadsDisk old new × ((disk : List ℕ) → old.disk ≡ Some disk → HasNoHeader disk))
+    (unbegun ⊎ ((disk : List ℕ) → old.disk ≡ Some disk → StarvesOn workers from old.sent disk new)) status old new
+
 -- no session begins, for this reason
 pub record IsUnread (unbegun : Type 0) (workers : ℕ) (from : Option ℕ) (status : Status) (old new : Outside) : Type 0 where
   pub moments : (begin : Begin) (input : List ℕ) → begin.from ≡ from → Begins begin input old → Elapses old new (IsSafeOrPending old begin [])
   pub nothing : (begin : Begin) (input : List ℕ) → begin.from ≡ from → Begins begin input old → WritesNothing old new
   pub damage_moments : (capacity at : ℕ) (base : Option Base) (before : List Record) (disk : List ℕ) → old.disk ≡ Some disk → IsDamagedAt capacity at base before disk
       → Elapses old new (SendsPrefix old.sent (again from base before) old)
-  pub no_header : (disk : List ℕ) → old.disk ≡ Some disk → HasNoHeader disk → TellsNoJournal status × (new.sent ≡ old.sent)
-  pub no_header_starved : (disk : List ℕ) → old.disk ≡ Some disk → HasNoHeader disk → status ≡ NoMemory → unbegun
-  pub headless : (disk : List ℕ) → old.disk ≡ Some disk → HasNoHeader disk → WritesNothing old new
-  pub unsent : status ≡ NoJournal → new.sent ≡ old.sent
+  -- where no header stands, the disk is read and no more is done, and memory is short only before the first call
+  pub no_header : (disk : List ℕ) → old.disk ≡ Some disk → HasNoHeader disk → TellsNoStart status × (status ≡ NoMemory → unbegun) × OnlyReadsDisk old new
   pub keeps : OnlyRecovers old new
-  pub hinders : Hinders (λ at. (disk : List ℕ) → old.disk ≡ Some disk → HasDamage at disk) ((disk : List ℕ) → old.disk ≡ Some disk → HasNoHeader disk)
-      (unbegun ⊎ ((disk : List ℕ) → old.disk ≡ Some disk → StarvesOn workers from old.sent disk new)) status old new
+  pub hinders : IsHindered unbegun workers from status old new
 
 -- what a session did that began so, by batches of at most so many frames, up to so many bytes of this input
 pub record Serves (unbegun : Type 0) (workers : ℕ) (from : Option ℕ) (batch : ℕ) (begin : Begin) (input : List ℕ) (most : ℕ) (status : Status) (old new : Outside) : Type 0 where
@@ -88,17 +93,17 @@ pub record Serves (unbegun : Type 0) (workers : ℕ) (from : Option ℕ) (batch 
   pub unwritten : AcceptsNone (start_of begin) (bodies_of (take most input)) → WritesNothing old new
   pub stops : Elapses old new (λ image bytes. MayLeave old image ⊎ HasGrown batch begin (bodies_of (take most input)) old image)
 
--- the input was answered, up to so many bytes
-pub record IsAnswered (most : ℕ) (before after : JournalState) (session : Session) (status : Status) (old new : Outside) : Type 0 where
+-- the input was answered, by batches of at most so many frames, up to so many bytes
+pub record IsAnswered (batch most : ℕ) (before after : JournalState) (session : Session) (status : Status) (old new : Outside) : Type 0 where
   pub exact : (start : Start) (input : List ℕ) → start.acknowledges ≡ true → Reads (λ records now. IsAtRest before records now) start input 0 session old
       → IsEnd status → (status ≡ end_of most input) × Answered (λ records now. IsAtRest after records now) start input (min most (length input)) new
   pub unread : (start : Start) (input : List ℕ) → start.acknowledges ≡ true → Reads (λ records now. IsAtRest before records now) start input 0 session old
       → status ≡ ReadFault → (count : ℕ) × (count < most) × Answered (λ records now. IsAtRest after records now) start input count new
   pub nothing : (start : Start) (input : List ℕ) → start.acknowledges ≡ true → Reads (λ records now. IsAtRest before records now) start input 0 session old
       → AcceptsNone start (bodies_of (take most input)) → WritesNothing old new
-  pub extends : Extends session.round.most old new
+  pub extends : Extends batch old new
   pub grows : (start : Start) (input : List ℕ) → start.acknowledges ≡ true → Reads (λ records now. IsAtRest before records now) start input 0 session old
-      → Elapses old new (Leaves session.round.most (λ records pending image. Regains before old records pending image) start (bodies_of (take most input)))
+      → Elapses old new (Leaves batch (λ records pending image. Regains before old records pending image) start (bodies_of (take most input)))
   pub prompt : (start : Start) (input : List ℕ) → start.acknowledges ≡ true → Reads (λ records now. IsAtRest before records now) start input 0 session old
       → Prompt start input old.asks new.asks
   pub starved : (start : Start) (input : List ℕ) → start.acknowledges ≡ true → Reads (λ records now. IsAtRest before records now) start input 0 session old

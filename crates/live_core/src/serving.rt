@@ -65,7 +65,7 @@ fn answer<Rt: Threads + Sync, H: Host, G: Gate>(
     requires ready { IsReady (HasRoom serving.old.keeper.journal (H.outside host.old).disk) 64 serving.old.session }
     requires empty { serving.old.session.round.outcomes ≡ [] }
     requires fresh { serving.old.session.answered ≡ 0 }
-    ensures { IsAnswered bytes serving.old.keeper.journal serving.new.keeper.journal serving.old.session result (H.outside host.old) (H.outside host.new) }
+    ensures { IsAnswered serving.old.session.round.most bytes serving.old.keeper.journal serving.new.keeper.journal serving.old.session result (H.outside host.old) (H.outside host.new) }
 {
     answer_of(serve_input(
         rt,

@@ -1,21 +1,12 @@
 //! A replay over a host: reads, evaluates and sends, up to the end of the input or to so many bytes.
 
-ghost use Rattle.std.specs.Prelude.{◌≡◌, ◌≢◌, ◌⊎◌, ◌<◌, ◌≤◌, ℕ, List, Some, IfOk, Err, length, min, take};
-ghost use Rattle.host_core.specs.Outside.{Elapses, Continues};
-ghost use Rattle.host_core.specs.Faults.{Causes};
-ghost use Rattle.stream_core.specs.Pending.{SendsPrefix};
-ghost use Rattle.wire_in.specs.Cutting.{bodies_of};
-ghost use Rattle.stream_core.specs.Asking.{Prompt};
-ghost use Rattle.engine_core.specs.Sessions.{Starved};
-ghost use Rattle.stream_core.specs.Ends.{IsEnd, end_of};
-ghost use Rattle.stream_core.specs.Taking.{ReadsAtMost};
+ghost use Rattle.std.specs.Prelude.{◌≡◌, ◌<◌, ◌≤◌, IfOk, length};
 ghost use Rattle.replay_core.specs.InternalSession.{IsFresh};
-ghost use Rattle.stream_core.specs.Answering.{HasAnswered};
-ghost use Rattle.replay_core.specs.Replayed.{replay_text, replay_start, IsAnswer, LeavesDisk, Replayed};
+ghost use Rattle.replay_core.specs.Replayed.{Replayed};
 
 use crate::keeper::NoKeeper;
 use engine_core::{Engine, Round, Session, serve_input};
-use host_core::{Fault, Host, Status};
+use host_core::{Host, Status};
 use price_core::NoMemory;
 use std::alloc::Global;
 use std::thread::Threads;
@@ -68,44 +59,23 @@ fn begin(alloc: Global, workers: u32) -> Result<Session, NoMemory>
     Ok(Session::new(engine, round, outbox))
 }
 
-/// Answers the input over no records, up to its end or up to so many bytes.
-fn answer_input<Rt: Threads + Sync, H: Host, G: Gate>(
-    rt: &Rt,
-    alloc: Global,
-    host: &mut H,
-    gate: &G,
-    options: &ReplayOptions,
-) -> Result<Status, Fault>
-    requires workers { (1 ≤ options.now.workers) × (options.now.workers ≤ 64) }
-    requires bytes { options.now.bytes ≤ BYTES_MAX }
-    ensures exact { (input : List ℕ) → (H.outside host.old).input ≡ Some input
-        → IfOk result (λ status. (status ≡ end_of options.now.bytes input) × HasAnswered replay_text (H.outside host.old).sent input (min options.now.bytes (length input)) (H.outside host.new)) }
-    ensures end { IfOk result (λ status. IsEnd status × IsAnswer status) }
-    ensures unread { (input : List ℕ) → (H.outside host.old).input ≡ Some input → result ≡ Err Fault.Read
-        → (count : ℕ) × (count < options.now.bytes) × HasAnswered replay_text (H.outside host.old).sent input count (H.outside host.new) }
-    ensures moments { (input : List ℕ) → (H.outside host.old).input ≡ Some input
-        → Elapses (H.outside host.old) (H.outside host.new) (SendsPrefix (H.outside host.old).sent (replay_text (take options.now.bytes input)) (H.outside host.old)) }
-    ensures prompt { (input : List ℕ) → (H.outside host.old).input ≡ Some input
-        → Prompt replay_text (H.outside host.old).sent input (H.outside host.old).asks (H.outside host.new).asks }
-    ensures starved { (input : List ℕ) → (H.outside host.old).input ≡ Some input → result ≡ Err Fault.Memory
-        → (host.new ≡ host.old) ⊎ Starved (replay_start options.now.workers (H.outside host.old).sent) (bodies_of (take options.now.bytes input)) (H.outside host.new) }
-    ensures bytes { ReadsAtMost options.now.bytes (H.outside host.old).input (H.outside host.new).input }
-    ensures unkept { result ≢ Err Fault.Disk }
-    ensures disk { LeavesDisk (H.outside host.old) (H.outside host.new) }
-    ensures continues { Continues (H.outside host.old) (H.outside host.new) }
-    ensures causes { Causes result (H.outside host.old) (H.outside host.new) }
+/// What is needed before the host is called.
+#[derive(Drop)]
+struct Room {
+    session: Session,
+    buffer: Vec<u8>,
+}
+
+/// Takes the room.
+fn take_room(alloc: Global, workers: u32) -> Result<Room, NoMemory>
+    requires workers { (1 ≤ workers) × (workers ≤ 64) }
+    ensures fresh { IfOk result (λ room. IsFresh workers room.session) }
+    ensures buffer { IfOk result (λ room. 0 < length room.buffer.items) }
 {
-    let mut session = begin(alloc, options.workers)?;
-    let mut buffer = vec![in alloc; 0; piece_of(options.workers)]?;
-    serve_input(
-        rt,
-        &mut session,
-        &mut NoKeeper,
-        host,
-        gate,
-        &mut buffer,
-        options.bytes,
-    )
+    Ok(Room {
+        session: begin(alloc, workers)?,
+        buffer: vec![in alloc; 0; piece_of(workers)]?,
+    })
 }
 
 /// Evaluates the frames of an input over no records, up to its end or up to so many bytes of it, and sends the messages
@@ -121,5 +91,16 @@ pub fn replay<Rt: Threads + Sync, H: Host, G: Gate>(
     requires bytes { options.now.bytes ≤ BYTES_MAX }
     ensures replayed { Replayed (host.new ≡ host.old) options.now.workers options.now.bytes result (H.outside host.old) (H.outside host.new) }
 {
-    answer_of(answer_input(rt, alloc, host, gate, options))
+    let Ok(mut room) = take_room(alloc, options.workers) else {
+        return Status::NoMemory;
+    };
+    answer_of(serve_input(
+        rt,
+        &mut room.session,
+        &mut NoKeeper,
+        host,
+        gate,
+        &mut room.buffer,
+        options.bytes,
+    ))
 }

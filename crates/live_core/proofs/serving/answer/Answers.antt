@@ -1,10 +1,9 @@
 use Rattle.std.proofs.Common.{arith}
 use Rattle.engine_core.proofs.Statuses.{at_an_end, at_a_read, at_no_memory, told_of}
-use Rattle.live_core.proofs.Served.{answered_as}
 use Rattle.live_core.proofs.serving.answer.Goals as goal
 
 pub returns : goal.returns
-returns g c = answered_as c.answer_of.ensures (record {
+returns g c = rw c.answer_of.ensures (record {
   exact = λ start input same reads. at_an_end c.serve_input.result _ (c.serve_input.ensures.exact start input same reads);
   unread = λ start input same reads is. c.serve_input.ensures.unread start input same reads (at_a_read c.serve_input.result c.serve_input.ensures.end is);
   grows = c.serve_input.ensures.moments;

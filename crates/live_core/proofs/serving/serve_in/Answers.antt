@@ -7,7 +7,7 @@ pub returns-in-Ok : goal.returns-in-Ok
 returns-in-Ok g c = record {
   served =
       answered_served _ _ _ _ _ _ _ _ (g.met.H.Host.sent_now c.answer.new.host) (g.met.H.Host.read_passes c.answer.new.host) (g.met.H.Host.stops_now c.answer.new.host)
-      c.in-Ok.serving c.answer.new.serving.keeper.journal c.in-Ok.ensures.restored c.answer.ensures (c.in-Ok.ensures.frames ∙ c.requires.frames);
+      c.in-Ok.serving c.answer.new.serving.keeper.journal c.in-Ok.ensures.restored (c.in-Ok.ensures.frames ∙ c.requires.frames) c.answer.ensures;
 }
 
 -- no session began

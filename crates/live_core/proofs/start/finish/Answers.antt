@@ -1,6 +1,4 @@
-use Rattle.std.proofs.Common.{◌≡◌, [], sym, subst, arith, rules}
-use Rattle.engine_core.specs.Serving.{IsReady}
-use Rattle.live_core.specs.InternalKeeping.{HasRoom}
+use Rattle.std.proofs.Common.{◌≡◌, [], rules}
 use Rattle.live_core.proofs.start.finish.Goals as goal
 
 pub returns : goal.returns
@@ -12,18 +10,4 @@ returns c =
       outbox = c.new.ensures.outbox i;
       answered = c.new.ensures.answered i;
     } in
-    record {
-      keeps = c.finish.ensures.keeps;
-      capacity = c.finish.ensures.capacity;
-      ready = λ known reading. subst (λ s. IsReady (HasRoom c.finish.result known) 64 s) (sym session) (record {
-        sound = search rules;
-        room = record {
-          whole = c.finish.ensures.whole;
-          of_disk = c.finish.ensures.of_disk known reading.of_disk;
-          room = λ n le. omega (arith, le, reading.small, c.finish.ensures.capacity, c.finish.ensures.count, reading.capacity, reading.count);
-        };
-        some = c.requires.most.0;
-        most = c.requires.most.1;
-      });
-      session = session;
-    }
+    search (rules, session, c.finish.ensures.of_disk)

@@ -1,9 +1,6 @@
-use Rattle.std.proofs.Common.{◌+◌, arith}
+use Rattle.std.proofs.Common.{arith}
 use Rattle.engine_core.proofs.Answering.{drop_one}
 use Rattle.rehearse_core.proofs.rehearsal.evaluate_each.Goals as goal
-
-pub loop-x-init : goal.loop-x-init
-loop-x-init c = record { sound = c.requires.sound; more = omega arith; rehearses = λ all left was. was }
 
 pub loop-x-preserved : goal.loop-x-preserved
 loop-x-preserved c =

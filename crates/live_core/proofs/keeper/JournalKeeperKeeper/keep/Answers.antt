@@ -1,24 +1,28 @@
-use Rattle.std.proofs.Common.{List, length, ap, subst, arith}
-use Rattle.host_core.specs.Outside.{Elapses}
+use Rattle.std.proofs.Common.{List, length, sym, ap, ◌∙◌, arith}
+use Rattle.host_core.specs.Outside.{Outside, Elapses, written}
+use Rattle.host_core.proofs.Known.{mapped}
+use Rattle.host_core.proofs.Moments.{widened}
 use Rattle.wire_in.specs.declared.record.Record.{Record}
+use Rattle.journal_core.specs.Journal.{JournalState, Appends}
+use Rattle.journal_core.specs.Layout.{stored_batch}
+use Rattle.journal_core.proofs.Appended.{adds_by}
+use Rattle.journal_core.proofs.Extending.{extends_by, extends_failed, grown_behind, only_disk}
+use Rattle.journal_core.proofs.Offsets.{gate_reaches}
 use Rattle.engine_core.specs.Serving.{Keeps}
 use Rattle.live_core.specs.InternalKeeping.{Regains}
-use Rattle.journal_core.specs.Journal.{IsAtRest}
-use Rattle.journal_core.specs.Layout.{with_batch}
-use Rattle.journal_core.proofs.Offsets.{gate_reaches}
-use Rattle.journal_core.proofs.Extending.{extends_by, extends_failed, only_disk}
-use Rattle.live_core.proofs.Regaining.{kept_by, regained_on}
 use Rattle.live_core.proofs.keeper.JournalKeeperKeeper.keep.Goals as goal
 
+-- what a stop of an append leaves
+kept_by : (journal : JournalState) {records batch : List Record} {old new : Outside} → Elapses old new (Appends journal.capacity journal.gate records batch old)
+    → Elapses old new (Keeps (λ r p i. Regains journal old r p i) records batch old)
+kept_by journal {batch = batch} {old = old} run =
+    widened run _ (λ image bytes stop. record { adds = adds_by {wider = λ r p. Regains journal old r p image} (λ held pending grown. record { before = stop.before; was = stop.was; most = length batch; grown = grown }) stop.grown; sent = stop.sent })
+
 pub returns-in_err-append-clause-moments : goal.returns-in_err-append-clause-moments
-returns-in_err-append-clause-moments g c = λ records rest.
-    subst (λ (batch : List Record). Elapses (g.H.Host.outside c.args.host.now) (g.H.Host.outside c.append.new.host) (Keeps (Regains c.args.self.now.journal (g.H.Host.outside c.args.host.now)) records batch (g.H.Host.outside c.args.host.now)))
-    c.refill.ensures (kept_by c.args.self.now.journal (c.append.ensures.moments records rest))
+returns-in_err-append-clause-moments g c = λ records rest. rw c.refill.ensures at (kept_by c.args.self.now.journal (c.append.ensures.moments records rest))
 
 pub returns-clause-moments : goal.returns-clause-moments
-returns-clause-moments g c = λ records rest.
-    subst (λ (batch : List Record). Elapses (g.H.Host.outside c.args.host.now) (g.H.Host.outside c.append.new.host) (Keeps (Regains c.args.self.now.journal (g.H.Host.outside c.args.host.now)) records batch (g.H.Host.outside c.args.host.now)))
-    c.refill.ensures (kept_by c.args.self.now.journal (c.append.ensures.moments records rest))
+returns-clause-moments g c = λ records rest. rw c.refill.ensures at (kept_by c.args.self.now.journal (c.append.ensures.moments records rest))
 
 pub append-requires-clause-gate : goal.append-requires-clause-gate
 append-requires-clause-gate g c = gate_reaches c.requires.room.of_disk
@@ -33,11 +37,19 @@ pub returns-clause-touches : goal.returns-clause-touches
 returns-clause-touches g c =
     extends_by _ _ _ c.args.self.now.journal c.refill.new.batch (omega (arith, ap length c.refill.ensures)) c.append.ensures.keeps.continues.storing c.requires.room.of_disk c.in_ok-append.ensures.valid c.in_ok-append.ensures.written
 
+-- what grew from the image after the append grew from the one before it
 pub returns-clause-before : goal.returns-clause-before
-returns-clause-before g c =
-    regained_on _ _ c.args.self.now.journal c.append.new.self c.refill.new.batch c.append.ensures.capacity c.in_ok-append.ensures.next (gate_reaches c.requires.room.of_disk)
-    c.in_ok-append.ensures.settled c.in_ok-append.ensures.written (g.met.H.Host.read_passes c.args.host.now)
+returns-clause-before g c = λ records pending image r.
+    let batch = c.refill.new.batch in
+    let from = mapped (written c.args.self.now.journal.gate (stored_batch batch)) (g.H.Host.outside c.args.host.now).disk r.before
+    (sym c.in_ok-append.ensures.written ∙ c.in_ok-append.ensures.settled.only r.before r.was) in
+    record {
+      before = from.0;
+      was = g.met.H.Host.read_passes c.args.host.now from.0 from.1;
+      most = r.most;
+      grown = grown_behind batch (omega (arith, gate_reaches c.requires.room.of_disk from.0 from.1))
+          (rw (c.append.ensures.capacity, c.in_ok-append.ensures.next, sym from.2) at r.grown);
+    }
 
 pub returns-clause-held : goal.returns-clause-held
-returns-clause-held g c = λ records rest.
-    subst (λ (batch : List Record). IsAtRest c.append.new.self (with_batch records batch) (g.H.Host.outside c.append.new.host)) c.refill.ensures (c.in_ok-append.ensures.stored records rest)
+returns-clause-held g c = λ records rest. rw c.refill.ensures at (c.in_ok-append.ensures.stored records rest)

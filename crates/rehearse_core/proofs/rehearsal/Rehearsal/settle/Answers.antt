@@ -1,4 +1,4 @@
-use Rattle.std.proofs.Common.{ap, ◌∙◌}
+use Rattle.std.proofs.Common.{ap}
 use Rattle.engine_core.specs.declared.engine.Engine.{Engine}
 use Rattle.replay_core.specs.Replayed.{capacity}
 use Rattle.rehearse_core.specs.InternalRehearsal.{accepted_by}
