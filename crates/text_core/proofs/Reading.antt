@@ -1,11 +1,11 @@
 -- The input, read piece by piece, and the end of a stream.
-use Rattle.std.proofs.Common.{◌≡◌, ◌⊎◌, inl, inr, ℕ, ◌+◌, ◌-◌, ◌≤◌, cond, Bool, true, false, not, List, [], length, take, drop, refl, sym, ap, subst, ◌∙◌, arith}
+use Rattle.std.proofs.Common.{◌≡◌, ◌⊎◌, inl, inr, ℕ, ◌-◌, ◌≤◌, cond, Bool, true, false, not, List, [], length, take, drop, refl, sym, ap, subst, ◌∙◌, arith}
 use Rattle.std.specs.Prelude.{Option, nat_lt, nat_le, ◌&&◌}
 use Rattle.std.specs.List.{concat}
 use Rattle.std.proofs.Math.Seq.{take-add}
 use Rattle.std.proofs.lemmas.List.{append-nil, take_all}
 use Rattle.std.proofs.lemmas.Bool.Decides.{nat_tests}
-use Rattle.host_core.specs.declared.status.Status.TheVariants.{SessionFull, BadText}
+use Rattle.host_core.specs.declared.status.Status.TheVariants.{SessionFull}
 use Rattle.host_core.specs.Outside.{Outside}
 use Rattle.stream_core.specs.Answering.{IsThrough}
 use Rattle.text_core.specs.declared.kind.Kind.{Kind}
@@ -76,8 +76,7 @@ module _ {given : Given} {count most : ℕ} {waiting : List ℕ} {translation : 
       → ending_of given.task writer (rest_of given.task (take count given.input)) count most ≡ end_of given.task given.kind most given.input
   ends_so {writer} {next} {sent} answers =
       let whole : Answers given.task given.kind given.begin (units_within given.task most given.input) writer next sent = answers_same agrees.0 answers in
-      (λ i. cond (whole.bad_is i) (BadText (whole.number_is i + 1)) (cond (nat_le most count) SessionFull (end_of_input given.task (rest_of given.task (take count given.input)))))
-      ∙ elim agrees.1 [ inl bad ↦ rw bad | inr same ↦ rw same ]
+      grind (arith, agrees.1)
 
 -- the frame that is begun at the end
 pub cutter_rest : (task : Task) {kind : Kind} {begin : Option (List ℕ)} {read : List ℕ} {translator : Translator} {waiting : List ℕ} {sent : Option (List ℕ)} (cutter : List ℕ) (bad : Bool) → Reads task kind begin read translator waiting sent

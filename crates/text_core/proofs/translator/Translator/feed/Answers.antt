@@ -1,4 +1,4 @@
-use Rattle.std.proofs.Common.{ℕ, ◌++◌, List, length, take, drop, sym, ap, ◌∙◌, append_assoc, arith}
+use Rattle.std.proofs.Common.{ℕ, ◌++◌, List, length, take, drop, sym, ap, append_assoc, arith}
 use Rattle.std.proofs.Math.Seq.{take-add}
 use Rattle.std.proofs.lemmas.List.{append-nil, take_all, take_rest, length-drop, take-append-drop}
 use Rattle.std.proofs.lemmas.Bool.Decides.{nat_tests}
@@ -37,9 +37,8 @@ loop-at-preserved g c =
     let piece = c.args.piece.now in
     let at = c.loop-at.at in
     let n = c.in_ok-at.field-0 in
-    let left = ap length (take_rest piece at) ∙ length-drop at piece in
     record {
-      within = omega (arith, c.in_ok-at.ensures.used.1, left, c.loop-at.invariant.within);
+      within = omega (arith, c.in_ok-at.ensures.used.1, ap length (take_rest piece at), length-drop at piece, c.loop-at.invariant.within);
       few = omega (arith, c.loop-at.invariant.few, c.in_ok-at.ensures.few, c.in_ok-at.ensures.used.0);
       reads = λ begin read reads.
           reads_same (grind (arith, take_rest piece at, append_assoc read (take at piece) (take n (drop at piece)), take-add at n piece))
