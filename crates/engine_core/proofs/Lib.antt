@@ -3,7 +3,6 @@ pub mod Expecting
 pub mod Answering
 pub mod Unwritten
 pub mod Reading
-pub mod Running
 pub mod Asking
 pub mod Statuses
 pub mod Starving

@@ -272,7 +272,7 @@ impl Session {
             → Judges start answered (read ++ take result piece.now) sent self.new }
         ensures more { length self.new.round.outcomes ≤ length self.old.round.outcomes + 1 }
         ensures most { self.new.round.most ≡ self.old.round.most }
-        ensures sound { IsSound self.old.engine self.old.round.outcomes self.old.answered → IsSound self.new.engine self.new.round.outcomes self.new.answered }
+        ensures sound { (answered : ℕ) → IsSound self.old.engine self.old.round.outcomes answered → IsSound self.new.engine self.new.round.outcomes answered }
         ensures capacity { self.new.engine.admission.capacity ≡ self.old.engine.admission.capacity }
         ensures evaluated { self.new.engine.evaluated ≡ self.old.engine.evaluated }
         ensures answered { self.new.answered ≡ self.old.answered }

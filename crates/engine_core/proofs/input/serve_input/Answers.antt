@@ -7,8 +7,7 @@ use Rattle.stream_core.proofs.Taken.{takes_none, takes_on}
 use Rattle.engine_core.specs.Sessions.{Start, Prompt, answers_to, expected}
 use Rattle.engine_core.specs.Serving.{Reads, Runs}
 use Rattle.engine_core.proofs.Expecting.{at_rest, safe_sends}
-use Rattle.engine_core.proofs.Reading.{up_to, all_answered, expects_all, held_all, answered_by, piece_is}
-use Rattle.engine_core.proofs.Running.{idles, runs_on}
+use Rattle.engine_core.proofs.Reading.{up_to, all_answered, expects_all, held_all, answered_by, piece_is, idles, runs_on}
 use Rattle.engine_core.proofs.Asking.{no_ask, more_asks}
 use Rattle.engine_core.proofs.Unwritten.{sending}
 use Rattle.engine_core.proofs.input.serve_input.Given.{Over}
@@ -158,9 +157,8 @@ returns-in_err-feed-clause-prompt g c = rw c.feed.ensures.keeps.asks (asked g (g
 
 pub returns-in_err-feed-clause-bytes : goal.returns-in_err-feed-clause-bytes
 returns-in_err-feed-clause-bytes g c =
-    let n = c.in_ok-count.count in
-    takes_on c.loop-open.read n _ _ _ _ (omega (arith, c.loop-open.invariant.within, c.in_ok-count.ensures.taken.within, c.min-room.ensures)) c.loop-open.invariant.taken
-    (record { count = n; within = omega arith; left = c.feed.ensures.keeps.input ∙ c.in_ok-count.ensures.taken.left })
+    takes_on c.loop-open.read c.in_ok-count.count _ _ _ _ (omega (arith, c.loop-open.invariant.within, c.in_ok-count.ensures.taken.within, c.min-room.ensures)) c.loop-open.invariant.taken
+    (record { count = c.in_ok-count.count; within = omega arith; left = c.feed.ensures.keeps.input ∙ c.in_ok-count.ensures.taken.left })
 
 pub returns-in_err-feed-clause-touches : goal.returns-in_err-feed-clause-touches
 returns-in_err-feed-clause-touches g c =

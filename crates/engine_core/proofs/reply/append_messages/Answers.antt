@@ -42,6 +42,4 @@ pub returns-in_err-append-clause-none : goal.returns-in_err-append-clause-none
 returns-in_err-append-clause-none g c = λ none. absurd (omega (arith, ap length none, c.loop-message-test.true))
 
 pub returns-clause-none : goal.returns-clause-none
-returns-clause-none g c = λ none.
-    let same = c.loop-message.invariant.empty none in
-    (refl, same.0, same.1)
+returns-clause-none g c = λ none. (refl, (c.loop-message.invariant.empty none).0, (c.loop-message.invariant.empty none).1)

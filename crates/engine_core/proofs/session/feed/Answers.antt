@@ -2,7 +2,7 @@ use Rattle.std.proofs.Common.{ℕ, ◌++◌, List, take, drop, take_all, take-ap
 use Rattle.host_core.proofs.Moments.{unchanged}
 use Rattle.host_core.proofs.Causes.{no_fault, faultless}
 use Rattle.engine_core.proofs.Expecting.{Begins}
-use Rattle.engine_core.proofs.Running.{idles, answers_on, runs_on}
+use Rattle.engine_core.proofs.Reading.{idles, answers_on, runs_on}
 use Rattle.engine_core.proofs.session.feed.Goals as goal
 
 -- the bytes of a piece that were taken, and those that are left

@@ -3,7 +3,7 @@ use Rattle.host_core.proofs.Moments.{widened, goes_on, further}
 use Rattle.stream_core.proofs.Pending.{on_ok2, whenever_ok}
 use Rattle.engine_core.proofs.Answering.{none_waits}
 use Rattle.engine_core.proofs.Expecting.{at_rest, safe_sends}
-use Rattle.engine_core.proofs.Running.{kept_is, no_records, leaves_keeps}
+use Rattle.engine_core.proofs.Reading.{kept_is, no_records, leaves_keeps}
 use Rattle.engine_core.proofs.Unwritten.{still_nothing, sending}
 use Rattle.engine_core.proofs.session.settle.Goals as goal
 

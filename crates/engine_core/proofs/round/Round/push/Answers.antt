@@ -7,8 +7,7 @@ use Rattle.engine_core.proofs.round.Round.push.Goals as goal
 
 pub accept-requires : goal.accept-requires
 accept-requires c =
-    let few = few_records c.self.inside.outcomes.items in
-    record { room = grind (arith, few, c.self.view_is, c.self.invariant.accepted_are, c.requires.room, c.self.invariant.reserve_records, c.self.inside.accepted.ok.0) }
+    record { room = grind (arith, few_records c.self.inside.outcomes.items, c.self.view_is, c.self.invariant.accepted_are, c.requires.room, c.self.invariant.reserve_records, c.self.inside.accepted.ok.0) }
 
 pub invariant_of-self : goal.invariant_of-self
 invariant_of-self c =

@@ -12,14 +12,8 @@ returns-in-Some-clause-judges c start answered read sent judges =
       answers = c.judge_next.ensures.answers start answered (bodies_of read) _ _ _ sent on.0 judges.answers;
     }
 
-pub returns-in-Some-clause-sound : goal.returns-in-Some-clause-sound
-returns-in-Some-clause-sound c = c.judge_next.ensures.sound c.args.self.now.answered
-
 pub returns-clause-judges : goal.returns-clause-judges
 returns-clause-judges c start answered read sent judges =
     let on = c.take-cut.ensures.goes_on read judges.cutter in
     let whole : is_frame c.take-cut.new.self ≡ true = grind (arith, c.take-cut.ensures.whole, c.if-not-cut.false) in
     record { cutter = on.rest; answers = c.judge_next-2.ensures.answers start answered (bodies_of read) _ _ _ sent (rw (whole, ← c.body.ensures.frame) at on.bodies) judges.answers }
-
-pub returns-clause-sound : goal.returns-clause-sound
-returns-clause-sound c = c.judge_next-2.ensures.sound c.args.self.now.answered

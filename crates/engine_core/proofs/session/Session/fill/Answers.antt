@@ -14,7 +14,7 @@ loop-at-preserved c =
       judges = λ start answered read sent judges.
           rw (take_rest piece at, append_assoc, ← take-add at c.advance-at.result piece) at
           (c.advance-at.ensures.judges start answered (read ++ take at piece) sent (c.loop-at.invariant.judges start answered read sent judges));
-      sound = λ sound. c.advance-at.ensures.sound (c.loop-at.invariant.sound sound);
+      sound = λ sound. rw c.advance-at.ensures.answered (c.advance-at.ensures.sound _ (c.loop-at.invariant.sound sound));
       capacity = c.advance-at.ensures.capacity ∙ c.loop-at.invariant.capacity;
       evaluated = c.advance-at.ensures.evaluated ∙ c.loop-at.invariant.evaluated;
       answered = c.advance-at.ensures.answered ∙ c.loop-at.invariant.answered;
