@@ -1,5 +1,5 @@
 -- Each value is found in its own word.
-use Rattle.std.proofs.Common.{◌≡◌, true, ℕ, ◌+◌, ◌-◌, ◌*◌, ◌/◌, ◌%◌, ◌^◌, ◌<◌, ◌≤◌, ◌==◌, if◌then◌else◌, IsTrue, IfSome, nat_lt, List, ◌∷◌, ◌++◌, length, get_or, take, drop, replicate, decimal, Option, Some, None, refl, sym, ap, ◌∙◌, arith, length-take-le, take-append-drop, length-drop, ext_get_or}
+use Rattle.std.proofs.Common.{◌≡◌, true, ℕ, ◌+◌, ◌-◌, ◌*◌, ◌/◌, ◌%◌, ◌^◌, ◌<◌, ◌≤◌, ◌==◌, IsTrue, IfSome, nat_lt, List, ◌∷◌, ◌++◌, length, get_or, take, drop, replicate, decimal, Option, Some, sym, ap, ◌∙◌, arith, length-take-le, take-append-drop, length-drop, ext_get_or}
 use Rattle.std.specs.List.{list_all}
 use Rattle.std.specs.Result.{result_ok}
 use Rattle.std.proofs.lemmas.Bool.{and_parts, eqb-true}
@@ -12,7 +12,7 @@ use Rattle.price_core.specs.declared.quote.Unmatched.{Unmatched}
 use Rattle.session_core.specs.Dates.{Civil, IsCivil, days_of}
 use Rattle.session_core.specs.CivilDates.{civil_date}
 use Rattle.session_core.specs.Moments.{IsMoment}
-use Rattle.wire_core.specs.Fields.{checked, is_moment, is_price}
+use Rattle.wire_core.specs.Fields.{checked, is_moment}
 use Rattle.wire_core.specs.Names.{is_name, is_visible, visible_count}
 use Rattle.text_core.specs.Words.{last_digits, time_word, date_word, price_word, optional_price_word, index_word, hex_digit, flags_word, name_word, unmatched_word}
 use Rattle.text_core.specs.Reading.{number_in, number8_in, number16_in, number32_in, nanos_of, moment_in, price_in, optional_price_in, index_in, date_in, leverage_in, name_in, hex_value, flags_in, unmatched_in}
@@ -92,10 +92,7 @@ price_again p h = rw (price_number p h) (grind (arith, nat_tests))
 
 pub optional_again : (p : Option ℕ) → IfSome p IsPrice → optional_price_in (optional_price_word p) ≡ Some p
 unfolding optional_price_in number_in
-optional_again None h = refl
-optional_again (Some p) h = rw (price_number p h) (some p h) where
-  some : (p : ℕ) → IsPrice p → (if p == 0 then Some None else checked (is_price p) (Some p)) ≡ Some (Some p)
-  some p h = grind (arith, nat_tests)
+optional_again p h = grind (arith, nat_tests, price_number)
 
 pub index_again : (v : ℕ) → IsIndex v → index_in (index_word v) ≡ Some v
 unfolding index_in

@@ -1,9 +1,7 @@
 pub mod Digits
 pub mod Plain
 pub mod Words
-pub mod Choices
 pub mod Fields
-pub mod Exactly
 pub mod Values
 pub mod Records
 pub mod Frames

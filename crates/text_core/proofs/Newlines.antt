@@ -1,7 +1,7 @@
 -- The first newline of a piece.
-use Rattle.std.proofs.Common.{◌≡◌, ℕ, ◌+◌, ◌<◌, ◌==◌, not, true, List, [], ◌∷◌, ◌++◌, length, get_or, take, IfSome, Option, Some, None, ap, ◌∙◌, arith, get_or-take, length-take-le}
-use Rattle.std.proofs.lemmas.Bool.{eqb-true, false_from_ne_true, not_from_false}
-use Rattle.std.proofs.lemmas.List.{take_more}
+use Rattle.std.proofs.Common.{◌≡◌, ℕ, ◌+◌, ◌<◌, ◌==◌, not, true, List, [], ◌∷◌, ◌++◌, length, get_or, take, IfSome, Option, Some, None, arith, get_or-take, length-take-le}
+use Rattle.std.proofs.lemmas.Bool.{false_from_ne_true, not_from_false}
+use Rattle.std.proofs.lemmas.Grind.{common_steps}
 use Rattle.std.proofs.lemmas.List.Elements.{All-from_get_or}
 use Rattle.std.proofs.lemmas.List.Sums.{list_all-from_AllPass}
 use Rattle.memchr.specs.Find.{IsFirstByte, is_byte}
@@ -13,8 +13,7 @@ one_line bytes none = list_all-from_AllPass (λ b. not (b == 10)) bytes (All-fro
 -- what a search tells
 module _ (bytes : List ℕ) where
   pub found_within : (r : Option ℕ) → IsFirstByte (is_byte 10) bytes r → IfSome r (λ n. n < length bytes)
-  found_within None first = tt
-  found_within (Some n) first = first.0.high
+  found_within r first = grind arith
 
   pub found_line : (r : Option ℕ) → IsFirstByte (is_byte 10) bytes r → IfSome r (λ n. IsOneLine (take n bytes))
   found_line None first = tt
@@ -23,8 +22,7 @@ module _ (bytes : List ℕ) where
       rw (get_or-take n bytes k 0 before) (first.0.before k (omega arith) before))
 
   pub found_ended : (r : Option ℕ) → IsFirstByte (is_byte 10) bytes r → IfSome r (λ n. take (n + 1) bytes ≡ take n bytes ++ 10 ∷ [])
-  found_ended None first = tt
-  found_ended (Some n) first = take_more bytes n 0 first.0.high ∙ ap (λ (b : ℕ). take n bytes ++ b ∷ []) (eqb-true (get_or bytes n 0) 10 first.1)
+  found_ended r first = grind (arith, common_steps)
 
   pub found_none : (r : Option ℕ) → IsFirstByte (is_byte 10) bytes r → r ≡ None → IsOneLine bytes
   found_none None first is = one_line bytes (λ k short. first k (omega arith) short)

@@ -1,17 +1,15 @@
 -- Words of visible ASCII characters.
-use Rattle.std.proofs.Common.{◌≡◌, ℕ, zero, suc, ◌+◌, ◌/◌, ◌%◌, ◌^◌, ◌<◌, ◌≤◌, true, List, [], ◌∷◌, ◌++◌, get_or, take, take_while, Option, Some, None, Result, Ok, Err, IsAscii, IsUtf8, IfSome, MatchResult, decimal, refl, sym, ap, subst, ◌∙◌, arith, append_assoc, get_or-take}
+use Rattle.std.proofs.Common.{◌≡◌, ℕ, zero, suc, ◌+◌, ◌/◌, ◌%◌, ◌^◌, ◌<◌, ◌≤◌, true, List, [], ◌∷◌, ◌++◌, get_or, take, Option, IsAscii, IfSome, decimal, refl, ap, ◌∙◌, arith, append_assoc, get_or-take, length-take}
 use Rattle.std.specs.List.{list_all, prefix_len}
-use Rattle.std.specs.Result.{result_unwrap_or}
 use Rattle.std.proofs.lemmas.Bool.Decides.{nat_tests}
 use Rattle.std.proofs.lemmas.Fmt.{decimal_by_steps}
 use Rattle.std.proofs.lemmas.List.Folds.{length-prefix_len, list_all-append}
 use Rattle.std.proofs.lemmas.List.Sums.{AllPass-from_list_all, list_all-from_AllPass, prefix_len_passes}
-use Rattle.std.proofs.lemmas.Str.{IsUtf8-from_ascii}
 use Rattle.std.proofs.lemmas.Str.Ascii.{IsAscii-from_all}
 use Rattle.price_core.specs.Ranges.{IsPrice}
 use Rattle.price_core.specs.declared.quote.Unmatched.{Unmatched}
 use Rattle.session_core.specs.Dates.{Civil, digit}
-use Rattle.wire_core.specs.Names.{is_visible}
+use Rattle.wire_core.specs.Names.{is_visible, visible_count}
 use Rattle.text_core.specs.Words.{last_digits, time_word, date_word, price_word, optional_price_word, index_word, hex_digit, flags_word, name_word, unmatched_word}
 use Rattle.text_core.proofs.Digits.{two_digits, four_digits, nine_digits}
 pub use Rattle.std.proofs.lemmas.Bool.{and_parts as both}
@@ -27,19 +25,11 @@ visible_ascii bs h = IsAscii-from_all bs (λ k d short. below (get_or bs k d) (A
   below : (b : ℕ) → is_visible b ≡ true → b < 128
   below b h = grind (arith, nat_tests)
 
-visible_prefix : (name : List ℕ) → list_all is_visible (take_while is_visible name) ≡ true
-visible_prefix name = list_all-from_AllPass is_visible (take_while is_visible name) (λ k d short.
-    let within : k < prefix_len is_visible name = omega (arith, short, length-prefix_len is_visible name) in
-    ap is_visible (get_or-take _ name k d within) ∙ prefix_len_passes is_visible name k d within)
-
 pub name_plain : (name : List ℕ) → IsPlain (name_word name)
 unfolding name_word
-name_plain name = subst IsPlain (sym (ap (λ (k : ℕ). take k name) (length-prefix_len is_visible name))) (plain _ (visible_prefix name))
-
--- a text that is read from ASCII is it
-pub ascii_text : {T E : Type 0} (now : T → List ℕ) (Q : E → Type 0) (r : Result T E) (d : T) (bytes : List ℕ) → IsAscii bytes → MatchResult r (λ s. (now s ≡ bytes) × IsUtf8 bytes) (λ e. (IsUtf8 bytes → ⊥) × Q e) → now (result_unwrap_or r d) ≡ bytes
-ascii_text now Q (Ok s) d bytes h m = m.0
-ascii_text now Q (Err e) d bytes h m = absurd (m.0 (IsUtf8-from_ascii bytes h))
+name_plain name = plain _ (list_all-from_AllPass is_visible (take (visible_count name) name) (λ k d short.
+    let within : k < prefix_len is_visible name = omega (arith, short, length-take (visible_count name) name, length-prefix_len is_visible name) in
+    ap is_visible (get_or-take (visible_count name) name k d (omega (arith, within, length-prefix_len is_visible name))) ∙ prefix_len_passes is_visible name k d within))
 
 pub plain_append : (a b : List ℕ) → IsPlain a → IsPlain b → IsPlain (a ++ b)
 plain_append a b first second = plain (a ++ b) (list_all-append is_visible a b ∙ rw (first.visible, second.visible) refl)
@@ -112,8 +102,7 @@ pub price_plain : (p : ℕ) → p < 2 ^ 64 → IsPlain (price_word p)
 price_plain p h = rw (price_parts p) (joined_plain _ 46 _ (decimal_plain (p / 10000) (omega (arith, h))) (plain _ refl) (digits_plain 4 (p % 10000)))
 
 pub optional_plain : (p : Option ℕ) → IfSome p IsPrice → IsPlain (optional_price_word p)
-optional_plain None h = plain _ refl
-optional_plain (Some p) h = price_plain p (omega (arith, h.most))
+optional_plain p h = grind (arith, price_plain)
 
 pub index_plain : (v : ℕ) → v < 2 ^ 64 → IsPlain (index_word v)
 index_plain v h = rw (index_parts v) (joined_plain _ 46 _ (decimal_plain (v / 100) (omega (arith, h))) (plain _ refl) (digits_plain 2 (v % 100)))
