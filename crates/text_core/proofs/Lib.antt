@@ -9,5 +9,4 @@ pub mod Newlines
 pub mod Units
 pub mod Answering
 pub mod Reading
-pub mod Packing
 pub mod Beginning
