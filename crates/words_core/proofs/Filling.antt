@@ -1,18 +1,14 @@
 -- What is found at the end of a parse that passes: a row for each default, and first values that passed.
-use Rattle.std.proofs.Common.{◌≡◌, ◌∙◌, ◌++◌, ◌⊎◌, inl, inr, Bool, cond, true, false, refl, sym, ap, subst, arith, List, [], ◌∷◌, Option, Some, None, is_some, true≢false, ne_eqb}
-use Rattle.std.specs.Prelude.{◌&&◌, ◌||◌, not, slice_get, option_and_then, unwrap_or}
-use Rattle.std.specs.List.{find, fold, list_all, list_any}
+use Rattle.std.proofs.Common.{◌≡◌, ◌∙◌, ◌⊎◌, inl, inr, Bool, cond, true, false, refl, sym, ap, subst, arith, List, [], ◌∷◌, Option, Some, None, is_some, true≢false, ne_eqb}
+use Rattle.std.specs.Prelude.{◌||◌, slice_get, option_and_then, unwrap_or}
+use Rattle.std.specs.List.{find, fold, list_all}
 use Rattle.std.specs.Str.{bytes_eq}
-use Rattle.std.proofs.lemmas.Slice.Eq.{bytes_eq-Decides}
 use Rattle.clap.specs.Facts.{parser_of_value}
 use Rattle.clap.specs.Kinds.{or_else, request_kinds, value_kinds}
-use Rattle.clap.specs.Walk.{Row, Rule, Text, action_of, default_rows, first_of, has_row, is_empty, more_values, nothing_held, reading_by, rows_after, settled, walk, walk_from, with_default, with_values}
+use Rattle.clap.specs.Walk.{Row, Rule, Text, action_of, default_rows, first_of, has_row, is_empty, nothing_held, reading_by, rows_after, settled, walk, walk_from, with_default}
 use Rattle.clap.specs.Simple.{Shape}
 use Rattle.clap.specs.Faults.{check_fault, default_fault, defaults_fault, level_fault, settle_fault, values_fault, walk_fault}
-use Rattle.clap.specs.declared.builder.value_parser.Reading.{Reading}
-use Rattle.clap.specs.declared.parser.matches.ValueSource.{ValueSource}
 use Rattle.clap.specs.declared.parser.matches.ValueSource.TheVariants.{DefaultValue}
-use Rattle.clap.proofs.WalkLemmas.{both}
 use Rattle.words_core.proofs.Passing.{AllTold, Passes, Told, first_none, first_passes, is_sound, second_none, some≢none, with_told}
 use Rattle.words_core.proofs.Walking.{settled_told, walk_told}
 
@@ -63,77 +59,6 @@ level_told s words sound e =
     let fills = first_none (defaults_fault (settled s.rules end).rows s.rules) _ last in
     let all = settled_told s.rules s.args_override_self sound end settles (walk_told s sound [] (walk_from nothing_held) words walks tt) in
     (defaults_told s.rules s.rules (settled s.rules end).rows (tells_all s.rules) fills all, second_none (defaults_fault (settled s.rules end).rows s.rules) _ last)
-
--- ---- rows that are there
-
-same_id : (a id : Text) → bytes_eq a id ≡ true → a ≡ id
-same_id a id e = (bytes_eq-Decides a id).0 e
-
-is_self : (id : Text) → bytes_eq id id ≡ true
-is_self id = (bytes_eq-Decides id id).1 refl
-
-either : (a b : Bool) → b ≡ true → (a || b) ≡ true
-either true b e = refl
-either false b e = e
-
-row_kept : (i id : Text) (how : Reading) (s : ValueSource) (values : List Text) (rows : List Row) → has_row i rows ≡ true → has_row i (with_values id how s values rows) ≡ true
-row_kept i id how s values [] e = absurd (true≢false (sym e))
-row_kept i id how s values (r ∷ rows) e = go (bytes_eq r.id id) (row_kept i id how s values rows)
-  where
-    head : (h : Bool) → (h || has_row i rows) ≡ true → (has_row i rows ≡ true → has_row i (with_values id how s values rows) ≡ true)
-        → (h || has_row i (with_values id how s values rows)) ≡ true
-    head true e later = refl
-    head false e later = later e
-
-    go : (b : Bool) → (has_row i rows ≡ true → has_row i (with_values id how s values rows) ≡ true)
-        → has_row i (cond b (more_values s values r ++ rows) (r ∷ with_values id how s values rows)) ≡ true
-    go true later = e
-    go false later = head (bytes_eq r.id i) e later
-
-row_put : (id : Text) (how : Reading) (s : ValueSource) (values : List Text) (rows : List Row) → has_row id (with_values id how s values rows) ≡ true
-row_put id how s values [] = rw (is_self id) refl
-row_put id how s values (r ∷ rows) = go (bytes_eq r.id id) refl (row_put id how s values rows)
-  where
-    go : (b : Bool) → bytes_eq r.id id ≡ b → has_row id (with_values id how s values rows) ≡ true
-        → has_row id (cond b (more_values s values r ++ rows) (r ∷ with_values id how s values rows)) ≡ true
-    go true is later = rw is refl
-    go false is later = either (bytes_eq r.id id) _ later
-
-default_keeps : (i : Text) (a : Rule) (rows : List Row) → has_row i rows ≡ true → has_row i (with_default rows a) ≡ true
-default_keeps i a rows e = go (has_row a.id rows) a.defaults
-  where
-    go : (b : Bool) (ds : List Text) → has_row i (cond b rows (default_rows a.id (reading_by a) ds rows)) ≡ true
-    go true ds = e
-    go false [] = e
-    go false (d ∷ ds) = row_kept i a.id (reading_by a) DefaultValue (d ∷ ds) rows e
-
-defaults_keep : (i : Text) (c : List Rule) (rows : List Row) → has_row i rows ≡ true → has_row i (fold with_default rows c) ≡ true
-defaults_keep i [] rows e = e
-defaults_keep i (a ∷ c) rows e = defaults_keep i c (with_default rows a) (default_keeps i a rows e)
-
-abbrev pub has_default : Text → Rule → Bool
-has_default id a = bytes_eq a.id id && not (is_empty a.defaults)
-
-default_put : (id : Text) (a : Rule) (rows : List Row) → has_default id a ≡ true → has_row id (with_default rows a) ≡ true
-default_put id a rows e = go (has_row a.id rows) refl a.defaults (both (bytes_eq a.id id) _ e).1
-  where
-    same : a.id ≡ id
-    same = same_id a.id id (both (bytes_eq a.id id) _ e).0
-
-    go : (b : Bool) → has_row a.id rows ≡ b → (ds : List Text) → not (is_empty ds) ≡ true → has_row id (cond b rows (default_rows a.id (reading_by a) ds rows)) ≡ true
-    go true is ds some = subst (λ i. has_row i rows ≡ true) same is
-    go false is [] some = absurd (true≢false (sym some))
-    go false is (d ∷ ds) some = subst (λ i. has_row i (with_values a.id (reading_by a) DefaultValue (d ∷ ds) rows) ≡ true) same (row_put a.id (reading_by a) DefaultValue (d ∷ ds) rows)
-
--- an option with a default has a row
-pub default_there : (id : Text) (c : List Rule) (rows : List Row) → list_any (has_default id) c ≡ true → has_row id (fold with_default rows c) ≡ true
-default_there id [] rows e = absurd (true≢false (sym e))
-default_there id (a ∷ c) rows e = go (has_default id a) refl e (default_there id c (with_default rows a))
-  where
-    go : (b : Bool) → has_default id a ≡ b → (b || list_any (has_default id) c) ≡ true
-        → (list_any (has_default id) c ≡ true → has_row id (fold with_default (with_default rows a) c) ≡ true) → has_row id (fold with_default (with_default rows a) c) ≡ true
-    go true is e later = defaults_keep id c (with_default rows a) (default_put id a rows is)
-    go false is e later = later e
 
 -- ---- what is read of them
 

@@ -3,12 +3,13 @@ use Rattle.std.proofs.Common.{◌≡◌, true, refl, List}
 use Rattle.std.specs.Borrow.{Bor}
 use Rattle.clap.specs.Words.{Text, is_simple, is_simple_and_free}
 use Rattle.clap.proofs.OnLiterals.{clap_on_literals}
-use Rattle.words_core.specs.Line.{halts_line}
+use Rattle.words_core.specs.Line.{halts_line, with_command}
+use Rattle.words_core.specs.Settings.{takes}
 
 pub is_free : (kinds : Bor (List (Bor Text))) → is_simple_and_free (halts_line kinds) ≡ true
-unfolding clap_on_literals
+unfolding clap_on_literals takes with_command
 is_free kinds = refl
 
 pub is_plain : (kinds : Bor (List (Bor Text))) → is_simple (halts_line kinds) ≡ true
-unfolding clap_on_literals
+unfolding clap_on_literals takes with_command
 is_plain kinds = refl

@@ -1,4 +1,5 @@
 pub mod Numbers
+pub mod Ranges
 pub mod Asking
 pub mod Reading
 pub mod Passing

@@ -1,69 +1,28 @@
 -- What words ask for: a plain line for its command, and other words for what `clap` makes of the command line.
-use Rattle.std.specs.Prelude.{◌≡◌, ◌≢◌, ℕ, Bool, true, false, List, [], Option, Some, None, Result, Ok, Err, codes, option_map, option_and_then}
-use Rattle.std.specs.Str.{bytes_eq}
+use Rattle.std.specs.Prelude.{◌≡◌, ◌≢◌, Bool, true, false, List, [], Option, Some, None, Result, Ok, Err, fold, option_and_then}
 use Rattle.clap.specs.Words.{Kinds, IsAmong, Row, Text, fault_of, first_of, subcommand_of}
 use Rattle.clap.specs.declared.error.kind.ErrorKind.{ErrorKind}
 use Rattle.clap.specs.declared.error.kind.ErrorKind.TheVariants.{DisplayHelp, DisplayVersion, OutOfMemory}
-use Rattle.text_core.specs.declared.kind.Kind.{Kind}
-use Rattle.words_core.specs.Commands.{verb_of, kind_of, IsInRange}
-use Rattle.words_core.specs.Numbers.{numeral_in}
+use Rattle.words_core.specs.Commands.{verb_of, IsInRange}
+use Rattle.words_core.specs.Settings.{name_of, settings, takes}
+use Rattle.words_core.specs.Plain.{command_with, no_options, with_any}
 use Rattle.words_core.specs.Line.{CommandLine, app_of_line}
 use Rattle.words_core.specs.declared.asked.Asked.{Asked}
 use Rattle.words_core.specs.declared.asked.Asked.TheVariants as asked
 use Rattle.words_core.specs.declared.asked.WordsError.{WordsError}
 use Rattle.words_core.specs.declared.asked.WordsError.TheVariants.{Usage, NoMemory}
 use Rattle.words_core.specs.declared.command.Command.{Command}
-use Rattle.words_core.specs.declared.command.Command.TheVariants as commands
 use Rattle.words_core.specs.declared.command.Verb.{Verb}
-use Rattle.words_core.specs.declared.command.Verb.TheVariants.{Format, Serve, Replay, Status, Print, Pack, Generate, Roll, Board, Cross, Audit, Ship, Standby}
+use Rattle.words_core.specs.declared.options.Options.{Options}
+use Rattle.words_core.specs.declared.setting.Setting.{Setting}
 
--- the number of an option
-abbrev pub number_of : ℕ → ℕ → Text → List Row → Option ℕ
-number_of least most id rows = option_and_then (numeral_in least most) (first_of id rows)
-
--- the number of an option without a default: none where it was not given
-abbrev pub number_if_given : ℕ → ℕ → Option Text → Option (Option ℕ)
-number_if_given least most None = Some None
-number_if_given least most (Some word) = option_map (λ n. Some n) (numeral_in least most word)
-
-abbrev pub workers_in : List Row → Option ℕ
-workers_in = number_of 1 64 (codes "workers")
-
-abbrev pub batch_in : List Row → Option ℕ
-batch_in = number_of 1 64 (codes "batch")
-
-abbrev pub bytes_in : List Row → Option ℕ
-bytes_in = number_of 1 1099511627776 (codes "bytes")
-
-abbrev pub kind_in : List Row → Option Kind
-kind_in rows = option_and_then kind_of (first_of (codes "kind") rows)
-
-abbrev pub is_given : Option Text → Bool
-is_given None = false
-is_given (Some word) = bytes_eq word (codes "true")
+-- the options with one more, where it was found
+unfoldable pub with_found : Verb → List Row → Option Options → Setting → Option Options
+with_found verb rows given setting = option_and_then (with_any (takes verb setting) setting (first_of (name_of setting) rows)) given
 
 -- the command of a name, with the options that `clap` found
 abbrev pub command_from : Verb → List Row → Option Command
-command_from Format rows = option_map (λ limit. commands.Format limit) (number_of 1 2000000000 (codes "limit") rows)
-command_from Serve rows =
-    option_and_then (λ from. option_and_then (λ workers. option_and_then (λ batch. option_map (λ bytes. commands.Serve from workers batch bytes)
-    (bytes_in rows)) (batch_in rows)) (workers_in rows))
-    (number_if_given 1 18446744073709551615 (first_of (codes "from") rows))
-command_from Replay rows = option_and_then (λ workers. option_map (λ bytes. commands.Replay workers bytes) (bytes_in rows)) (workers_in rows)
-command_from Status rows = Some commands.Status
-command_from Print rows = option_map (λ kind. commands.Print kind) (kind_in rows)
-command_from Pack rows = option_map (λ kind. commands.Pack kind) (kind_in rows)
-command_from Generate rows =
-    option_and_then (λ seed. option_and_then (λ symbols. option_and_then (λ records. option_map (λ workers.
-    commands.Generate seed symbols records workers (is_given (first_of (codes "summary") rows)))
-    (workers_in rows)) (number_of 0 100000000 (codes "records") rows)) (number_of 1 16384 (codes "symbols") rows))
-    (number_of 0 18446744073709551615 (codes "seed") rows)
-command_from Roll rows = Some commands.Roll
-command_from Board rows = option_map (λ bytes. commands.Board bytes) (number_of 1 1073741824 (codes "bytes") rows)
-command_from Cross rows = Some commands.Cross
-command_from Audit rows = Some commands.Audit
-command_from Ship rows = option_map (λ from. commands.Ship from) (number_of 1 18446744073709551615 (codes "from") rows)
-command_from Standby rows = option_and_then (λ batch. option_map (λ bytes. commands.Standby batch bytes) (bytes_in rows)) (batch_in rows)
+command_from verb rows = option_and_then (command_with verb) (fold (with_found verb rows) (Some no_options) settings)
 
 abbrev pub command_found : Option (Text × List Row) → Option Command
 command_found found = option_and_then (λ p. option_and_then (λ verb. command_from verb p.1) (verb_of p.0)) found

@@ -1,5 +1,5 @@
 -- The names of commands and kinds, and the ranges of a command's numbers.
-use Rattle.std.specs.Prelude.{ℕ, ◌≤◌, List, Option, Some, None, IfSome, if◌then◌else◌, codes}
+use Rattle.std.specs.Prelude.{ℕ, ◌≤◌, List, [], ◌∷◌, Option, Some, None, IfSome, if◌then◌else◌, codes, find}
 use Rattle.std.specs.Str.{bytes_eq}
 use Rattle.text_core.specs.declared.kind.Kind.{Kind}
 use Rattle.text_core.specs.declared.kind.Kind.TheVariants.{Records, Published}
@@ -8,23 +8,29 @@ use Rattle.words_core.specs.declared.command.Command.TheVariants as commands
 use Rattle.words_core.specs.declared.command.Verb.{Verb}
 use Rattle.words_core.specs.declared.command.Verb.TheVariants.{Format, Serve, Replay, Status, Print, Pack, Generate, Roll, Board, Cross, Audit, Ship, Standby}
 
+-- all commands, in the order in which the command line has them
+abbrev pub verbs : List Verb
+verbs = Format ∷ Serve ∷ Replay ∷ Status ∷ Print ∷ Pack ∷ Generate ∷ Roll ∷ Board ∷ Cross ∷ Audit ∷ Ship ∷ Standby ∷ []
+
+-- the name of a command
+abbrev pub word_of : Verb → List ℕ
+word_of Format = codes "format"
+word_of Serve = codes "serve"
+word_of Replay = codes "replay"
+word_of Status = codes "status"
+word_of Print = codes "print"
+word_of Pack = codes "pack"
+word_of Generate = codes "generate"
+word_of Roll = codes "roll"
+word_of Board = codes "board"
+word_of Cross = codes "cross"
+word_of Audit = codes "audit"
+word_of Ship = codes "ship"
+word_of Standby = codes "standby"
+
 -- the command of a name
 abbrev pub verb_of : List ℕ → Option Verb
-verb_of word =
-    if bytes_eq word (codes "format") then Some Format
-    else if bytes_eq word (codes "serve") then Some Serve
-    else if bytes_eq word (codes "replay") then Some Replay
-    else if bytes_eq word (codes "status") then Some Status
-    else if bytes_eq word (codes "print") then Some Print
-    else if bytes_eq word (codes "pack") then Some Pack
-    else if bytes_eq word (codes "generate") then Some Generate
-    else if bytes_eq word (codes "roll") then Some Roll
-    else if bytes_eq word (codes "board") then Some Board
-    else if bytes_eq word (codes "cross") then Some Cross
-    else if bytes_eq word (codes "audit") then Some Audit
-    else if bytes_eq word (codes "ship") then Some Ship
-    else if bytes_eq word (codes "standby") then Some Standby
-    else None
+verb_of word = find (λ verb. bytes_eq word (word_of verb)) verbs
 
 -- the kind of a name
 abbrev pub kind_of : List ℕ → Option Kind

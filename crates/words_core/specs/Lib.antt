@@ -1,3 +1,4 @@
+pub mod Settings
 pub mod Commands
 pub mod Numbers
 pub mod Plain

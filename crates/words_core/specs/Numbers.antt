@@ -19,17 +19,16 @@ abbrev pub within : ℕ → ℕ → List ℕ → Option ℕ
 within least most digits =
     if is_number digits && (nat_le least (value_behind 0 digits) && nat_le (value_behind 0 digits) most) then Some (value_behind 0 digits) else None
 
--- no zero stands before other digits
+-- a plus (43) stands before it
+abbrev pub has_plus : List ℕ → Bool
+has_plus word = not (length word == 0) && (get_or word 0 0 == 43)
+
+-- no plus stands before it, and no zero (48) before other digits
 abbrev pub is_plain : List ℕ → Bool
-is_plain word = nat_lt (length word) 2 || not (get_or word 0 0 == 48)
+is_plain word = not (has_plus word) && (nat_lt (length word) 2 || not (get_or word 0 0 == 48))
 
--- the number of digits without zeros before them and without a sign
-abbrev pub number_in : ℕ → ℕ → List ℕ → Option ℕ
-number_in least most word = if is_plain word then within least most word else None
-
--- without a plus (43) before it
 abbrev pub without_plus : List ℕ → List ℕ
-without_plus word = if not (length word == 0) && (get_or word 0 0 == 43) then drop 1 word else word
+without_plus word = if has_plus word then drop 1 word else word
 
 -- the number of digits, which may have zeros and a plus before them
 abbrev pub numeral_in : ℕ → ℕ → List ℕ → Option ℕ

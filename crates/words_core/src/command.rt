@@ -103,9 +103,26 @@ pub enum Verb {
     Standby,
 }
 
+/// All commands, in the order in which the command line has them.
+pub static VERBS: [Verb; 13] = [
+    Verb::Format,
+    Verb::Serve,
+    Verb::Replay,
+    Verb::Status,
+    Verb::Print,
+    Verb::Pack,
+    Verb::Generate,
+    Verb::Roll,
+    Verb::Board,
+    Verb::Cross,
+    Verb::Audit,
+    Verb::Ship,
+    Verb::Standby,
+];
+
 impl Verb {
     ghost use Rattle.std.specs.Prelude.{◌≡◌};
-    ghost use Rattle.words_core.specs.Commands.{verb_of};
+    ghost use Rattle.words_core.specs.Commands.{verb_of, word_of};
 
     /// The command of this name.
     pub fn of(word: &str) -> Option<Verb>
@@ -126,6 +143,27 @@ impl Verb {
             "ship" => Some(Verb::Ship),
             "standby" => Some(Verb::Standby),
             _ => None,
+        }
+    }
+
+    /// The name of this command.
+    pub fn name<'a>(self) -> &'a str
+        ensures { result.now ≡ word_of self }
+    {
+        match self {
+            Verb::Format => "format",
+            Verb::Serve => "serve",
+            Verb::Replay => "replay",
+            Verb::Status => "status",
+            Verb::Print => "print",
+            Verb::Pack => "pack",
+            Verb::Generate => "generate",
+            Verb::Roll => "roll",
+            Verb::Board => "board",
+            Verb::Cross => "cross",
+            Verb::Audit => "audit",
+            Verb::Ship => "ship",
+            Verb::Standby => "standby",
         }
     }
 }

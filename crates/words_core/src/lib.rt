@@ -4,11 +4,13 @@
 mod asked;
 mod command;
 mod fault;
+mod help;
 mod line;
 mod number;
 mod options;
 mod plain;
 mod rows;
+mod setting;
 
 pub use asked::{Asked, WordsError, parse};
 pub use command::Command;

@@ -2,7 +2,7 @@
 
 ghost use Rattle.std.specs.Prelude.{◌≡◌, ◌≤◌, ◌^◌, ◌-◌, IfSome, min};
 ghost use Rattle.std.specs.List.{list_all};
-ghost use Rattle.words_core.specs.Numbers.{is_digit, is_number, is_plain, value_behind, within, number_in, without_plus, numeral_in};
+ghost use Rattle.words_core.specs.Numbers.{is_digit, is_number, value_behind, within, has_plus, is_plain, without_plus, numeral_in};
 
 fn is_digit(byte: u8) -> bool
     ensures { result ≡ is_digit byte }
@@ -50,27 +50,23 @@ fn within(digits: &[u8], least: u64, most: u64) -> Option<u64>
     Some(value as u64)
 }
 
-fn is_plain(word: &[u8]) -> bool
-    ensures { result ≡ is_plain word.now }
+fn has_plus(word: &[u8]) -> bool
+    ensures { result ≡ has_plus word.now }
 {
-    word.len() < 2 || word[0] != 48
+    word.len() != 0 && word[0] == 43
 }
 
-/// The number that a word says by digits alone, without zeros before them, where it is in a range.
-pub fn number_in(word: &[u8], least: u64, most: u64) -> Option<u64>
-    ensures exact { result ≡ number_in least most word.now }
-    ensures range { IfSome result (λ n. (least ≤ n) × (n ≤ most)) }
+/// Whether neither a plus stands before a word nor a zero before further digits.
+pub fn is_plain(word: &[u8]) -> bool
+    ensures { result ≡ is_plain word.now }
 {
-    if !is_plain(word) {
-        return None;
-    }
-    within(word, least, most)
+    !has_plus(word) && (word.len() < 2 || word[0] != 48)
 }
 
 fn without_plus(word: &[u8]) -> &[u8]
     ensures { result.now ≡ without_plus word.now }
 {
-    if word.len() != 0 && word[0] == 43 {
+    if has_plus(word) {
         return &word[1..];
     }
     word

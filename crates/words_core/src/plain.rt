@@ -18,10 +18,10 @@ fn begins_with(words: &[&str], word: &str) -> bool
 
 /// The options with the one whose name and value are the first two words.
 fn with_first(verb: Verb, given: Options, words: &[&str]) -> Option<Options>
-    requires within { IsWithin given }
+    requires within { IsWithin verb given }
     requires two { 1 < length words.now }
     ensures exact { result ≡ with_option verb given (get_or (map (λ w. w.now) words.now) 0 []) (get_or (map (λ w. w.now) words.now) 1 []) }
-    ensures range { IfSome result IsWithin }
+    ensures range { IfSome result (IsWithin verb) }
 {
     given.with_option(verb, words[0], words[1])
 }
@@ -36,9 +36,9 @@ fn behind<'a, 'b>(words: &'a [&'b str], count: usize) -> &'a [&'b str]
 
 /// The options of the words behind a command, with those that were given before.
 fn options_of(verb: Verb, given: Options, words: &[&str]) -> Option<Options>
-    requires { IsWithin given }
+    requires { IsWithin verb given }
     ensures exact { result ≡ options_of verb given (map (λ w. w.now) words.now) }
-    ensures range { IfSome result IsWithin }
+    ensures range { IfSome result (IsWithin verb) }
 {
     if words.len() == 0 {
         return Some(given);

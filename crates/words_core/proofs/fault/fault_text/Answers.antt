@@ -1,4 +1,4 @@
-use Rattle.std.proofs.Common.{rules, map}
+use Rattle.std.proofs.Common.{rules}
 use Rattle.std.proofs.lemmas.Option.{IfSome_then}
 use Rattle.words_core.specs.Line.{CommandLine}
 use Rattle.words_core.proofs.fault.fault_text.Goals as goal
