@@ -9,11 +9,11 @@ use Rattle.host_core.specs.declared.fault.Fault.TheVariants as faults
 use Rattle.host_core.specs.declared.status.Status.{Status}
 use Rattle.host_core.specs.declared.status.Status.TheVariants.{Done, BadText}
 use Rattle.host_core.specs.Outside.{Outside, Agrees, Elapses, NoFault}
-use Rattle.host_core.specs.Frames.{OnlySends}
 use Rattle.host_core.specs.Faults.{Causes}
 use Rattle.host_core.proofs.Causes.{caused}
 use Rattle.host_core.proofs.Known.{append_known-nil}
 use Rattle.host_core.proofs.Moments.{further, nothing, widened}
+use Rattle.stream_core.specs.Outcomes.{SentOrStarved}
 use Rattle.stream_core.specs.Pending.{Expects, SendsPrefix}
 use Rattle.stream_core.specs.Asking.{Prompt}
 use Rattle.stream_core.specs.Answering.{HasRead}
@@ -139,7 +139,7 @@ module _ {r : Result Status Fault} {reading : Reading} {old mid : Outside} (bega
         (status : (read : List ℕ) → Reads read reading → IfOk result (λ s. s ≡ end_of read))
         (sent : (read text : List ℕ) → Reads read reading → IsTextOf (lines_of read) text → OnOk result (new.sent ≡ append_known mid.sent text))
         (moments : (read text : List ℕ) → Reads read reading → IsTextOf (lines_of read) text → Elapses mid new (SendsPrefix mid.sent text mid))
-        (end : IfOk result (λ s. IsEnd s × IsAnswer s)) (keeps : OnlySends mid new) (causes : Causes result mid new) (unread : result ≢ Err faults.Read) (unkept : result ≢ Err faults.Disk) where
+        (end : IfOk result (λ s. IsEnd s × IsAnswer s)) (outside : SentOrStarved result mid new) where
       unsent : (input : List ℕ) → old.input ≡ Some input → mid.sent ≡ old.sent
       unsent input known = (if_is r Done _ is (began.exact input known)).1 ∙ append_known-nil old.sent
 
@@ -159,14 +159,14 @@ module _ {r : Result Status Fault} {reading : Reading} {old mid : Outside} (bega
             (is_read input).end (λ all. all ∙ ap (λ (s : Option (List ℕ)). append_known s (whole input)) (unsent input known));
         taken = λ input known.
             let taken = if_is r Done _ is (began.taken input known) tt in
-            if_any result _ (λ s ended. keeps.input ∙ taken.0);
-        unread = λ input known failed. absurd (unread failed);
-        prompt = λ input known. subst (λ asks. Prompt (λ read. []) old.sent input old.asks asks) (sym keeps.asks) (began.prompt input known);
-        bytes = subst (λ (left : Option (List ℕ)). ReadsAtMost bytes_max old.input left) (sym keeps.input) began.bytes;
+            if_any result _ (λ s ended. outside.keeps.input ∙ taken.0);
+        unread = λ input known failed. absurd (outside.unread failed);
+        prompt = λ input known. subst (λ asks. Prompt (λ read. []) old.sent input old.asks asks) (sym outside.keeps.asks) (began.prompt input known);
+        bytes = subst (λ (left : Option (List ℕ)). ReadsAtMost bytes_max old.input left) (sym outside.keeps.input) began.bytes;
         end = end;
-        causes = caused new result none causes;
-        unkept = unkept;
-        disk = keeps.disk ∙ began.disk;
-        disk_faults = keeps.disk_faults ∙ began.disk_faults;
-        continues = further began.continues keeps.continues;
+        causes = caused new result none outside.causes;
+        unkept = outside.unkept;
+        disk = outside.keeps.disk ∙ began.disk;
+        disk_faults = outside.keeps.disk_faults ∙ began.disk_faults;
+        continues = further began.continues outside.keeps.continues;
       }

@@ -1,10 +1,9 @@
 //! The lines of a cross, sent.
 
-ghost use Rattle.std.specs.Prelude.{◌≡◌, ◌≤◌, ◌++◌, ◌∷◌, [], ℕ, List, Option, OnOk, IfErr, codes, length, map};
+ghost use Rattle.std.specs.Prelude.{◌≡◌, ◌≤◌, ◌++◌, ◌∷◌, [], ℕ, List, Option, OnOk, codes, length, map};
 ghost use Rattle.std.specs.Io.KnownBytes.{append_known};
 ghost use Rattle.host_core.specs.Outside.{Elapses};
-ghost use Rattle.host_core.specs.Frames.{OnlySends};
-ghost use Rattle.host_core.specs.Faults.{Causes};
+ghost use Rattle.stream_core.specs.Outcomes.{Sent};
 ghost use Rattle.stream_core.specs.Pending.{Expects, SendsPrefix};
 ghost use Rattle.wire_in.specs.declared.record.Record.TheVariants as records;
 ghost use Rattle.text_core.specs.Lines.{line_of_record};
@@ -136,9 +135,7 @@ pub fn send_cross<H: Host>(
     requires empty { outbox.old ≡ [] }
     ensures sent { OnOk result ((H.outside host.new).sent ≡ append_known (H.outside host.old).sent (text_of_lines (cross_lines auction.now crossed.now fills.now))) }
     ensures moments { Elapses (H.outside host.old) (H.outside host.new) (SendsPrefix (H.outside host.old).sent (text_of_lines (cross_lines auction.now crossed.now fills.now)) (H.outside host.old)) }
-    ensures keeps { OnlySends (H.outside host.old) (H.outside host.new) }
-    ensures causes { Causes result (H.outside host.old) (H.outside host.new) }
-    ensures fault { IfErr result (λ fault. fault ≡ Fault.Send) }
+    ensures outside { Sent result (H.outside host.old) (H.outside host.new) }
 {
     append_cross(outbox, host, auction, crossed, fills)?;
     outbox.flush(host)

@@ -1,10 +1,9 @@
 //! The cross of the auction of an input, over a host.
 
-ghost use Rattle.std.specs.Prelude.{◌≡◌, ◌≢◌, ◌≤◌, [], ℕ, List, Some, Err, false, IfOk, IfErr, OnOk, length};
+ghost use Rattle.std.specs.Prelude.{◌≡◌, ◌≤◌, [], ℕ, List, Some, Err, false, IfOk, OnOk, length};
 ghost use Rattle.std.specs.Io.KnownBytes.{append_known};
 ghost use Rattle.host_core.specs.Outside.{Elapses};
-ghost use Rattle.host_core.specs.Frames.{OnlySends};
-ghost use Rattle.host_core.specs.Faults.{Causes};
+ghost use Rattle.stream_core.specs.Outcomes.{SentOrStarved};
 ghost use Rattle.stream_core.specs.Pending.{SendsPrefix};
 ghost use Rattle.stream_core.proofs.Streamed.{Ran};
 ghost use Rattle.auction_core.specs.Texts.{IsTextFor, IsTextOf, end_of, end_of_lines, lines_of};
@@ -37,10 +36,7 @@ fn cross_orders<H: Host>(
     ensures moments { (text : List ℕ) → IsTextFor auction.now orders.now text
         → Elapses (H.outside host.old) (H.outside host.new) (SendsPrefix (H.outside host.old).sent text (H.outside host.old)) }
     ensures unsent { result ≡ Err Fault.Memory → (H.outside host.new).sent ≡ (H.outside host.old).sent }
-    ensures keeps { OnlySends (H.outside host.old) (H.outside host.new) }
-    ensures causes { Causes result (H.outside host.old) (H.outside host.new) }
-    ensures unread { result ≢ Err Fault.Read }
-    ensures unkept { result ≢ Err Fault.Disk }
+    ensures outside { SentOrStarved result (H.outside host.old) (H.outside host.new) }
 {
     let crossed = cross(alloc, orders, auction.reference, &auction.collars)?;
     let fills = fills(alloc, orders, &crossed)?;
@@ -57,10 +53,7 @@ fn finish<H: Host>(alloc: Global, host: &mut H, listing: &Listing) -> Result<Sta
         → Elapses (H.outside host.old) (H.outside host.new) (SendsPrefix (H.outside host.old).sent text (H.outside host.old)) }
     ensures unsent { result ≡ Err Fault.Memory → (H.outside host.new).sent ≡ (H.outside host.old).sent }
     ensures end { IfOk result (λ status. IsEnd status × IsAnswer status) }
-    ensures keeps { OnlySends (H.outside host.old) (H.outside host.new) }
-    ensures causes { Causes result (H.outside host.old) (H.outside host.new) }
-    ensures unread { result ≢ Err Fault.Read }
-    ensures unkept { result ≢ Err Fault.Disk }
+    ensures outside { SentOrStarved result (H.outside host.old) (H.outside host.new) }
 {
     let Some(auction) = &listing.auction else {
         return Ok(Status::BadText { line: 1 });
@@ -81,10 +74,7 @@ fn end_input<H: Host>(alloc: Global, host: &mut H, reading: &mut Reading) -> Res
         → Elapses (H.outside host.old) (H.outside host.new) (SendsPrefix (H.outside host.old).sent text (H.outside host.old)) }
     ensures unsent { result ≡ Err Fault.Memory → (H.outside host.new).sent ≡ (H.outside host.old).sent }
     ensures end { IfOk result (λ status. IsEnd status × IsAnswer status) }
-    ensures keeps { OnlySends (H.outside host.old) (H.outside host.new) }
-    ensures causes { Causes result (H.outside host.old) (H.outside host.new) }
-    ensures unread { result ≢ Err Fault.Read }
-    ensures unkept { result ≢ Err Fault.Disk }
+    ensures outside { SentOrStarved result (H.outside host.old) (H.outside host.new) }
 {
     reading.close()?;
     finish(alloc, host, &reading.listing)

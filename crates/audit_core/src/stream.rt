@@ -1,12 +1,11 @@
 //! An audit of the frames of an input, over a host.
 
-ghost use Rattle.std.specs.Prelude.{◌≡◌, ◌<◌, ◌≤◌, ◌^◌, ◌+◌, ◌++◌, ◌∷◌, [], ℕ, List, Option, None, true, IsSome, IfOk, IfErr, IfSome, OnOk, length, take, refl, is_none};
+ghost use Rattle.std.specs.Prelude.{◌≡◌, ◌<◌, ◌≤◌, ◌^◌, ◌+◌, ◌++◌, ◌∷◌, [], ℕ, List, Option, None, true, IsSome, IfOk, IfSome, OnOk, length, take, refl, is_none};
 ghost use Rattle.host_core.specs.Outside.{Elapses};
 ghost use Rattle.wire_core.specs.Frames.{framed};
 ghost use Rattle.wire_in.specs.Cutting.{pending};
 ghost use Rattle.std.specs.Io.KnownBytes.{append_known};
-ghost use Rattle.host_core.specs.Frames.{OnlySends};
-ghost use Rattle.host_core.specs.Faults.{Causes};
+ghost use Rattle.stream_core.specs.Outcomes.{Sent};
 ghost use Rattle.stream_core.specs.Pending.{Expects, SendsPrefix};
 ghost use Rattle.stream_core.specs.Taking.{OnlyExchanges};
 ghost use Rattle.stream_core.proofs.Pieces.{exchanges_both};
@@ -165,9 +164,7 @@ fn send_clean<H: Host>(outbox: &mut Outbox, host: &mut H, messages: u64) -> Resu
         → OnOk result ((H.outside host.new).sent ≡ append_known begin (clean_line messages)) }
     ensures moments { (begin : Option (List ℕ)) → Expects begin (H.outside host.old).sent outbox.old []
         → Elapses (H.outside host.old) (H.outside host.new) (SendsPrefix begin (clean_line messages) (H.outside host.old)) }
-    ensures keeps { OnlySends (H.outside host.old) (H.outside host.new) }
-    ensures causes { Causes result (H.outside host.old) (H.outside host.new) }
-    ensures fault { IfErr result (λ fault. fault ≡ Fault.Send) }
+    ensures outside { Sent result (H.outside host.old) (H.outside host.new) }
 {
     let mut buffer = Buffer::new();
     outbox.append_bytes(host, "clean ".as_bytes())?;
@@ -188,9 +185,7 @@ fn send_end<H: Host>(
         → OnOk result ((H.outside host.new).sent ≡ append_known begin (sent_at status messages)) }
     ensures moments { (begin : Option (List ℕ)) → Expects begin (H.outside host.old).sent outbox.old []
         → Elapses (H.outside host.old) (H.outside host.new) (SendsPrefix begin (sent_at status messages) (H.outside host.old)) }
-    ensures keeps { OnlySends (H.outside host.old) (H.outside host.new) }
-    ensures causes { Causes result (H.outside host.old) (H.outside host.new) }
-    ensures fault { IfErr result (λ fault. fault ≡ Fault.Send) }
+    ensures outside { Sent result (H.outside host.old) (H.outside host.new) }
 {
     match status {
         Status::Done => send_clean(outbox, host, messages)?,

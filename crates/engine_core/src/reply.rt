@@ -1,15 +1,16 @@
 //! What is sent for a frame, appended to what waits.
 
-ghost use Rattle.std.specs.Prelude.{◌≡◌, ◌≢◌, ◌+◌, ◌*◌, ◌<◌, ◌≤◌, ◌^◌, ◌++◌, ◌∷◌, [], ℕ, Bool, List, Option, None, Ok, Err, IfErr, IsOk, OnOk, length, vec_len};
+ghost use Rattle.std.specs.Prelude.{◌≡◌, ◌≢◌, ◌+◌, ◌*◌, ◌<◌, ◌≤◌, ◌^◌, ◌++◌, ◌∷◌, [], ℕ, Bool, List, Option, None, Ok, Err, IsOk, OnOk, length, vec_len};
 ghost use Rattle.std.specs.Io.KnownBytes.{append_known};
 ghost use Rattle.host_core.specs.Outside.{Elapses};
 ghost use Rattle.host_core.specs.Frames.{OnlySends};
-ghost use Rattle.host_core.specs.Faults.{Causes, HasCause};
+ghost use Rattle.host_core.specs.Faults.{HasCause};
 ghost use Rattle.wire_in.specs.declared.record.Record.{Record};
 ghost use Rattle.rulebook.specs.Admission.{verdict};
 ghost use Rattle.rulebook.specs.Sent.{spelled, numbered, refused, accepted, reply, with_record};
 ghost use Rattle.rulebook.specs.Book.{newest_messages};
 ghost use Rattle.market_core.specs.MarketState.{most_messages};
+ghost use Rattle.stream_core.specs.Outcomes.{Sent, SentOrStarved};
 ghost use Rattle.stream_core.specs.Pending.{Expects, SendsPrefix};
 ghost use Rattle.engine_core.specs.EngineState.{Represents, Stands, IsRoomy};
 ghost use Rattle.engine_core.specs.Answering.{IsShort, Appends};
@@ -36,9 +37,7 @@ pub fn append_messages<H: Host>(
         → OnOk result (Expects begin (H.outside host.new).sent outbox.new (text ++ spelled (numbered before messages.now))) }
     ensures moments { (begin : Option (List ℕ)) (text : List ℕ) → Expects begin (H.outside host.old).sent outbox.old text
         → Elapses (H.outside host.old) (H.outside host.new) (SendsPrefix begin (text ++ spelled (numbered before messages.now)) (H.outside host.old)) }
-    ensures keeps { OnlySends (H.outside host.old) (H.outside host.new) }
-    ensures causes { Causes result (H.outside host.old) (H.outside host.new) }
-    ensures fault { IfErr result (λ fault. fault ≡ Fault.Send) }
+    ensures outside { Sent result (H.outside host.old) (H.outside host.new) }
     ensures none { messages.now ≡ [] → (IsOk result) × (outbox.new ≡ outbox.old) × (host.new ≡ host.old) }
 {
     let mut number = before;
@@ -64,9 +63,7 @@ fn acknowledge<H: Host>(
         → OnOk result (Expects begin (H.outside host.new).sent outbox.new (text ++ spelled (with_acknowledgements acknowledges (Frame.Ack input ∷ [])))) }
     ensures moments { (begin : Option (List ℕ)) (text : List ℕ) → Expects begin (H.outside host.old).sent outbox.old text
         → Elapses (H.outside host.old) (H.outside host.new) (SendsPrefix begin text (H.outside host.old)) }
-    ensures keeps { OnlySends (H.outside host.old) (H.outside host.new) }
-    ensures causes { Causes result (H.outside host.old) (H.outside host.new) }
-    ensures fault { IfErr result (λ fault. fault ≡ Fault.Send) }
+    ensures outside { Sent result (H.outside host.old) (H.outside host.new) }
 {
     if !acknowledges {
         return Ok(());
@@ -118,10 +115,7 @@ pub fn evaluate<H: Host>(
         → OnOk result (Expects begin (H.outside host.new).sent outbox.new text) }
     ensures moments { (begin : Option (List ℕ)) (text : List ℕ) → Expects begin (H.outside host.old).sent outbox.old text
         → Elapses (H.outside host.old) (H.outside host.new) (SendsPrefix begin text (H.outside host.old)) }
-    ensures keeps { OnlySends (H.outside host.old) (H.outside host.new) }
-    ensures causes { Causes result (H.outside host.old) (H.outside host.new) }
-    ensures unread { result ≢ Err Fault.Read }
-    ensures unkept { result ≢ Err Fault.Disk }
+    ensures outside { SentOrStarved result (H.outside host.old) (H.outside host.new) }
     ensures unsent { OnOk result ((outbox.new ≡ outbox.old) × (host.new ≡ host.old)) }
     ensures idle { outbox.old ≡ [] → (result ≢ Err Fault.Send) × (host.new ≡ host.old) }
     ensures roomy { IsRoomy engine.old → OnOk result (IsRoomy engine.new) }
@@ -146,9 +140,7 @@ fn append_accepted<H: Host>(
     requires { before + length messages.now < 2 ^ 64 }
     ensures appends { (begin : Option (List ℕ)) (text : List ℕ) → Expects begin (H.outside host.old).sent outbox.old text
         → Appends result begin (text ++ spelled (with_acknowledgements acknowledges (numbered before messages.now ++ Frame.Ack input ∷ []))) outbox.new (H.outside host.old) (H.outside host.new) }
-    ensures keeps { OnlySends (H.outside host.old) (H.outside host.new) }
-    ensures causes { Causes result (H.outside host.old) (H.outside host.new) }
-    ensures fault { IfErr result (λ fault. fault ≡ Fault.Send) }
+    ensures outside { Sent result (H.outside host.old) (H.outside host.new) }
 {
     append_messages(outbox, host, before, messages)?;
     acknowledge(outbox, host, acknowledges, input)
@@ -174,10 +166,7 @@ fn answer_record<H: Host>(
     ensures admission { engine.new.admission ≡ engine.old.admission }
     ensures evaluated { OnOk result (engine.new.evaluated ≡ engine.old.evaluated + 1) }
     ensures published { OnOk result (engine.new.published ≤ engine.old.published + most_messages) }
-    ensures keeps { OnlySends (H.outside host.old) (H.outside host.new) }
-    ensures causes { Causes result (H.outside host.old) (H.outside host.new) }
-    ensures unread { result ≢ Err Fault.Read }
-    ensures unkept { result ≢ Err Fault.Disk }
+    ensures outside { SentOrStarved result (H.outside host.old) (H.outside host.new) }
     ensures roomy { IsRoomy engine.old → OnOk result (IsRoomy engine.new) }
     ensures starved { (begin : Option (List ℕ)) (text : List ℕ) → IsRoomy engine.old → Expects begin (H.outside host.old).sent outbox.old text
         → result ≡ Err Fault.Memory → IsShort (workers_of engine.old.evaluator) (Ok x.now) begin (H.outside host.new).sent text }
@@ -205,9 +194,7 @@ fn refuse<H: Host>(
         → OnOk result (Expects begin (H.outside host.new).sent outbox.new (text ++ spelled (with_acknowledgements acknowledges (refused number refusal)))) }
     ensures moments { (begin : Option (List ℕ)) (text : List ℕ) → Expects begin (H.outside host.old).sent outbox.old text
         → Elapses (H.outside host.old) (H.outside host.new) (SendsPrefix begin text (H.outside host.old)) }
-    ensures keeps { OnlySends (H.outside host.old) (H.outside host.new) }
-    ensures causes { Causes result (H.outside host.old) (H.outside host.new) }
-    ensures fault { IfErr result (λ fault. fault ≡ Fault.Send) }
+    ensures outside { Sent result (H.outside host.old) (H.outside host.new) }
 {
     let frame = Frame::Refused {
         frame_number: number,
@@ -238,10 +225,7 @@ pub fn answer<H: Host>(
     ensures admission { engine.new.admission ≡ engine.old.admission }
     ensures evaluated { OnOk result (engine.new.evaluated ≡ engine.old.evaluated + length (records_in (outcome.now ∷ []))) }
     ensures published { OnOk result (engine.new.published ≤ engine.old.published + most_messages * length (records_in (outcome.now ∷ []))) }
-    ensures keeps { OnlySends (H.outside host.old) (H.outside host.new) }
-    ensures causes { Causes result (H.outside host.old) (H.outside host.new) }
-    ensures unread { result ≢ Err Fault.Read }
-    ensures unkept { result ≢ Err Fault.Disk }
+    ensures outside { SentOrStarved result (H.outside host.old) (H.outside host.new) }
     ensures roomy { IsRoomy engine.old → OnOk result (IsRoomy engine.new) }
     ensures starved { (begin : Option (List ℕ)) (text : List ℕ) → IsRoomy engine.old → Expects begin (H.outside host.old).sent outbox.old text
         → result ≡ Err Fault.Memory → IsShort (workers_of engine.old.evaluator) outcome.now begin (H.outside host.new).sent text }

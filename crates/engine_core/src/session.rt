@@ -2,13 +2,14 @@
 
 ghost use Rattle.std.specs.Prelude.{◌≡◌, ◌≢◌, ◌-◌, ◌+◌, ◌*◌, ◌<◌, ◌≤◌, ◌^◌, ◌++◌, ◌∷◌, [], ℕ, List, Option, None, Err, OnOk, IfOk, IfSome, IsOk, IsSome, length, take};
 ghost use Rattle.host_core.specs.Outside.{Elapses};
-ghost use Rattle.host_core.specs.Frames.{OnlySends, OnlyWrites};
+ghost use Rattle.host_core.specs.Frames.{OnlyWrites};
 ghost use Rattle.host_core.specs.Faults.{Causes};
 ghost use Rattle.wire_in.specs.declared.record.Record.{Record};
 ghost use Rattle.wire_core.specs.Frames.{framed};
 ghost use Rattle.wire_in.specs.Cutting.{pending};
 ghost use Rattle.wire_in.specs.Reading.{record_of};
 ghost use Rattle.wire_in.specs.Spelling.{InRange};
+ghost use Rattle.stream_core.specs.Outcomes.{SentOrStarved};
 ghost use Rattle.journal_core.specs.Layout.{with_batch};
 ghost use Rattle.rulebook.specs.Sent.{with_record};
 ghost use Rattle.market_core.specs.AdmissionState.{refusal_of};
@@ -124,10 +125,7 @@ fn answer_each<H: Host>(
         → Replies result start all (answered + length outcomes.now) [] [] engine.new outbox.new (H.outside host.old) (H.outside host.new) }
     ensures admission { engine.new.admission ≡ engine.old.admission }
     ensures sound { OnOk result (IsSound engine.new [] (answered + length outcomes.now)) }
-    ensures keeps { OnlySends (H.outside host.old) (H.outside host.new) }
-    ensures causes { Causes result (H.outside host.old) (H.outside host.new) }
-    ensures unread { result ≢ Err Fault.Read }
-    ensures unkept { result ≢ Err Fault.Disk }
+    ensures outside { SentOrStarved result (H.outside host.old) (H.outside host.new) }
 {
     let mut number = answered;
     for outcome in outcomes {
@@ -167,10 +165,7 @@ fn answer_round<Rt: Threads + Sync, H: Host, G: Gate>(
     ensures cutter { session.new.cutter ≡ session.old.cutter }
     ensures admission { session.new.engine.admission ≡ session.old.engine.admission }
     ensures sound { OnOk result (IsSound session.new.engine session.new.round.outcomes session.new.answered) }
-    ensures keeps { OnlySends (H.outside host.old) (H.outside host.new) }
-    ensures causes { Causes result (H.outside host.old) (H.outside host.new) }
-    ensures unread { result ≢ Err Fault.Read }
-    ensures unkept { result ≢ Err Fault.Disk }
+    ensures outside { SentOrStarved result (H.outside host.old) (H.outside host.new) }
 {
     prepare_round(rt, session, gate);
     answer_each(

@@ -1,6 +1,6 @@
 -- A text that is sent, piece by piece.
 use Rattle.std.proofs.Common.{◌≡◌, ℕ, List, [], ◌∷◌, ◌++◌, refl, sym, ap, subst, ◌∙◌, append_assoc}
-use Rattle.std.specs.Prelude.{◌≢◌, Some, Result, Ok, Err, OnOk, IfOk}
+use Rattle.std.specs.Prelude.{Some, Result, Ok, Err, OnOk, IfOk}
 use Rattle.std.specs.Io.KnownBytes.{append_known}
 use Rattle.std.proofs.lemmas.List.{append-nil}
 use Rattle.std.proofs.lemmas.List.Concat.{flat_map-cons}
@@ -10,7 +10,6 @@ use Rattle.host_core.specs.declared.status.Status.{Status}
 use Rattle.host_core.specs.declared.status.Status.TheVariants.{Done}
 use Rattle.host_core.specs.Outside.{Outside, Agrees, MayLeave, Elapses, NoFault, Sends}
 use Rattle.host_core.specs.Frames.{OnlySends}
-use Rattle.host_core.specs.Faults.{Causes}
 use Rattle.host_core.proofs.Causes.{no_fault, faultless}
 use Rattle.host_core.proofs.Chains.{sends_nothing, onward}
 use Rattle.host_core.proofs.Moments.{ended, nothing, widened}
@@ -19,6 +18,7 @@ use Rattle.wire_core.specs.Frames.{framed}
 use Rattle.wire_in.specs.declared.record.Record.{Record}
 use Rattle.wire_in.specs.Spelling.{body_of}
 use Rattle.stream_core.specs.Ends.{answer_of}
+use Rattle.stream_core.specs.Outcomes.{SentOrStarved}
 use Rattle.stream_core.specs.Pending.{Expects, SendsPrefix, SentPrefix}
 use Rattle.stream_core.proofs.Pending.{prefix_sent, sends_none}
 use Rattle.stream_core.proofs.Sending.{sends_on, sends_prefix}
@@ -77,52 +77,52 @@ piece_moments {old} piece text same run = widened run (SendsPrefix old.sent text
 
 -- The whole command.
 module _ (text : List ℕ) (result : Result Status Fault) (old new : Outside) (sent_now : (image bytes : List ℕ) → new.leaves new.moment image bytes → Agrees new.sent bytes)
-    (stops_now : (sent : List ℕ) → new.sent ≡ Some sent → (image : List ℕ) × MayLeave new image) (run : Elapses old new (SendsPrefix old.sent text old)) (keeps : OnlySends old new) where
-  part_of : SentPrefix old.sent new.sent text
-  part_of = prefix_sent old old.sent new.sent text keeps.continues.sent (λ sent is.
+    (stops_now : (sent : List ℕ) → new.sent ≡ Some sent → (image : List ℕ) × MayLeave new image) (run : Elapses old new (SendsPrefix old.sent text old)) where
+  part_of : OnlySends old new → SentPrefix old.sent new.sent text
+  part_of keeps = prefix_sent old old.sent new.sent text keeps.continues.sent (λ sent is.
       let now = stops_now sent is in (
         now.0,
         subst (λ bytes. SendsPrefix old.sent text old now.0 bytes) (sent_now now.0 now.1.bytes now.1.left sent is) (ended run now.1),
       ))
 
-  by : (r : Result Status Fault) → IfOk r (λ status. status ≡ Done) → OnOk r (new.sent ≡ append_known old.sent text) → Causes r old new
-      → (r ≡ Err Memory → new.sent ≡ old.sent) → r ≢ Err Read → r ≢ Err Disk → SendsText text (answer_of r) old new
-  by (Ok status) done sent causes unsent unread unkept = record {
+  by : (r : Result Status Fault) → IfOk r (λ status. status ≡ Done) → OnOk r (new.sent ≡ append_known old.sent text) → SentOrStarved r old new
+      → (r ≡ Err Memory → new.sent ≡ old.sent) → SendsText text (answer_of r) old new
+  by (Ok status) done sent outside unsent = record {
     exact = λ is. sent;
-    faultless = λ is. causes;
+    faultless = λ is. outside.causes;
     moments = run;
-    part = part_of;
-    keeps = keeps;
+    part = part_of outside.keeps;
+    keeps = outside.keeps;
     send_cause = λ is. cc (done, is);
     memory = λ is. cc (done, is);
     unsent = λ is. cc (done, is);
     kind = subst IsAnswer (sym done) tt;
   }
-  by (Err Send) done sent causes unsent unread unkept = record {
+  by (Err Send) done sent outside unsent = record {
     exact = λ is. cc is;
     faultless = λ is. cc is;
     moments = run;
-    part = part_of;
-    keeps = keeps;
-    send_cause = λ is. causes;
+    part = part_of outside.keeps;
+    keeps = outside.keeps;
+    send_cause = λ is. outside.causes;
     memory = λ is. cc is;
     unsent = λ is. cc is;
     kind = tt;
   }
-  by (Err Memory) done sent causes unsent unread unkept = record {
+  by (Err Memory) done sent outside unsent = record {
     exact = λ is. cc is;
     faultless = λ is. cc is;
     moments = run;
-    part = part_of;
-    keeps = keeps;
+    part = part_of outside.keeps;
+    keeps = outside.keeps;
     send_cause = λ is. cc is;
-    memory = λ is. causes;
+    memory = λ is. outside.causes;
     unsent = λ is. unsent refl;
     kind = tt;
   }
-  by (Err Read) done sent causes unsent unread unkept = absurd (unread refl)
-  by (Err Disk) done sent causes unsent unread unkept = absurd (unkept refl)
+  by (Err Read) done sent outside unsent = absurd (outside.unread refl)
+  by (Err Disk) done sent outside unsent = absurd (outside.unkept refl)
 
-  pub sends_text : IfOk result (λ status. status ≡ Done) → OnOk result (new.sent ≡ append_known old.sent text) → Causes result old new
-      → (result ≡ Err Memory → new.sent ≡ old.sent) → result ≢ Err Read → result ≢ Err Disk → SendsText text (answer_of result) old new
+  pub sends_text : IfOk result (λ status. status ≡ Done) → OnOk result (new.sent ≡ append_known old.sent text) → SentOrStarved result old new
+      → (result ≡ Err Memory → new.sent ≡ old.sent) → SendsText text (answer_of result) old new
   sends_text = by result

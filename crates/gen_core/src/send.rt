@@ -1,12 +1,11 @@
 //! A generated day, sent as frames.
 
-ghost use Rattle.std.specs.Prelude.{◌≡◌, ◌≢◌, ◌++◌, [], ℕ, List, Option, Err, OnOk, IfOk, IfErr};
+ghost use Rattle.std.specs.Prelude.{◌≡◌, ◌++◌, [], ℕ, List, Option, Err, OnOk, IfOk};
 ghost use Rattle.std.specs.Io.KnownBytes.{append_known};
 ghost use Rattle.host_core.specs.Outside.{Elapses};
-ghost use Rattle.host_core.specs.Frames.{OnlySends};
-ghost use Rattle.host_core.specs.Faults.{Causes};
 ghost use Rattle.wire_core.specs.Frames.{framed};
 ghost use Rattle.wire_in.specs.Spelling.{InRange, body_of};
+ghost use Rattle.stream_core.specs.Outcomes.{Sent, SentOrStarved};
 ghost use Rattle.stream_core.specs.Pending.{Expects, SendsPrefix};
 ghost use Rattle.gen_core.specs.Generated.{IsPlan, generated};
 ghost use Rattle.gen_core.specs.Sent.{frames_of, SentDay};
@@ -28,9 +27,7 @@ fn append_record<H: Host>(outbox: &mut Outbox, host: &mut H, record: &Record) ->
         → OnOk result (Expects begin (H.outside host.new).sent outbox.new (text ++ framed (body_of record.now))) }
     ensures moments { (begin : Option (List ℕ)) (text : List ℕ) → Expects begin (H.outside host.old).sent outbox.old text
         → Elapses (H.outside host.old) (H.outside host.new) (SendsPrefix begin text (H.outside host.old)) }
-    ensures keeps { OnlySends (H.outside host.old) (H.outside host.new) }
-    ensures causes { Causes result (H.outside host.old) (H.outside host.new) }
-    ensures fault { IfErr result (λ fault. fault ≡ Fault.Send) }
+    ensures outside { Sent result (H.outside host.old) (H.outside host.new) }
 {
     let mut cell = [0; FRAME];
     let len = encode(record, &mut cell);
@@ -46,9 +43,7 @@ fn send_rest<H: Host>(
     requires fresh { outbox.old ≡ [] }
     ensures sent { OnOk result ((H.outside host.new).sent ≡ append_known (H.outside host.old).sent (frames_of generator.old)) }
     ensures moments { Elapses (H.outside host.old) (H.outside host.new) (SendsPrefix (H.outside host.old).sent (frames_of generator.old) (H.outside host.old)) }
-    ensures keeps { OnlySends (H.outside host.old) (H.outside host.new) }
-    ensures causes { Causes result (H.outside host.old) (H.outside host.new) }
-    ensures fault { IfErr result (λ fault. fault ≡ Fault.Send) }
+    ensures outside { Sent result (H.outside host.old) (H.outside host.new) }
 {
     while let Some(record) = generator.next() {
         append_record(outbox, host, &record)?;
@@ -62,11 +57,8 @@ fn send_frames<H: Host>(alloc: Global, host: &mut H, plan: &DayPlan) -> Result<S
     ensures done { IfOk result (λ status. status ≡ Status.Done) }
     ensures sent { OnOk result ((H.outside host.new).sent ≡ append_known (H.outside host.old).sent (frames_of (generated plan.now))) }
     ensures moments { Elapses (H.outside host.old) (H.outside host.new) (SendsPrefix (H.outside host.old).sent (frames_of (generated plan.now)) (H.outside host.old)) }
-    ensures keeps { OnlySends (H.outside host.old) (H.outside host.new) }
-    ensures causes { Causes result (H.outside host.old) (H.outside host.new) }
+    ensures outside { SentOrStarved result (H.outside host.old) (H.outside host.new) }
     ensures unsent { result ≡ Err Fault.Memory → (H.outside host.new).sent ≡ (H.outside host.old).sent }
-    ensures unread { result ≢ Err Fault.Read }
-    ensures unkept { result ≢ Err Fault.Disk }
 {
     let mut generator = Generator::new(alloc, plan)?;
     let mut outbox = Outbox::new(alloc)?;

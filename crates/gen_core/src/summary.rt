@@ -1,10 +1,9 @@
 //! The lines of a summary.
 
-ghost use Rattle.std.specs.Prelude.{◌≡◌, ◌≢◌, ◌++◌, Err, OnOk, IfOk, codes, decimal};
+ghost use Rattle.std.specs.Prelude.{◌≡◌, ◌++◌, Err, OnOk, IfOk, codes, decimal};
 ghost use Rattle.std.specs.Io.KnownBytes.{append_known};
 ghost use Rattle.host_core.specs.Outside.{Elapses};
-ghost use Rattle.host_core.specs.Frames.{OnlySends};
-ghost use Rattle.host_core.specs.Faults.{Causes};
+ghost use Rattle.stream_core.specs.Outcomes.{SentOrStarved};
 ghost use Rattle.stream_core.specs.Pending.{SendsPrefix};
 ghost use Rattle.gen_core.specs.SummaryLines.{count_line, message_lines, summary_lines};
 
@@ -70,11 +69,8 @@ pub fn send_summary<H: Host>(
     ensures done { IfOk result (λ status. status ≡ Status.Done) }
     ensures sent { OnOk result ((H.outside host.new).sent ≡ append_known (H.outside host.old).sent (summary_lines records refused tally.now)) }
     ensures moments { Elapses (H.outside host.old) (H.outside host.new) (SendsPrefix (H.outside host.old).sent (summary_lines records refused tally.now) (H.outside host.old)) }
-    ensures keeps { OnlySends (H.outside host.old) (H.outside host.new) }
-    ensures causes { Causes result (H.outside host.old) (H.outside host.new) }
+    ensures outside { SentOrStarved result (H.outside host.old) (H.outside host.new) }
     ensures unsent { result ≡ Err Fault.Memory → (H.outside host.new).sent ≡ (H.outside host.old).sent }
-    ensures unread { result ≢ Err Fault.Read }
-    ensures unkept { result ≢ Err Fault.Disk }
 {
     let text = summary_text(alloc, records, refused, tally)?;
     send_all(host, &text).map_err(|_| Fault::Send)?;

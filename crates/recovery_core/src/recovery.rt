@@ -3,8 +3,6 @@
 ghost use Rattle.std.specs.Prelude.{if◌then◌else◌, ◌==◌, ◌≡◌, ◌≢◌, ◌⊎◌, ◌+◌, ◌<◌, ◌≤◌, ◌^◌, ◌++◌, ◌∷◌, [], ℕ, List, Option, Some, None, Ok, Err, OnOk, IfOk, IfErr, IsOk, IsTrue, All, length, option_map, true, false, drop};
 ghost use Rattle.std.specs.Option.{option_copied};
 ghost use Rattle.host_core.specs.Outside.{Outside, NoFault, Elapses};
-ghost use Rattle.host_core.specs.Frames.{OnlySends};
-ghost use Rattle.host_core.specs.Faults.{Causes};
 ghost use Rattle.wire_in.specs.declared.base.Base.{Base};
 ghost use Rattle.wire_in.specs.declared.record.Record.{Record};
 ghost use Rattle.wire_in.specs.Spelling.{InRange};
@@ -13,6 +11,7 @@ ghost use Rattle.rulebook.specs.Sent.{spelled, numbered, passed_over};
 ghost use Rattle.wire_out.specs.Spelling.{spelling};
 ghost use Rattle.evaluator_core.specs.Evaluating.{workers_of, IsIdle, IsWorking};
 ghost use Rattle.engine_core.specs.EngineState as engines;
+ghost use Rattle.stream_core.specs.Outcomes.{Sent, SentOrStarved};
 ghost use Rattle.stream_core.specs.Pending.{Expects, SendsPrefix};
 ghost use Rattle.recovery_core.specs.Origins.{again};
 ghost use Rattle.recovery_core.specs.Starved.{StarvedAtRecord};
@@ -62,9 +61,7 @@ fn append_again<H: Host>(
     ensures moments { (begin : Option (List ℕ)) (text : List ℕ) → Expects begin (H.outside host.old).sent outbox.old text
         → let skipped = passed_over from before (length messages.now) in
         Elapses (H.outside host.old) (H.outside host.new) (SendsPrefix begin (text ++ spelled (numbered (before + skipped) (drop skipped messages.now))) (H.outside host.old)) }
-    ensures keeps { OnlySends (H.outside host.old) (H.outside host.new) }
-    ensures causes { Causes result (H.outside host.old) (H.outside host.new) }
-    ensures fault { IfErr result (λ fault. fault ≡ Fault.Send) }
+    ensures outside { Sent result (H.outside host.old) (H.outside host.new) }
     ensures unasked { from ≡ None → (IsOk result) × (outbox.new ≡ outbox.old) × (host.new ≡ host.old) }
 {
     let skipped = passed_over(from, before, messages.len());
@@ -114,9 +111,7 @@ fn resume_record<H: Host>(
     ensures working { OnOk result (IsWorking engine.new.evaluator) }
     ensures workers { workers_of engine.new.evaluator ≡ workers_of engine.old.evaluator }
     ensures admission { engine.new.admission ≡ engine.old.admission }
-    ensures keeps { OnlySends (H.outside host.old) (H.outside host.new) }
-    ensures causes { Causes result (H.outside host.old) (H.outside host.new) }
-    ensures unread { result ≢ Err Fault.Read }
+    ensures outside { SentOrStarved result (H.outside host.old) (H.outside host.new) }
     ensures unasked { from ≡ None → outbox.old ≡ [] → (host.new ≡ host.old) × (result ≢ Err Fault.Send) × OnOk result (outbox.new ≡ []) }
     ensures starved { (capacity : ℕ) (base : Option Base) (accepted later : List Record) (begin : Option (List ℕ)) → Resumes from capacity base accepted (x.now ∷ later) (x.now ∷ later) begin engine.old outbox.old (H.outside host.old)
         → result ≡ Err Fault.Memory → StarvedAtRecord (workers_of engine.old.evaluator) (again from base) accepted begin (H.outside host.new).sent }
@@ -148,9 +143,7 @@ fn resume_all<H: Host>(
     ensures working { (records.now ≡ [] → IsWorking engine.old.evaluator) → OnOk result (IsWorking engine.new.evaluator) }
     ensures workers { workers_of engine.new.evaluator ≡ workers_of engine.old.evaluator }
     ensures admission { engine.new.admission ≡ engine.old.admission }
-    ensures keeps { OnlySends (H.outside host.old) (H.outside host.new) }
-    ensures causes { Causes result (H.outside host.old) (H.outside host.new) }
-    ensures unread { result ≢ Err Fault.Read }
+    ensures outside { SentOrStarved result (H.outside host.old) (H.outside host.new) }
     ensures unasked { from ≡ None → outbox.old ≡ [] → (host.new ≡ host.old) × (result ≢ Err Fault.Send) × OnOk result (outbox.new ≡ []) }
     ensures starved { (capacity : ℕ) (base : Option Base) (accepted : List Record) (begin : Option (List ℕ)) → Resumes from capacity base accepted records.now records.now begin engine.old outbox.old (H.outside host.old)
         → result ≡ Err Fault.Memory → StarvedAtRecord (workers_of engine.old.evaluator) (again from base) accepted begin (H.outside host.new).sent }
@@ -235,9 +228,7 @@ impl Recovery {
         ensures room { OnOk result (length self.new.waiting.records + BATCH_MAX ≤ self.new.waiting.most) }
         ensures scan { self.new.scan ≡ self.old.scan }
         ensures workers { workers_of self.new.engine.evaluator ≡ workers_of self.old.engine.evaluator }
-        ensures keeps { OnlySends (H.outside host.old) (H.outside host.new) }
-        ensures causes { Causes result (H.outside host.old) (H.outside host.new) }
-        ensures unread { result ≢ Err Fault.Read }
+        ensures outside { SentOrStarved result (H.outside host.old) (H.outside host.new) }
         ensures unasked { from ≡ None → self.old.outbox ≡ [] → (host.new ≡ host.old) × (result ≢ Err Fault.Send) × OnOk result (self.new.outbox ≡ []) }
         ensures starved { (begin : Option (List ℕ)) (disk : List ℕ) → Gathers from begin disk self.old (H.outside host.old)
             → result ≡ Err Fault.Memory → StarvesAgain (workers_of self.old.engine.evaluator) from self.old.scan.base begin disk (H.outside host.new) }
@@ -426,9 +417,7 @@ fn greet<H: Host>(engine: &Engine, outbox: &mut Outbox, host: &mut H) -> Result<
         → OnOk result (Expects begin (H.outside host.new).sent outbox.new (text ++ spelling (Frame.Hello engine.now.evaluated engine.now.published))) }
     ensures moments { (begin : Option (List ℕ)) (text : List ℕ) → Expects begin (H.outside host.old).sent outbox.old text
         → Elapses (H.outside host.old) (H.outside host.new) (SendsPrefix begin text (H.outside host.old)) }
-    ensures keeps { OnlySends (H.outside host.old) (H.outside host.new) }
-    ensures causes { Causes result (H.outside host.old) (H.outside host.new) }
-    ensures fault { IfErr result (λ fault. fault ≡ Fault.Send) }
+    ensures outside { Sent result (H.outside host.old) (H.outside host.new) }
 {
     let hello = Frame::Hello {
         inputs: engine.evaluated,

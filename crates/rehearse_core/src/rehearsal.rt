@@ -1,13 +1,12 @@
 //! A generated day, evaluated and summed up.
 
-ghost use Rattle.std.specs.Prelude.{◌≡◌, ◌≢◌, ◌+◌, ◌<◌, ◌≤◌, ◌^◌, ◌∷◌, ◌++◌, [], List, None, Err, OnOk, IfOk, length, vec_len, vec_capacity};
+ghost use Rattle.std.specs.Prelude.{◌≡◌, ◌+◌, ◌<◌, ◌≤◌, ◌^◌, ◌∷◌, ◌++◌, [], List, None, Err, OnOk, IfOk, length, vec_len, vec_capacity};
 ghost use Rattle.std.specs.Io.KnownBytes.{append_known};
 ghost use Rattle.host_core.specs.Outside.{Elapses};
-ghost use Rattle.host_core.specs.Frames.{OnlySends};
-ghost use Rattle.host_core.specs.Faults.{Causes};
 ghost use Rattle.wire_in.specs.declared.record.Record.{Record};
 ghost use Rattle.market_core.specs.AdmissionState.{refusal_of};
 ghost use Rattle.rulebook.specs.Admission.{verdict};
+ghost use Rattle.stream_core.specs.Outcomes.{SentOrStarved};
 ghost use Rattle.stream_core.specs.Pending.{SendsPrefix};
 ghost use Rattle.gen_core.specs.Generated.{IsPlan, generated};
 ghost use Rattle.replay_core.specs.Replayed.{capacity};
@@ -227,11 +226,8 @@ fn sum_up<Rt: Threads + Sync, H: Host, G: Gate>(
     ensures done { IfOk result (λ status. status ≡ Status.Done) }
     ensures sent { OnOk result ((H.outside host.new).sent ≡ append_known (H.outside host.old).sent (summary_of plan.now)) }
     ensures moments { Elapses (H.outside host.old) (H.outside host.new) (SendsPrefix (H.outside host.old).sent (summary_of plan.now) (H.outside host.old)) }
-    ensures keeps { OnlySends (H.outside host.old) (H.outside host.new) }
-    ensures causes { Causes result (H.outside host.old) (H.outside host.new) }
+    ensures outside { SentOrStarved result (H.outside host.old) (H.outside host.new) }
     ensures unsent { result ≡ Err Fault.Memory → (H.outside host.new).sent ≡ (H.outside host.old).sent }
-    ensures unread { result ≢ Err Fault.Read }
-    ensures unkept { result ≢ Err Fault.Disk }
 {
     let rehearsal = rehearsed(rt, alloc, gate, plan, workers)?;
     let records = 1 + u64::from(plan.symbols) + u64::from(plan.records);

@@ -1,12 +1,11 @@
 //! The lines of rows, sent one after the other.
 
-ghost use Rattle.std.specs.Prelude.{◌≡◌, ◌≤◌, [], ℕ, List, Option, IfOk, OnOk, IfErr};
+ghost use Rattle.std.specs.Prelude.{◌≡◌, ◌≤◌, [], ℕ, List, Option, IfOk, OnOk};
 ghost use Rattle.std.specs.List.{flat_map};
 ghost use Rattle.std.specs.String.{string_capacity};
 ghost use Rattle.std.specs.Io.KnownBytes.{append_known};
 ghost use Rattle.host_core.specs.Outside.{Elapses};
-ghost use Rattle.host_core.specs.Frames.{OnlySends};
-ghost use Rattle.host_core.specs.Faults.{Causes};
+ghost use Rattle.stream_core.specs.Outcomes.{Sent};
 ghost use Rattle.stream_core.specs.Pending.{Expects, SendsPrefix};
 ghost use Rattle.screen_core.specs.Rows.{row_line};
 ghost use Rattle.screen_core.specs.InternalDesk.{HasRoom};
@@ -51,9 +50,7 @@ pub fn send_rows<H: Host>(
         → OnOk result ((H.outside host.new).sent ≡ append_known begin (flat_map row_line rows.now)) }
     ensures moments { (begin : Option (List ℕ)) → Expects begin (H.outside host.old).sent outbox.old []
         → Elapses (H.outside host.old) (H.outside host.new) (SendsPrefix begin (flat_map row_line rows.now) (H.outside host.old)) }
-    ensures keeps { OnlySends (H.outside host.old) (H.outside host.new) }
-    ensures causes { Causes result (H.outside host.old) (H.outside host.new) }
-    ensures fault { IfErr result (λ fault. fault ≡ Fault.Send) }
+    ensures outside { Sent result (H.outside host.old) (H.outside host.new) }
 {
     for row in rows {
         write_row(row, line);

@@ -1,9 +1,8 @@
 //! The replies of a round, appended to what waits to be sent.
 
-ghost use Rattle.std.specs.Prelude.{◌≡◌, ◌++◌, ℕ, List, Option, OnOk, IfErr};
+ghost use Rattle.std.specs.Prelude.{◌≡◌, ◌++◌, ℕ, List, Option, OnOk};
 ghost use Rattle.host_core.specs.Outside.{Elapses};
-ghost use Rattle.host_core.specs.Frames.{OnlySends};
-ghost use Rattle.host_core.specs.Faults.{Causes};
+ghost use Rattle.stream_core.specs.Outcomes.{Sent};
 ghost use Rattle.stream_core.specs.Pending.{Expects, SendsPrefix};
 ghost use Rattle.standby_core.specs.Parts.{have_bytes};
 ghost use Rattle.standby_core.specs.Rounds.{bytes_of, spelled};
@@ -20,9 +19,7 @@ fn append_have<H: Host>(outbox: &mut Outbox, host: &mut H, count: u64) -> Result
         → OnOk result (Expects begin (H.outside host.new).sent outbox.new (text ++ have_bytes count)) }
     ensures moments { (begin : Option (List ℕ)) (text : List ℕ) → Expects begin (H.outside host.old).sent outbox.old text
         → Elapses (H.outside host.old) (H.outside host.new) (SendsPrefix begin text (H.outside host.old)) }
-    ensures keeps { OnlySends (H.outside host.old) (H.outside host.new) }
-    ensures causes { Causes result (H.outside host.old) (H.outside host.new) }
-    ensures fault { IfErr result (λ fault. fault ≡ Fault.Send) }
+    ensures outside { Sent result (H.outside host.old) (H.outside host.new) }
 {
     let mut cell = [0; 64];
     let len = put_have(count, &mut cell);
@@ -35,9 +32,7 @@ fn append_reply<H: Host>(outbox: &mut Outbox, host: &mut H, reply: &Reply) -> Re
         → OnOk result (Expects begin (H.outside host.new).sent outbox.new (text ++ bytes_of reply.now)) }
     ensures moments { (begin : Option (List ℕ)) (text : List ℕ) → Expects begin (H.outside host.old).sent outbox.old text
         → Elapses (H.outside host.old) (H.outside host.new) (SendsPrefix begin text (H.outside host.old)) }
-    ensures keeps { OnlySends (H.outside host.old) (H.outside host.new) }
-    ensures causes { Causes result (H.outside host.old) (H.outside host.new) }
-    ensures fault { IfErr result (λ fault. fault ≡ Fault.Send) }
+    ensures outside { Sent result (H.outside host.old) (H.outside host.new) }
 {
     match *reply {
         Reply::Have(count) => append_have(outbox, host, count),
@@ -62,9 +57,7 @@ pub fn append_replies<H: Host>(
         → OnOk result (Expects begin (H.outside host.new).sent outbox.new (text ++ spelled replies.now)) }
     ensures moments { (begin : Option (List ℕ)) (text : List ℕ) → Expects begin (H.outside host.old).sent outbox.old text
         → Elapses (H.outside host.old) (H.outside host.new) (SendsPrefix begin (text ++ spelled replies.now) (H.outside host.old)) }
-    ensures keeps { OnlySends (H.outside host.old) (H.outside host.new) }
-    ensures causes { Causes result (H.outside host.old) (H.outside host.new) }
-    ensures fault { IfErr result (λ fault. fault ≡ Fault.Send) }
+    ensures outside { Sent result (H.outside host.old) (H.outside host.new) }
 {
     for reply in replies {
         append_reply(outbox, host, reply)?;

@@ -2,11 +2,10 @@
 
 ghost use Rattle.std.specs.Prelude.{◌≡◌, ◌≢◌, ◌+◌, ◌<◌, ◌^◌, ◌++◌, [], ℕ, List, Option, All, IfErr, IsTrue, OnOk, length};
 ghost use Rattle.host_core.specs.Outside.{Elapses, NoFault};
-ghost use Rattle.host_core.specs.Frames.{OnlySends};
-ghost use Rattle.host_core.specs.Faults.{Causes};
 ghost use Rattle.wire_in.specs.declared.record.Record.{Record};
 ghost use Rattle.wire_in.specs.Spelling.{InRange};
 ghost use Rattle.journal_core.specs.Layout.{with_batch};
+ghost use Rattle.stream_core.specs.Outcomes.{Sent};
 ghost use Rattle.stream_core.specs.Pending.{Expects, SendsPrefix};
 ghost use Rattle.recovery_core.specs.Recoveries.{HasDamage, Hinders, OnlyRecovers};
 ghost use Rattle.standby_core.specs.Reading.{IsInStep, Reads};
@@ -34,9 +33,7 @@ fn ship_record<H: Host>(
         → OnOk result (Expects begin (H.outside host.new).sent outbox.new (text ++ part_at from number x.now)) }
     ensures moments { (begin : Option (List ℕ)) (text : List ℕ) → Expects begin (H.outside host.old).sent outbox.old text
         → Elapses (H.outside host.old) (H.outside host.new) (SendsPrefix begin text (H.outside host.old)) }
-    ensures keeps { OnlySends (H.outside host.old) (H.outside host.new) }
-    ensures causes { Causes result (H.outside host.old) (H.outside host.new) }
-    ensures fault { IfErr result (λ fault. fault ≡ Fault.Send) }
+    ensures outside { Sent result (H.outside host.old) (H.outside host.new) }
 {
     if number < from {
         return Ok(());
@@ -60,9 +57,7 @@ fn ship_records<H: Host>(
         → OnOk result (Expects begin (H.outside host.new).sent outbox.new (parts_behind past from (with_batch held records.now))) }
     ensures moments { (begin : Option (List ℕ)) (past : ℕ) (held : List Record) → before ≡ past + length held → Expects begin (H.outside host.old).sent outbox.old (parts_behind past from held)
         → Elapses (H.outside host.old) (H.outside host.new) (SendsPrefix begin (parts_behind past from (with_batch held records.now)) (H.outside host.old)) }
-    ensures keeps { OnlySends (H.outside host.old) (H.outside host.new) }
-    ensures causes { Causes result (H.outside host.old) (H.outside host.new) }
-    ensures fault { IfErr result (λ fault. fault ≡ Fault.Send) }
+    ensures outside { Sent result (H.outside host.old) (H.outside host.new) }
 {
     let mut number = before;
     for x in records {

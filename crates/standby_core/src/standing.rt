@@ -2,7 +2,7 @@
 
 ghost use Rattle.std.specs.Prelude.{◌≡◌, ◌≢◌, ◌<◌, ◌≤◌, ◌^◌, ◌+◌, ◌++◌, ◌==◌, [], ℕ, List, Option, true, Err, IsTrue, IsSome, IfErr, IfSome, OnOk, if◌then◌else◌, nat_le, length, take};
 ghost use Rattle.host_core.specs.Outside.{Elapses};
-ghost use Rattle.host_core.specs.Frames.{OnlySends, OnlyWrites};
+ghost use Rattle.host_core.specs.Frames.{OnlyWrites};
 ghost use Rattle.host_core.specs.Faults.{Causes};
 ghost use Rattle.wire_core.specs.Frames.{framed};
 ghost use Rattle.wire_in.specs.declared.record.Record.{Record};
@@ -10,6 +10,7 @@ ghost use Rattle.wire_in.specs.Cutting.{pending, rest_of};
 ghost use Rattle.journal_core.specs.Extended.{Extends};
 ghost use Rattle.journal_core.specs.Journal.{IsAtRest, IsOfDisk};
 ghost use Rattle.journal_core.specs.Layout.{with_batch};
+ghost use Rattle.stream_core.specs.Outcomes.{Sent};
 ghost use Rattle.stream_core.specs.Answering.{LeavesInput};
 ghost use Rattle.stream_core.specs.Ends.{IsEnd, end_of};
 ghost use Rattle.stream_core.specs.Pending.{Expects, SendsPrefix};
@@ -103,9 +104,7 @@ impl Standby {
         ensures most { self.new.round.most ≡ self.old.round.most }
         ensures answered { OnOk result (self.new.answered ≡ self.old.answered + length self.old.round.replies) }
         ensures rest { self.new ≡ record self.old { round = self.new.round; answered = self.new.answered } }
-        ensures keeps { OnlySends (H.outside host.old) (H.outside host.new) }
-        ensures causes { Causes result (H.outside host.old) (H.outside host.new) }
-        ensures fault { IfErr result (λ fault. fault ≡ Fault.Send) }
+        ensures outside { Sent result (H.outside host.old) (H.outside host.new) }
     {
         append_replies(outbox, host, self.round.replies())?;
         self.answered += self.round.len() as u64;

@@ -1,11 +1,10 @@
 //! Bytes that wait to be sent together.
 
-ghost use Rattle.std.specs.Prelude.{◌≡◌, ◌+◌, ◌≤◌, ◌++◌, [], ℕ, List, Option, length, OnOk, OnErr, IfOk, IfErr, IsOk};
+ghost use Rattle.std.specs.Prelude.{◌≡◌, ◌+◌, ◌≤◌, ◌++◌, [], ℕ, List, Option, length, OnOk, OnErr, IfOk, IsOk};
 ghost use Rattle.std.specs.Io.KnownBytes.{append_known};
 ghost use Rattle.host_core.specs.Outside.{Elapses};
-ghost use Rattle.host_core.specs.Frames.{OnlySends};
-ghost use Rattle.host_core.specs.Faults.{Causes};
 ghost use Rattle.wire_out.specs.Spelling.{spelling};
+ghost use Rattle.stream_core.specs.Outcomes.{Sent};
 ghost use Rattle.stream_core.specs.Pending.{Expects, SendsPrefix};
 
 use host_core::{Fault, Host, send_all};
@@ -57,9 +56,7 @@ impl Outbox {
         ensures idle { self.old ≡ [] → (IsOk result) × (host.new ≡ host.old) }
         ensures moments { (begin : Option (List ℕ)) (text : List ℕ) → Expects begin (H.outside host.old).sent self.old text
             → Elapses (H.outside host.old) (H.outside host.new) (SendsPrefix begin text (H.outside host.old)) }
-        ensures keeps { OnlySends (H.outside host.old) (H.outside host.new) }
-        ensures causes { Causes result (H.outside host.old) (H.outside host.new) }
-        ensures fault { IfErr result (λ fault. fault ≡ Fault.Send) }
+        ensures outside { Sent result (H.outside host.old) (H.outside host.new) }
     {
         if self.bytes.is_empty() {
             return Ok(());
@@ -76,9 +73,7 @@ impl Outbox {
         ensures room { OnOk result (length self.new + 256 ≤ 65536) }
         ensures moments { (begin : Option (List ℕ)) (text : List ℕ) → Expects begin (H.outside host.old).sent self.old text
             → Elapses (H.outside host.old) (H.outside host.new) (SendsPrefix begin text (H.outside host.old)) }
-        ensures keeps { OnlySends (H.outside host.old) (H.outside host.new) }
-        ensures causes { Causes result (H.outside host.old) (H.outside host.new) }
-        ensures fault { IfErr result (λ fault. fault ≡ Fault.Send) }
+        ensures outside { Sent result (H.outside host.old) (H.outside host.new) }
     {
         if self.bytes.len() + SHORT <= CAPACITY {
             return Ok(());
@@ -103,9 +98,7 @@ impl Outbox {
             → OnOk result (Expects begin (H.outside host.new).sent self.new (text ++ piece.now)) }
         ensures moments { (begin : Option (List ℕ)) (text : List ℕ) → Expects begin (H.outside host.old).sent self.old text
             → Elapses (H.outside host.old) (H.outside host.new) (SendsPrefix begin text (H.outside host.old)) }
-        ensures keeps { OnlySends (H.outside host.old) (H.outside host.new) }
-        ensures causes { Causes result (H.outside host.old) (H.outside host.new) }
-        ensures fault { IfErr result (λ fault. fault ≡ Fault.Send) }
+        ensures outside { Sent result (H.outside host.old) (H.outside host.new) }
     {
         self.make_room(host)?;
         self.write(piece);
@@ -119,9 +112,7 @@ impl Outbox {
             → OnOk result (Expects begin (H.outside host.new).sent self.new (text ++ spelling frame.now)) }
         ensures moments { (begin : Option (List ℕ)) (text : List ℕ) → Expects begin (H.outside host.old).sent self.old text
             → Elapses (H.outside host.old) (H.outside host.new) (SendsPrefix begin text (H.outside host.old)) }
-        ensures keeps { OnlySends (H.outside host.old) (H.outside host.new) }
-        ensures causes { Causes result (H.outside host.old) (H.outside host.new) }
-        ensures fault { IfErr result (λ fault. fault ≡ Fault.Send) }
+        ensures outside { Sent result (H.outside host.old) (H.outside host.new) }
     {
         let mut cell = [0; FRAME];
         let len = put_frame(frame, &mut cell);

@@ -1,11 +1,10 @@
 //! The two streams over a host: frames printed as lines, and lines packed as frames.
 
-ghost use Rattle.std.specs.Prelude.{◌≡◌, ◌<◌, ◌≤◌, ◌^◌, ◌+◌, [], ℕ, List, Option, true, false, IfOk, IfErr, OnOk, length, not, refl, ◌&&◌};
+ghost use Rattle.std.specs.Prelude.{◌≡◌, ◌<◌, ◌≤◌, ◌^◌, ◌+◌, [], ℕ, List, Option, true, false, IfOk, OnOk, length, not, refl, ◌&&◌};
 ghost use Rattle.host_core.specs.Outside.{Elapses};
-ghost use Rattle.host_core.specs.Frames.{OnlySends};
-ghost use Rattle.host_core.specs.Faults.{Causes};
 ghost use Rattle.wire_in.specs.Cutting.{pending};
 ghost use Rattle.text_core.specs.declared.task.Task.TheVariants as tasks;
+ghost use Rattle.stream_core.specs.Outcomes.{Sent};
 ghost use Rattle.stream_core.specs.Ends as ends;
 ghost use Rattle.stream_core.specs.Pending.{SendsPrefix};
 ghost use Rattle.stream_core.proofs.Sending.{sends_longer, sends_whole};
@@ -55,9 +54,7 @@ fn close_at<H: Host>(
     ensures cutter { translator.new.cutter ≡ translator.old.cutter }
     ensures bad { translator.old.writer.bad ≡ true → translator.new.writer.bad ≡ true }
     ensures few { OnOk result (translator.new.writer.number < 2 ^ 43) }
-    ensures keeps { OnlySends (H.outside host.old) (H.outside host.new) }
-    ensures causes { Causes result (H.outside host.old) (H.outside host.new) }
-    ensures fault { IfErr result (λ fault. fault ≡ Fault.Send) }
+    ensures outside { Sent result (H.outside host.old) (H.outside host.new) }
 {
     if closes(at_end, translator.writer.bad) {
         return translator.close(task, kind, outbox, host);

@@ -1,13 +1,12 @@
 //! A stream on its way: from pieces of the input to what is sent.
 
-ghost use Rattle.std.specs.Prelude.{◌≡◌, ◌⊎◌, ◌+◌, ◌<◌, ◌≤◌, ◌^◌, ◌++◌, ◌∷◌, [], ℕ, List, Option, None, length, take, true, false, IsSome, OnOk, IfOk, IfSome, IfErr};
+ghost use Rattle.std.specs.Prelude.{◌≡◌, ◌⊎◌, ◌+◌, ◌<◌, ◌≤◌, ◌^◌, ◌++◌, ◌∷◌, [], ℕ, List, Option, None, length, take, true, false, IsSome, OnOk, IfOk, IfSome};
 ghost use Rattle.std.specs.Io.KnownBytes.{append_known};
 ghost use Rattle.host_core.specs.Outside.{Elapses};
-ghost use Rattle.host_core.specs.Frames.{OnlySends};
-ghost use Rattle.host_core.specs.Faults.{Causes};
 ghost use Rattle.wire_core.specs.Frames.{framed};
 ghost use Rattle.wire_in.specs.Cutting.{pending, bodies_of, rest_of};
 ghost use Rattle.text_core.specs.declared.task.Task.TheVariants as tasks;
+ghost use Rattle.stream_core.specs.Outcomes.{Sent};
 ghost use Rattle.stream_core.specs.Pending.{SendsPrefix};
 ghost use Rattle.text_core.specs.Streams.{units_of, text_of, text_for, last_unit};
 ghost use Rattle.text_core.specs.Streams as streams;
@@ -84,9 +83,7 @@ impl Translator {
             (IfOk result (λ n. Reads tasks.Print kind begin (read ++ take n piece.now) self.new outbox.new (H.outside host.new).sent)) }
         ensures used { IfOk result (λ n. (0 < n) × (n ≤ length piece.now)) }
         ensures few { OnOk result (self.new.writer.number ≤ self.old.writer.number + 1) }
-        ensures keeps { OnlySends (H.outside host.old) (H.outside host.new) }
-        ensures causes { Causes result (H.outside host.old) (H.outside host.new) }
-        ensures fault { IfErr result (λ fault. fault ≡ Fault.Send) }
+        ensures outside { Sent result (H.outside host.old) (H.outside host.new) }
     {
         if let Some(body) = whole_frame(&self.cutter, piece) {
             self.writer.answer(Task::Print, kind, outbox, host, body)?;
@@ -116,9 +113,7 @@ impl Translator {
             → Run begin (text_for tasks.Pack kind read) (H.outside host.old) (H.outside host.new)
             (OnOk result (Reads tasks.Pack kind begin (read ++ last.now ++ 10 ∷ []) self.new outbox.new (H.outside host.new).sent)) }
         ensures few { OnOk result (self.new.writer.number ≤ self.old.writer.number + 1) }
-        ensures keeps { OnlySends (H.outside host.old) (H.outside host.new) }
-        ensures causes { Causes result (H.outside host.old) (H.outside host.new) }
-        ensures fault { IfErr result (λ fault. fault ≡ Fault.Send) }
+        ensures outside { Sent result (H.outside host.old) (H.outside host.new) }
     {
         if self.line.is_empty() {
             return self.writer.answer(Task::Pack, kind, outbox, host, last);
@@ -147,9 +142,7 @@ impl Translator {
             (IfOk result (λ n. Reads tasks.Pack kind begin (read ++ take n piece.now) self.new outbox.new (H.outside host.new).sent)) }
         ensures used { IfOk result (λ n. (0 < n) × (n ≤ length piece.now)) }
         ensures few { OnOk result (self.new.writer.number ≤ self.old.writer.number + 1) }
-        ensures keeps { OnlySends (H.outside host.old) (H.outside host.new) }
-        ensures causes { Causes result (H.outside host.old) (H.outside host.new) }
-        ensures fault { IfErr result (λ fault. fault ≡ Fault.Send) }
+        ensures outside { Sent result (H.outside host.old) (H.outside host.new) }
     {
         let Some(len) = line_len(piece) else {
             self.line.keep(piece);
@@ -176,9 +169,7 @@ impl Translator {
             (IfOk result (λ n. Reads task kind begin (read ++ take n piece.now) self.new outbox.new (H.outside host.new).sent)) }
         ensures used { IfOk result (λ n. (0 < n) × (n ≤ length piece.now)) }
         ensures few { OnOk result (self.new.writer.number ≤ self.old.writer.number + 1) }
-        ensures keeps { OnlySends (H.outside host.old) (H.outside host.new) }
-        ensures causes { Causes result (H.outside host.old) (H.outside host.new) }
-        ensures fault { IfErr result (λ fault. fault ≡ Fault.Send) }
+        ensures outside { Sent result (H.outside host.old) (H.outside host.new) }
     {
         match task {
             Task::Print => self.take_frame(kind, outbox, host, piece),
@@ -202,9 +193,7 @@ impl Translator {
         ensures moments { (begin : Option (List ℕ)) (read : List ℕ) → Reads task kind begin read self.old outbox.old (H.outside host.old).sent
             → Elapses (H.outside host.old) (H.outside host.new) (SendsPrefix begin (text_of task kind (units_of task (read ++ piece.now))) (H.outside host.old)) }
         ensures few { OnOk result (self.new.writer.number ≤ self.old.writer.number + length piece.now) }
-        ensures keeps { OnlySends (H.outside host.old) (H.outside host.new) }
-        ensures causes { Causes result (H.outside host.old) (H.outside host.new) }
-        ensures fault { IfErr result (λ fault. fault ≡ Fault.Send) }
+        ensures outside { Sent result (H.outside host.old) (H.outside host.new) }
     {
         let mut at = 0;
         while at < piece.len() && !self.writer.bad {
@@ -228,9 +217,7 @@ impl Translator {
             → Elapses (H.outside host.old) (H.outside host.new) (SendsPrefix begin (text_of tasks.Pack kind (units_of tasks.Pack read)) (H.outside host.old)) }
         ensures cutter { self.new.cutter ≡ self.old.cutter }
         ensures few { OnOk result (self.new.writer.number ≤ self.old.writer.number + 1) }
-        ensures keeps { OnlySends (H.outside host.old) (H.outside host.new) }
-        ensures causes { Causes result (H.outside host.old) (H.outside host.new) }
-        ensures fault { IfErr result (λ fault. fault ≡ Fault.Send) }
+        ensures outside { Sent result (H.outside host.old) (H.outside host.new) }
     {
         if self.line.is_empty() {
             return Ok(());
@@ -255,9 +242,7 @@ impl Translator {
             → Elapses (H.outside host.old) (H.outside host.new) (SendsPrefix begin (text_of task kind (units_of task read)) (H.outside host.old)) }
         ensures cutter { self.new.cutter ≡ self.old.cutter }
         ensures few { OnOk result (self.new.writer.number ≤ self.old.writer.number + 1) }
-        ensures keeps { OnlySends (H.outside host.old) (H.outside host.new) }
-        ensures causes { Causes result (H.outside host.old) (H.outside host.new) }
-        ensures fault { IfErr result (λ fault. fault ≡ Fault.Send) }
+        ensures outside { Sent result (H.outside host.old) (H.outside host.new) }
     {
         match task {
             Task::Print => Ok(()),

@@ -1,10 +1,9 @@
 //! What is answered of a stream.
 
-ghost use Rattle.std.specs.Prelude.{◌≡◌, ◌+◌, ◌<◌, ◌≤◌, ◌^◌, ◌++◌, ◌∷◌, [], ℕ, List, Option, length, true, false, if◌then◌else◌, OnOk, IfErr};
+ghost use Rattle.std.specs.Prelude.{◌≡◌, ◌+◌, ◌<◌, ◌≤◌, ◌^◌, ◌++◌, ◌∷◌, [], ℕ, List, Option, length, true, false, if◌then◌else◌, OnOk};
 ghost use Rattle.host_core.specs.Outside.{Elapses};
-ghost use Rattle.host_core.specs.Frames.{OnlySends};
-ghost use Rattle.host_core.specs.Faults.{Causes};
 ghost use Rattle.text_core.specs.declared.task.Task.TheVariants as tasks;
+ghost use Rattle.stream_core.specs.Outcomes.{Sent};
 ghost use Rattle.stream_core.specs.Pending.{SendsPrefix};
 ghost use Rattle.text_core.specs.Streams.{text_of};
 ghost use Rattle.text_core.specs.InternalStreams.{Answers};
@@ -51,9 +50,7 @@ impl Writer {
         ensures moments { (begin : Option (List ℕ)) (units : List (List ℕ)) → Answers task kind begin units self.old outbox.old (H.outside host.old).sent
             → Elapses (H.outside host.old) (H.outside host.new) (SendsPrefix begin (text_of task kind units) (H.outside host.old)) }
         ensures few { OnOk result (self.new.number ≤ self.old.number + 1) }
-        ensures keeps { OnlySends (H.outside host.old) (H.outside host.new) }
-        ensures causes { Causes result (H.outside host.old) (H.outside host.new) }
-        ensures fault { IfErr result (λ fault. fault ≡ Fault.Send) }
+        ensures outside { Sent result (H.outside host.old) (H.outside host.new) }
     {
         let mut output = Line::new();
         if !write_output(&mut output, task, kind, unit) {

@@ -12,4 +12,4 @@ returns-in_default-clause-ran g c whole texts = ran_bad c.read_lines.ensures.beg
 pub returns-in-Done-clause-ran : goal.returns-in-Done-clause-ran
 returns-in-Done-clause-ran g c whole texts =
     let end = c.end_input.ensures in
-    ran_done c.read_lines.ensures.began whole texts (c.in_ok-status.was ∙ ap Ok c.in-Done.is) c.end_input.result end.status end.sent end.moments end.end end.keeps end.causes end.unread end.unkept
+    ran_done c.read_lines.ensures.began whole texts (c.in_ok-status.was ∙ ap Ok c.in-Done.is) c.end_input.result end.status end.sent end.moments end.end end.outside

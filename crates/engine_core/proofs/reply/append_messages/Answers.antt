@@ -28,8 +28,8 @@ loop-message-preserved g c =
       moments = λ begin text expects.
           let now = c.loop-message.invariant.pending begin text expects in
           sends_on (c.loop-message.invariant.moments begin text expects) now.0 _ now.2 (c.append.ensures.moments begin now.0 now.1);
-      keeps = onward c.loop-message.invariant.keeps c.append.ensures.keeps;
-      none = faultless c.loop-message.invariant.none c.in_ok-append.ensures.causes;
+      keeps = onward c.loop-message.invariant.keeps c.append.ensures.outside.keeps;
+      none = faultless c.loop-message.invariant.none c.in_ok-append.ensures.outside.causes;
       empty = λ none. absurd (omega (arith, ap length none, c.loop-message-test.true));
     }
 

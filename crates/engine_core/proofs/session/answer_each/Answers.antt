@@ -62,8 +62,8 @@ loop-outcome-preserved g c =
           let was = rw split at c.loop-outcome.invariant.sound in
           let both = simp length-append at (ap length (records-append (c.outcome-item.result ∷ []) (drop (c.loop-outcome.outcome-index + 1) c.args.outcomes.now))) in
           grind (arith, was, both, c.answer.ensures.admission, c.loop-outcome.invariant.number, c.in_ok-answer.ensures.evaluated, c.in_ok-answer.ensures.published, c.in_ok-answer.ensures.roomy was.roomy, few_records (c.outcome-item.result ∷ []));
-      keeps = onward c.loop-outcome.invariant.keeps c.answer.ensures.keeps;
-      none = faultless c.loop-outcome.invariant.none c.in_ok-answer.ensures.causes;
+      keeps = onward c.loop-outcome.invariant.keeps c.answer.ensures.outside.keeps;
+      none = faultless c.loop-outcome.invariant.none c.in_ok-answer.ensures.outside.causes;
     }
 
 pub returns-in_err-answer-clause-replies : goal.returns-in_err-answer-clause-replies

@@ -29,14 +29,14 @@ returns-clause-runs g c start read same serves =
           (λ empty done. record {
             answered = done.0;
             judges = record { cutter = rw c.answer_round.ensures.cutter serves.judges.cutter; answers = done.1 };
-            held = rw (none_waits done.1.waits empty) (g.K.Keeper.still_held c.keep_round.new.keeper _ _ _ held c.answer_round.ensures.keeps.disk c.answer_round.ensures.keeps.left);
+            held = rw (none_waits done.1.waits empty) (g.K.Keeper.still_held c.keep_round.new.keeper _ _ _ held c.answer_round.ensures.outside.keeps.disk c.answer_round.ensures.outside.keeps.left);
           });
       before = whenever_ok c.answer_round.result (λ records pending image recovered.
-          c.in_ok-keep_round.ensures.before records pending image (g.K.Keeper.recovered_before c.keep_round.new.keeper records pending image _ _ c.answer_round.ensures.keeps.left recovered));
+          c.in_ok-keep_round.ensures.before records pending image (g.K.Keeper.recovered_before c.keep_round.new.keeper records pending image _ _ c.answer_round.ensures.outside.keeps.left recovered));
       moments = goes_on (widened (c.keep_round.ensures.moments _ serves.held) _ (leaves_keeps serves _ _ c.keep_round.ensures.few)) replies.moments
           (λ image bytes stop. safe_sends _ start _ _ image bytes
           (at_rest [] refl (c.in_ok-keep_round.ensures.before _ [] image (g.K.Keeper.recovers_now c.keep_round.new.keeper _ _ image held stop.was))) stop);
-      nothing = λ none. still_nothing (c.keep_round.ensures.nothing (no_records serves none)) (sending replies.moments c.answer_round.ensures.keeps.disk);
+      nothing = λ none. still_nothing (c.keep_round.ensures.nothing (no_records serves none)) (sending replies.moments c.answer_round.ensures.outside.keeps.disk);
       starved = replies.starved;
     }
 
@@ -47,7 +47,7 @@ returns-clause-ready g c =
     let next = c.answer_round.new.session.engine in
     record {
       sound = sound;
-      room = rw c.answer_round.ensures.keeps.disk (c.in_ok-keep_round.ensures.room (next.admission.capacity - next.evaluated)
+      room = rw c.answer_round.ensures.outside.keeps.disk (c.in_ok-keep_round.ensures.room (next.admission.capacity - next.evaluated)
           (subst (g.K.Keeper.has_room c.args.keeper.now (g.H.Host.outside c.args.host.now).disk)
           (grind (arith, c.requires.ready.sound.count, c.requires.ready.sound.within, sound.count, c.answer_round.ensures.admission, empty)) c.requires.ready.room));
       some = omega (arith, c.requires.ready.some, c.answer_round.ensures.most);
@@ -57,7 +57,7 @@ returns-clause-ready g c =
 pub returns-clause-keeps : goal.returns-clause-keeps
 returns-clause-keeps g c =
     let kept = c.keep_round.ensures.keeps in
-    let sent = c.answer_round.ensures.keeps in
+    let sent = c.answer_round.ensures.outside.keeps in
     record {
       input = sent.input ∙ kept.input;
       asks = sent.asks ∙ kept.asks;

@@ -9,5 +9,5 @@ pub returns : goal.returns
 returns g c =
     subst (λ (s : Status). SendsText (frames_of (generated c.args.plan.now)) s (g.H.Host.outside c.args.host.now) (g.H.Host.outside c.send_frames.new.host)) (sym c.answer_of.ensures)
     (sends_text (frames_of (generated c.args.plan.now)) c.send_frames.result (g.H.Host.outside c.args.host.now) (g.H.Host.outside c.send_frames.new.host)
-    (g.met.H.Host.sent_now c.send_frames.new.host) (g.met.H.Host.stops_now c.send_frames.new.host) c.send_frames.ensures.moments c.send_frames.ensures.keeps
-    c.send_frames.ensures.done c.send_frames.ensures.sent c.send_frames.ensures.causes c.send_frames.ensures.unsent c.send_frames.ensures.unread c.send_frames.ensures.unkept)
+    (g.met.H.Host.sent_now c.send_frames.new.host) (g.met.H.Host.stops_now c.send_frames.new.host) c.send_frames.ensures.moments
+    c.send_frames.ensures.done c.send_frames.ensures.sent c.send_frames.ensures.outside c.send_frames.ensures.unsent)

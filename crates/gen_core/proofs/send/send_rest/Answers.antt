@@ -9,7 +9,7 @@ loop-record-preserved g c =
     let was = c.loop-record.invariant in
     one_more was c.in-Some.record c.next.new.self c.append_record.new.outbox c.in-Some.ensures.first
     (c.in_ok-append_record.ensures.pending _ was.done was.expects) (c.append_record.ensures.moments _ was.done was.expects)
-    c.append_record.ensures.keeps c.in_ok-append_record.ensures.causes
+    c.append_record.ensures.outside.keeps c.in_ok-append_record.ensures.outside.causes
 
 pub returns-in_err-append_record-clause-moments : goal.returns-in_err-append_record-clause-moments
 returns-in_err-append_record-clause-moments g c =

@@ -43,12 +43,12 @@ loop-x-preserved g c =
       working = λ some. c.in_ok-resume_record.ensures.working;
       workers = c.resume_record.ensures.workers ∙ c.loop-x.invariant.workers;
       admission = c.resume_record.ensures.admission ∙ c.loop-x.invariant.admission;
-      keeps = onward c.loop-x.invariant.keeps c.resume_record.ensures.keeps;
+      keeps = onward c.loop-x.invariant.keeps c.resume_record.ensures.outside.keeps;
       unasked = λ none empty.
           let so_far = c.loop-x.invariant.unasked none empty in
           let quiet = c.in_ok-resume_record.ensures.unasked none so_far.1 in
           (quiet.0 ∙ so_far.0, quiet.2);
-      none = faultless c.loop-x.invariant.none c.in_ok-resume_record.ensures.causes;
+      none = faultless c.loop-x.invariant.none c.in_ok-resume_record.ensures.outside.causes;
     }
 
 pub returns-in_err-resume_record-clause-moments : goal.returns-in_err-resume_record-clause-moments

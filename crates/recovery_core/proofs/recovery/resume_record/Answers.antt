@@ -62,7 +62,7 @@ pub returns-clause-roomy : goal.returns-clause-roomy
 returns-clause-roomy g c = whenever_ok c.append_again.result (c.in_ok-evaluate.ensures.roomy c.requires.roomy)
 
 pub returns-clause-starved : goal.returns-clause-starved
-returns-clause-starved g c = λ capacity base accepted later begin r is. absurd (not_short c.append_again.result c.append_again.ensures.fault is)
+returns-clause-starved g c = λ capacity base accepted later begin r is. absurd (not_short c.append_again.result c.append_again.ensures.outside.fault is)
 
 pub returns-in_err-evaluate-clause-unasked : goal.returns-in_err-evaluate-clause-unasked
 returns-in_err-evaluate-clause-unasked g c = λ none empty.

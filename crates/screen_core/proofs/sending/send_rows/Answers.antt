@@ -41,8 +41,8 @@ loop-row-preserved g c =
       moments = λ begin expects.
           let now = c.loop-row.invariant.pending begin expects in
           sends_on (c.loop-row.invariant.moments begin expects) now.0 _ now.2 (c.append_bytes.ensures.moments begin now.0 now.1);
-      keeps = onward c.loop-row.invariant.keeps c.append_bytes.ensures.keeps;
-      none = faultless c.loop-row.invariant.none c.in_ok-append_bytes.ensures.causes;
+      keeps = onward c.loop-row.invariant.keeps c.append_bytes.ensures.outside.keeps;
+      none = faultless c.loop-row.invariant.none c.in_ok-append_bytes.ensures.outside.causes;
     }
 
 pub returns-in_err-append_bytes-clause-moments : goal.returns-in_err-append_bytes-clause-moments

@@ -32,17 +32,14 @@ loop-reply-preserved g c =
       moments = λ begin text expects.
           let now = c.loop-reply.invariant.pending begin text expects in
           sends_on (c.loop-reply.invariant.moments begin text expects) now.0 _ now.2 (c.append_reply.ensures.moments begin now.0 now.1);
-      keeps = onward c.loop-reply.invariant.keeps c.append_reply.ensures.keeps;
-      none = faultless c.loop-reply.invariant.none c.in_ok-append_reply.ensures.causes;
+      keeps = onward c.loop-reply.invariant.keeps c.append_reply.ensures.outside.keeps;
+      none = faultless c.loop-reply.invariant.none c.in_ok-append_reply.ensures.outside.causes;
     }
 
 pub returns-in_err-append_reply-clause-moments : goal.returns-in_err-append_reply-clause-moments
 returns-in_err-append_reply-clause-moments g c = λ begin text expects.
     let now = c.loop-reply.invariant.pending begin text expects in
     sends_on (c.loop-reply.invariant.moments begin text expects) now.0 _ now.2 (c.append_reply.ensures.moments begin now.0 now.1)
-
-pub returns-in_err-append_reply-clause-keeps : goal.returns-in_err-append_reply-clause-keeps
-returns-in_err-append_reply-clause-keeps g c = onward c.loop-reply.invariant.keeps c.append_reply.ensures.keeps
 
 pub returns-clause-pending : goal.returns-clause-pending
 returns-clause-pending g c = λ begin text expects.

@@ -78,31 +78,31 @@ pub returns-in_err-ship_records-clause-base : goal.returns-in_err-ship_records-c
 returns-in_err-ship_records-clause-base g c = c.next.ensures.base ∙ c.batches.invariant.base
 
 pub returns-in_err-ship_records-clause-keeps : goal.returns-in_err-ship_records-clause-keeps
-returns-in_err-ship_records-clause-keeps g c = recovers_on (recovers_on c.batches.invariant.keeps (only_read c.next.ensures.keeps)) (only_sent c.ship_records.ensures.keeps)
+returns-in_err-ship_records-clause-keeps g c = recovers_on (recovers_on c.batches.invariant.keeps (only_read c.next.ensures.keeps)) (only_sent c.ship_records.ensures.outside.keeps)
 
 pub returns-in_err-ship_records-clause-hindered : goal.returns-in_err-ship_records-clause-hindered
 returns-in_err-ship_records-clause-hindered g c =
     answered_on _ c.from_residual-in_err-ship_records.result c.from_residual-in_err-ship_records.ensures.1
-    (fault_hinders _ _ _ _ c.in_err-ship_records.was (unread c.ship_records.result c.ship_records.ensures.fault) (λ short. absurd (unstarved c.ship_records.result c.ship_records.ensures.fault short))
-    (faultless c.batches.invariant.none c.in_ok-more.ensures.none) c.in_err-ship_records.ensures.causes)
+    (fault_hinders _ _ _ _ c.in_err-ship_records.was (unread c.ship_records.result c.ship_records.ensures.outside.fault) (λ short. absurd (unstarved c.ship_records.result c.ship_records.ensures.outside.fault short))
+    (faultless c.batches.invariant.none c.in_ok-more.ensures.none) c.in_err-ship_records.ensures.outside.causes)
 
 pub batches-preserved : goal.batches-preserved
 batches-preserved g c = record {
-  in_step = subst (λ known. IsInStep c.next.new.self.scan c.next.new.self.admission known) (sym c.ship_records.ensures.keeps.disk) c.in_ok-more.ensures.in_step;
+  in_step = subst (λ known. IsInStep c.next.new.self.scan c.next.new.self.admission known) (sym c.ship_records.ensures.outside.keeps.disk) c.in_ok-more.ensures.in_step;
   advances = λ begin disk first.
       let so_far = c.batches.invariant.advances begin disk first in
       let s = so_far.0 in
       let next = c.next.ensures.batch s.batches disk s.reads (c.in_ok-more.was ∙ ap Ok c.if-not-more.false) in
       let counted = before_is s c.next.ensures.keeps c.next.new.self c.next.ensures.base c.list.ensures.records next c.count-before.ensures in
       let expects = expects_mid s c.next.ensures.keeps c.next.new.self c.next.ensures.base c.list.ensures.records next in (
-        shipped_batch s c.next.ensures.keeps c.next.new.self c.next.ensures.base c.list.ensures.records next c.ship_records.new.outbox c.ship_records.ensures.keeps
+        shipped_batch s c.next.ensures.keeps c.next.new.self c.next.ensures.base c.list.ensures.records next c.ship_records.new.outbox c.ship_records.ensures.outside.keeps
             (c.in_ok-ship_records.ensures.pending begin _ _ counted expects),
         ships_then c.args.from _ (ships_then c.args.from _ so_far.1 (ships_behind c.args.from c.batches.invariant.base (ships_on s c.next.ensures.keeps)))
             (ships_behind c.args.from c.batches.invariant.base (ships_batch s c.next.ensures.keeps c.next.new.self c.next.ensures.base c.list.ensures.records next (c.ship_records.ensures.moments begin _ _ counted expects))),
       );
   base = c.next.ensures.base ∙ c.batches.invariant.base;
-  keeps = recovers_on (recovers_on c.batches.invariant.keeps (only_read c.next.ensures.keeps)) (only_sent c.ship_records.ensures.keeps);
-  none = faultless (faultless c.batches.invariant.none c.in_ok-more.ensures.none) c.in_ok-ship_records.ensures.causes;
+  keeps = recovers_on (recovers_on c.batches.invariant.keeps (only_read c.next.ensures.keeps)) (only_sent c.ship_records.ensures.outside.keeps);
+  none = faultless (faultless c.batches.invariant.none c.in_ok-more.ensures.none) c.in_ok-ship_records.ensures.outside.causes;
 }
 
 pub batches-smaller : goal.batches-smaller

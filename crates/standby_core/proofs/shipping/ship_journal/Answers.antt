@@ -17,13 +17,13 @@ returns-in_err-ship_batches-clause-unshipped g c =
 pub returns-in_err-flush-clause-unshipped : goal.returns-in_err-flush-clause-unshipped
 returns-in_err-flush-clause-unshipped g c =
     answered_on _ c.from_residual-in_err-flush.result c.from_residual-in_err-flush.ensures.1
-    (unshipped c.begin.ensures.keeps c.in_ok-reading.ensures.none c.in_ok-reading.ensures.reads _ c.requires (recovers_on c.ship_batches.ensures.keeps (only_sent c.flush.ensures.keeps))
+    (unshipped c.begin.ensures.keeps c.in_ok-reading.ensures.none c.in_ok-reading.ensures.reads _ c.requires (recovers_on c.ship_batches.ensures.keeps (only_sent c.flush.ensures.outside.keeps))
     (flushed_moments c.ship_batches.ensures.base c.ship_batches.ensures.moments c.in_ok-ship_batches.ensures.ships c.flush.ensures.moments)
     _ _ c.in_ok-reading.ensures.header
-    (fault_hinders _ _ _ _ c.in_err-flush.was (unread c.flush.result c.flush.ensures.fault) (λ short. absurd (unstarved c.flush.result c.flush.ensures.fault short)) c.in_ok-ship_batches.ensures.none c.in_err-flush.ensures.causes))
+    (fault_hinders _ _ _ _ c.in_err-flush.was (unread c.flush.result c.flush.ensures.outside.fault) (λ short. absurd (unstarved c.flush.result c.flush.ensures.outside.fault short)) c.in_ok-ship_batches.ensures.none c.in_err-flush.ensures.outside.causes))
 
 pub returns-clause-shipped : goal.returns-clause-shipped
 returns-clause-shipped g c =
-    shipped_all c.begin.ensures.keeps c.in_ok-reading.ensures.none c.in_ok-reading.ensures.reads _ c.requires (recovers_on c.ship_batches.ensures.keeps (only_sent c.flush.ensures.keeps))
+    shipped_all c.begin.ensures.keeps c.in_ok-reading.ensures.none c.in_ok-reading.ensures.reads _ c.requires (recovers_on c.ship_batches.ensures.keeps (only_sent c.flush.ensures.outside.keeps))
     (flushed_moments c.ship_batches.ensures.base c.ship_batches.ensures.moments c.in_ok-ship_batches.ensures.ships c.flush.ensures.moments)
-    c.ship_batches.new.reading c.ship_batches.new.outbox c.in_ok-ship_batches.ensures.ships c.in_ok-ship_batches.ensures.closed c.in_ok-flush.ensures.sent (faultless c.in_ok-ship_batches.ensures.none c.in_ok-flush.ensures.causes)
+    c.ship_batches.new.reading c.ship_batches.new.outbox c.in_ok-ship_batches.ensures.ships c.in_ok-ship_batches.ensures.closed c.in_ok-flush.ensures.sent (faultless c.in_ok-ship_batches.ensures.none c.in_ok-flush.ensures.outside.causes)

@@ -36,17 +36,14 @@ loop-x-preserved g c =
                 (c.in_ok-ship_record.ensures.pending begin _ so_far.0),
             sends_whole so_far.1 (ships_part past c.args.from (batch_part held xs i) (c.ship_record.ensures.moments begin _ so_far.0)),
           );
-      keeps = onward c.loop-x.invariant.keeps c.ship_record.ensures.keeps;
-      none = faultless c.loop-x.invariant.none c.in_ok-ship_record.ensures.causes;
+      keeps = onward c.loop-x.invariant.keeps c.ship_record.ensures.outside.keeps;
+      none = faultless c.loop-x.invariant.none c.in_ok-ship_record.ensures.outside.causes;
     }
 
 pub returns-in_err-ship_record-clause-moments : goal.returns-in_err-ship_record-clause-moments
 returns-in_err-ship_record-clause-moments g c = λ begin past held counted expects.
     let so_far = c.loop-x.invariant.advances begin past held counted expects in
     sends_whole so_far.1 (ships_part past c.args.from (batch_part held c.args.records.now c.loop-x.x-index) (c.ship_record.ensures.moments begin _ so_far.0))
-
-pub returns-in_err-ship_record-clause-keeps : goal.returns-in_err-ship_record-clause-keeps
-returns-in_err-ship_record-clause-keeps g c = onward c.loop-x.invariant.keeps c.ship_record.ensures.keeps
 
 pub returns-clause-pending : goal.returns-clause-pending
 returns-clause-pending g c = λ begin past held counted expects.

@@ -13,5 +13,5 @@ returns-clause-moments g c = λ begin text expects.
 
 pub returns-clause-prompt : goal.returns-clause-prompt
 returns-clause-prompt g c = λ text begin input count left there expects.
-    one_ask text begin input count (g.H.Host.outside c.flush.new.host) (g.H.Host.outside c.read_piece.new.host) c.flush.ensures.keeps.asks (c.flush.ensures.keeps.input ∙ left) there
+    one_ask text begin input count (g.H.Host.outside c.flush.new.host) (g.H.Host.outside c.read_piece.new.host) c.flush.ensures.outside.keeps.asks (c.flush.ensures.outside.keeps.input ∙ left) there
     ((c.in-Ok.ensures).sent begin _ expects) (c.in-Ok-read_piece.ensures).reads.asks

@@ -42,12 +42,12 @@ returns-in_err-settle-clause-moments g c = λ begin disk first.
 pub returns-in_err-settle-clause-hindered : goal.returns-in_err-settle-clause-hindered
 returns-in_err-settle-clause-hindered g c =
     answered_on _ c.from_residual-in_err-settle.result c.from_residual-in_err-settle.ensures.1
-    (fault_hinders _ _ _ _ c.in_err-settle.was c.settle.ensures.unread
+    (fault_hinders _ _ _ _ c.in_err-settle.was c.settle.ensures.outside.unread
     (λ short begin disk first.
     subst (λ (b : Option Base). StarvesAgain (workers_of c.args.self.now.engine.evaluator) c.args.from b begin disk (g.H.Host.outside c.settle.new.host)) (c.gather.ensures.base ∙ c.batches.invariant.base)
     (subst (λ (n : ℕ). StarvesAgain n c.args.from c.gather.new.self.scan.base begin disk (g.H.Host.outside c.settle.new.host)) (c.gather.ensures.workers ∙ c.batches.invariant.workers)
     (c.settle.ensures.starved begin disk (c.in_ok-more.ensures.gathers c.args.from begin disk (c.batches.invariant.advances begin disk (gathers_first first c.clear.ensures)).0) short)))
-    (faultless c.batches.invariant.none c.in_ok-more.ensures.none) c.in_err-settle.ensures.causes)
+    (faultless c.batches.invariant.none c.in_ok-more.ensures.none) c.in_err-settle.ensures.outside.causes)
 
 pub settle-requires-clause-most : goal.settle-requires-clause-most
 settle-requires-clause-most g c κs within = omega (arith, c.batches.invariant.room, c.gather.ensures.most)
@@ -69,8 +69,8 @@ batches-preserved g c = record {
       let so_far = c.batches.invariant.unasked none empty in
       let quiet = c.in_ok-settle.ensures.unasked none (c.gather.ensures.outbox ∙ so_far.1) in
       (subst (λ (h : _). OnlyReadsDisk (g.H.Host.outside c.args.host.now) (g.H.Host.outside h)) (sym quiet.0) (reads_on so_far.0 c.gather.ensures.keeps), quiet.2);
-  keeps = recovers_on (recovers_on c.batches.invariant.keeps (only_read c.gather.ensures.keeps)) (only_sent c.settle.ensures.keeps);
-  none = faultless (faultless c.batches.invariant.none c.in_ok-more.ensures.none) c.in_ok-settle.ensures.causes;
+  keeps = recovers_on (recovers_on c.batches.invariant.keeps (only_read c.gather.ensures.keeps)) (only_sent c.settle.ensures.outside.keeps);
+  none = faultless (faultless c.batches.invariant.none c.in_ok-more.ensures.none) c.in_ok-settle.ensures.outside.causes;
 }
 
 -- the end was read, and nothing waits

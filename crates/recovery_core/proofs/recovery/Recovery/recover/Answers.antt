@@ -30,12 +30,12 @@ returns-in_err-greet-clause-moments g c = λ begin disk first.
 pub returns-in_err-greet-clause-hindered : goal.returns-in_err-greet-clause-hindered
 returns-in_err-greet-clause-hindered g c =
     answered_on _ c.from_residual-in_err-greet.result c.from_residual-in_err-greet.ensures.1
-    (fault_hinders _ _ _ _ c.in_err-greet.was (not_read c.greet.result c.greet.ensures.fault) (λ short. absurd (not_short c.greet.result c.greet.ensures.fault short))
-    c.in_ok-read.ensures.none c.in_err-greet.ensures.causes)
+    (fault_hinders _ _ _ _ c.in_err-greet.was (not_read c.greet.result c.greet.ensures.outside.fault) (λ short. absurd (not_short c.greet.result c.greet.ensures.outside.fault short))
+    c.in_ok-read.ensures.none c.in_err-greet.ensures.outside.causes)
 
 pub returns-clause-recovers : goal.returns-clause-recovers
 returns-clause-recovers g c = λ begin disk first.
-    greeted c.args.from (alone c.args.from (c.in_ok-read.ensures.recovers begin disk first) c.unite.new.self c.unite.ensures.rest c.in-Ok.ensures.stands c.in-Ok.ensures.idle c.in-Ok.ensures.working) c.greet.ensures.keeps c.greet.new.outbox
+    greeted c.args.from (alone c.args.from (c.in_ok-read.ensures.recovers begin disk first) c.unite.new.self c.unite.ensures.rest c.in-Ok.ensures.stands c.in-Ok.ensures.idle c.in-Ok.ensures.working) c.greet.ensures.outside.keeps c.greet.new.outbox
     c.in_ok-greet.ensures.pending
 
 pub returns-clause-moments : goal.returns-clause-moments
@@ -45,4 +45,4 @@ returns-clause-moments g c = λ begin disk first.
 
 pub returns-clause-reading : goal.returns-clause-reading
 returns-clause-reading g c =
-    subst (λ (known : Option (List ℕ)). IsReading c.read.new.self.scan c.unite.new.self 0 known) (sym c.greet.ensures.keeps.disk) (reads_alone c.unite.new.self c.unite.ensures.rest c.in-Ok.ensures.roomy c.in_ok-read.ensures.reading)
+    subst (λ (known : Option (List ℕ)). IsReading c.read.new.self.scan c.unite.new.self 0 known) (sym c.greet.ensures.outside.keeps.disk) (reads_alone c.unite.new.self c.unite.ensures.rest c.in-Ok.ensures.roomy c.in_ok-read.ensures.reading)

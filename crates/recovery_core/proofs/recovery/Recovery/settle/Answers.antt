@@ -21,7 +21,7 @@ returns-in_err-resume_all-clause-starved g c = λ begin disk first is.
 pub returns-clause-settles : goal.returns-clause-settles
 returns-clause-settles g c = λ begin disk first.
     let ahead = resumes_ahead first.resumes c.list-waiting.ensures.records c.deref.ensures.value c.prepare.new.self c.prepare.ensures.rest (c.prepare.ensures.stands _) c.prepare.ensures.ahead in
-    resumed first c.resume_all.new.engine c.resume_all.new.outbox c.clear.ensures (sends_rests c.resume_all.ensures.keeps first.rests) (c.in_ok-resume_all.ensures.resumes _ _ _ begin ahead)
+    resumed first c.resume_all.new.engine c.resume_all.new.outbox c.clear.ensures (sends_rests c.resume_all.ensures.outside.keeps first.rests) (c.in_ok-resume_all.ensures.resumes _ _ _ begin ahead)
     (c.in_ok-resume_all.ensures.working (λ none. subst (λ (e : Engine). IsWorking e.evaluator) (sym (c.prepare.ensures.none (sym c.deref.ensures.value ∙ none))) first.working))
 
 pub returns-clause-moments : goal.returns-clause-moments

@@ -24,7 +24,7 @@ pub returns-clause-follows : goal.returns-clause-follows
 returns-clause-follows g c = λ given count serves.
     let same = c.reply_round.ensures.rest in
     let replies = ap (λ (r : RoundState). r.replies) c.clear_records.ensures in
-    let kept = rests_still (c.in_ok-keep_round.ensures.held _ serves.at_rest) (sends_exchange c.reply_round.ensures.keeps) in
+    let kept = rests_still (c.in_ok-keep_round.ensures.held _ serves.at_rest) (sends_exchange c.reply_round.ensures.outside.keeps) in
     on_ok2 c.reply_round.result (c.reply_round.ensures.pending given.begin _ (expects_still _ c.keep_round.ensures.keeps.sent serves.pending_is)) c.reply_round.ensures.answered
     (λ expects answered.
     follows_on serves (ap (λ (s : Standby). s.cutter) same) (ap (λ (s : Standby). s.admission) same) (rw (← replies) answered) (ap (λ (s : Standby). s.journal.capacity) same ∙ c.keep_round.ensures.capacity)
@@ -40,11 +40,11 @@ returns-clause-sound g c =
     let same = c.reply_round.ensures.rest in
     on_ok2 c.reply_round.result c.reply_round.ensures.round c.reply_round.ensures.answered
     (λ round answered.
-    sound_kept c.requires.sound c.reply_round.ensures.keeps.disk (ap (λ (s : Standby). s.journal) same) (ap (λ (s : Standby). s.admission) same) (ap (λ (r : RoundState). r.records) (round ∙ ap (λ (r : RoundState). record r { replies = [] }) c.clear_records.ensures)) c.in_ok-keep_round.ensures.whole c.in_ok-keep_round.ensures.of_disk
+    sound_kept c.requires.sound c.reply_round.ensures.outside.keeps.disk (ap (λ (s : Standby). s.journal) same) (ap (λ (s : Standby). s.admission) same) (ap (λ (r : RoundState). r.records) (round ∙ ap (λ (r : RoundState). record r { replies = [] }) c.clear_records.ensures)) c.in_ok-keep_round.ensures.whole c.in_ok-keep_round.ensures.of_disk
     c.in_ok-keep_round.ensures.count c.keep_round.ensures.capacity)
 
 pub returns-clause-does : goal.returns-clause-does
-returns-clause-does g c = does_round _ _ c.keep_round.ensures.extends c.reply_round.ensures.keeps (c.reply_round.ensures.most ∙ ap (λ (r : RoundState). r.most) c.clear_records.ensures)
+returns-clause-does g c = does_round _ _ c.keep_round.ensures.extends c.reply_round.ensures.outside.keeps (c.reply_round.ensures.most ∙ ap (λ (r : RoundState). r.most) c.clear_records.ensures)
 
 pub returns-clause-keeps : goal.returns-clause-keeps
-returns-clause-keeps g c = leaves_both (writes_leave c.keep_round.ensures.keeps) (sends_leave c.reply_round.ensures.keeps)
+returns-clause-keeps g c = leaves_both (writes_leave c.keep_round.ensures.keeps) (sends_leave c.reply_round.ensures.outside.keeps)

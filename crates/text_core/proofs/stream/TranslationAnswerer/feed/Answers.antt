@@ -38,10 +38,10 @@ pub returns-clause-runs : goal.returns-clause-runs
 returns-clause-runs g c given count translates next = whenever_ok c.feed.result (returns-clause-leaves g c given count translates next)
 
 pub returns-clause-does : goal.returns-clause-does
-returns-clause-does g c = record { same = refl; keeps = sends_exchange c.feed.ensures.keeps }
+returns-clause-does g c = record { same = refl; keeps = sends_exchange c.feed.ensures.outside.keeps }
 
 pub returns-clause-keeps : goal.returns-clause-keeps
-returns-clause-keeps g c = sends_leave c.feed.ensures.keeps
+returns-clause-keeps g c = sends_leave c.feed.ensures.outside.keeps
 
 pub returns-clause-ready : goal.returns-clause-ready
 returns-clause-ready g c more ready = on_ok c.feed.result c.feed.ensures.few (λ few. omega (arith, few, ready))

@@ -46,17 +46,14 @@ loop-at-preserved g c =
       moments = λ begin read reads.
           sends_whole (c.loop-at.invariant.moments begin read reads)
           (sends_more (taken_text c.args.task c.args.kind read piece at) (c.advance.ensures.run begin _ (c.loop-at.invariant.reads begin read reads)).moments);
-      keeps = onward c.loop-at.invariant.keeps c.advance.ensures.keeps;
-      none = faultless c.loop-at.invariant.none c.in_ok-at.ensures.causes;
+      keeps = onward c.loop-at.invariant.keeps c.advance.ensures.outside.keeps;
+      none = faultless c.loop-at.invariant.none c.in_ok-at.ensures.outside.causes;
     }
 
 pub returns-in_err-at-clause-moments : goal.returns-in_err-at-clause-moments
 returns-in_err-at-clause-moments g c = λ begin read reads.
     sends_whole (c.loop-at.invariant.moments begin read reads)
     (sends_more (taken_text c.args.task c.args.kind read c.args.piece.now c.loop-at.at) (c.advance.ensures.run begin _ (c.loop-at.invariant.reads begin read reads)).moments)
-
-pub returns-in_err-at-clause-keeps : goal.returns-in_err-at-clause-keeps
-returns-in_err-at-clause-keeps g c = onward c.loop-at.invariant.keeps c.advance.ensures.keeps
 
 -- a unit was bad, or the piece is at its end
 pub returns-else-not-self-clause-reads : goal.returns-else-not-self-clause-reads
