@@ -5,7 +5,7 @@ use Rattle.std.proofs.lemmas.List.{drop-drop, drop_at, take_at, take_rest}
 use Rattle.wire_in.specs.declared.record.Record.{Record}
 use Rattle.wire_out.specs.declared.message.Stamped.{Stamped}
 use Rattle.rulebook.specs.Book.{newest_messages}
-use Rattle.shard_core.specs.declared.tagged.Tagged.{Tagged}
+use Rattle.merge_core.specs.declared.tagged.Tagged.{Tagged}
 use Rattle.shard_core.specs.Block as blocks
 use Rattle.shard_core.specs.Block.{ShardsState, followed, given_from, tagged}
 use Rattle.evaluator_core.specs.AheadState.{IsAheadOf}

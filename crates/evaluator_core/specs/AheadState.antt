@@ -3,7 +3,7 @@ use Rattle.std.specs.Prelude.{◌≡◌, ℕ, List, true}
 use Rattle.wire_in.specs.declared.record.Record.{Record}
 use Rattle.shard_core.specs.Block as blocks
 use Rattle.shard_core.specs.Block.{ShardsState, followed, given_from}
-use Rattle.shard_core.specs.declared.tagged.Tagged.{Tagged}
+use Rattle.merge_core.specs.declared.tagged.Tagged.{Tagged}
 
 -- the market in parts, how many records of its last block were handed out, those that weren't, the oldest first, and their
 -- messages

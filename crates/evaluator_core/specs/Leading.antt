@@ -1,6 +1,6 @@
 -- The messages that a list begins with. A private word: no public clause cites it.
 use Rattle.std.specs.Prelude.{ℕ, suc, List, [], ◌∷◌, ◌==◌, if◌then◌else◌}
-use Rattle.shard_core.specs.declared.tagged.Tagged.{Tagged}
+use Rattle.merge_core.specs.declared.tagged.Tagged.{Tagged}
 
 -- how many of the first messages are of the record at an index
 abbrev pub leading : ℕ → List Tagged → ℕ

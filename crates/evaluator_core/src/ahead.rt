@@ -13,8 +13,9 @@ ghost use Rattle.evaluator_core.specs.AheadState.{RepresentsAhead, HasAhead};
 ghost use Rattle.evaluator_core.specs.Leading.{leading};
 
 use market_core::{MOST_MESSAGES, Market};
+use merge_core::Tagged;
 use price_core::NoMemory;
-use shard_core::{Shards, Tagged};
+use shard_core::Shards;
 use std::alloc::Global;
 use std::marker::Model;
 use std::snapshot::Snapshot;

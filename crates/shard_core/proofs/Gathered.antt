@@ -12,10 +12,10 @@ use Rattle.symbol_core.specs.Rests.{SymbolState}
 use Rattle.market_core.specs.Leads.{LeadState}
 use Rattle.market_core.specs.MarketState.{Represents}
 use Rattle.market_core.specs.Sections.{SectionState}
-use Rattle.shard_core.specs.declared.tagged.Tagged.{Tagged}
+use Rattle.merge_core.specs.declared.tagged.Tagged.{Tagged}
 use Rattle.shard_core.specs.declared.turns.Turn.{Turn}
 use Rattle.shard_core.specs.Block.{AreAdmissible, followed, given, tagged}
-use Rattle.shard_core.specs.Merged.{AreOfFirst, merged}
+use Rattle.merge_core.specs.Merged.{AreOfFirst, merged}
 use Rattle.shard_core.specs.Parts.{Note, PartsTake, Taken, TakesAll, behind_each, whole_of}
 use Rattle.shard_core.specs.Turns.{LeadsTo, PartsTell, Tells, first_id, noted, tagged_from}
 use Rattle.shard_core.proofs.Blocks.{block_gives, records_of}

@@ -1,5 +1,4 @@
 pub mod Loads
-pub mod InOrder
 pub mod Parts
 pub mod Merging
 pub mod Markets

@@ -6,9 +6,9 @@ use Rattle.std.proofs.lemmas.List.{append-nil, map-append}
 use Rattle.std.proofs.lemmas.List.Elements.{filter-append}
 use Rattle.wire_out.specs.declared.message.Stamped.{Stamped}
 use Rattle.rulebook.proofs.Ids.{own_id}
-use Rattle.shard_core.specs.declared.tagged.Tagged.{Tagged}
+use Rattle.merge_core.specs.declared.tagged.Tagged.{Tagged}
 use Rattle.shard_core.specs.Block.{tagged}
-use Rattle.shard_core.specs.Merged.{merged, of_input}
+use Rattle.merge_core.specs.Merged.{merged, of_input}
 use Rattle.shard_core.specs.Turns.{tagged_from}
 
 abbrev pub said_at : ℕ → List (List Stamped) → List Stamped

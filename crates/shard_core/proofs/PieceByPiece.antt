@@ -6,9 +6,9 @@ use Rattle.std.proofs.lemmas.List.{append-nil, map-append, nil_from_length, take
 use Rattle.wire_in.specs.declared.record.Record.{Record}
 use Rattle.wire_out.specs.declared.message.Stamped.{Stamped}
 use Rattle.rulebook.specs.Book.{newest_messages}
-use Rattle.shard_core.specs.declared.tagged.Tagged.{Tagged}
+use Rattle.merge_core.specs.declared.tagged.Tagged.{Tagged}
 use Rattle.shard_core.specs.Block.{AreAdmissible, Represents, ShardsState, followed, given, given_from, tagged}
-use Rattle.shard_core.specs.Merged.{GoesOn, further}
+use Rattle.merge_core.specs.Merged.{GoesOn, further}
 
 -- messages whose indexes lie further on
 

@@ -9,7 +9,7 @@ use Rattle.wire_out.specs.declared.message.Stamped.{Stamped}
 use Rattle.symbol_core.specs.Rests.{SymbolState}
 use Rattle.market_core.specs.Leads.{LeadState, led, rulings}
 use Rattle.market_core.specs.Ruled.{stamped}
-use Rattle.shard_core.specs.declared.tagged.Tagged.{Tagged}
+use Rattle.merge_core.specs.declared.tagged.Tagged.{Tagged}
 use Rattle.shard_core.specs.declared.turns.Turn.{Turn}
 use Rattle.shard_core.specs.Block.{tagged}
 use Rattle.shard_core.specs.Parts.{Note, Takes, TakesAll}

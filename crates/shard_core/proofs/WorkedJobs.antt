@@ -13,7 +13,7 @@ use Rattle.yard_core.specs.YardState.{HasPlace}
 use Rattle.yard_core.proofs.Pushed.{each_pushed}
 use Rattle.shard_core.specs.declared.job.PartJob.{PartJob}
 use Rattle.shard_core.specs.declared.part.Ids.{Ids}
-use Rattle.shard_core.specs.declared.tagged.Tagged.{Tagged}
+use Rattle.merge_core.specs.declared.tagged.Tagged.{Tagged}
 use Rattle.shard_core.specs.declared.turns.Turn.{Turn}
 use Rattle.shard_core.specs.Jobs.{AreBack, AreJobsOf, IsBack, IsJobOf, ids_of}
 use Rattle.shard_core.specs.Turns.{PartsTell, Tells, noted}

@@ -9,7 +9,7 @@ use Rattle.wire_in.specs.Records.{is_day}
 use Rattle.market_core.specs.declared.lead.Today.{Today}
 use Rattle.market_core.specs.Sections.{SectionState}
 use Rattle.market_core.proofs.Appending.{get-set_other, get-set_same}
-use Rattle.shard_core.specs.declared.tagged.Tagged.{Tagged}
+use Rattle.merge_core.specs.declared.tagged.Tagged.{Tagged}
 use Rattle.shard_core.specs.Parts.{Note}
 use Rattle.shard_core.specs.Turns.{AreFew, PartTells, PartsTell, Tells, first_id, is_begun}
 

@@ -7,7 +7,7 @@ use Rattle.rulebook.specs.Book.{newest_messages}
 use Rattle.market_core.specs.Leads.{LeadState}
 use Rattle.market_core.specs.MarketState as market
 use Rattle.market_core.specs.Sections.{SectionState}
-use Rattle.shard_core.specs.declared.tagged.Tagged.{Tagged}
+use Rattle.merge_core.specs.declared.tagged.Tagged.{Tagged}
 
 -- the market's part, the stocks of each part, and whether no block has failed
 pub record ShardsState : Type 0 where

@@ -5,7 +5,7 @@ use Rattle.wire_in.specs.declared.record.Record.{Record}
 use Rattle.market_core.specs.Sections.{SectionState}
 use Rattle.shard_core.specs.declared.job.PartJob.{PartJob}
 use Rattle.shard_core.specs.declared.part.Ids.{Ids}
-use Rattle.shard_core.specs.declared.tagged.Tagged.{Tagged}
+use Rattle.merge_core.specs.declared.tagged.Tagged.{Tagged}
 use Rattle.shard_core.specs.declared.turns.Turn.{Turn}
 use Rattle.shard_core.specs.Turns.{first_id}
 

@@ -1,6 +1,5 @@
 pub mod Shares
 pub mod Prefix
-pub mod Merged
 pub mod Parts
 pub mod Block
 pub mod Turns

@@ -11,7 +11,7 @@ use Rattle.market_core.specs.declared.lead.Today.{Today}
 use Rattle.market_core.specs.Leads.{LeadState, led, rulings, today_led}
 use Rattle.market_core.specs.Ruled.{stamped, view_of}
 use Rattle.market_core.specs.Sections.{SectionState}
-use Rattle.shard_core.specs.declared.tagged.Tagged.{Tagged}
+use Rattle.merge_core.specs.declared.tagged.Tagged.{Tagged}
 use Rattle.shard_core.specs.declared.turns.Target.{Target}
 use Rattle.shard_core.specs.declared.turns.Target.TheVariants.{Each, One, New}
 use Rattle.shard_core.specs.declared.turns.Turn.{Turn}

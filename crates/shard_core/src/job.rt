@@ -5,9 +5,9 @@ ghost use Rattle.rulebook.specs.Admission.{most_names};
 ghost use Rattle.shard_core.specs.Turns.{Tells, noted};
 
 use crate::part::{Ids, take_turns};
-use crate::tagged::Tagged;
 use crate::turns::Turn;
 use market_core::Section;
+use merge_core::Tagged;
 use std::alloc::Global;
 use std::snapshot::Snapshot;
 use wire_in::Record;

@@ -7,9 +7,9 @@ ghost use Rattle.shard_core.specs.Turns.{AreFew, PartsTell, noted};
 
 use crate::job::PartJob;
 use crate::part::{Ids, work_all};
-use crate::tagged::Tagged;
 use crate::turns::Turn;
 use market_core::Section;
+use merge_core::Tagged;
 use price_core::NoMemory;
 use std::alloc::Global;
 use std::mem;

@@ -8,9 +8,9 @@ ghost use Rattle.shard_core.specs.declared.turns.Target.TheVariants as target;
 ghost use Rattle.shard_core.specs.Parts.{Adds, Stays, Takes, TakesFor, is_for, is_for_all};
 ghost use Rattle.shard_core.specs.Turns.{AreFew, PartsTell, Tells, note_of, noted};
 
-use crate::tagged::Tagged;
 use crate::turns::{Target, Turn, tag};
 use market_core::Section;
+use merge_core::Tagged;
 use price_core::NoMemory;
 use rulebook::MOST_NAMES;
 use std::alloc::Global;

@@ -3,10 +3,10 @@
 ghost use Rattle.std.specs.Prelude.{◌≡◌, ℕ, ◌≤◌, ◌++◌, true, List, OnOk, is_ok, length};
 ghost use Rattle.wire_in.specs.declared.record.Record.{Record};
 ghost use Rattle.shard_core.specs.Block.{AreAdmissible, Represents, followed, given};
-ghost use Rattle.shard_core.specs.Merged.{GoesOn};
+ghost use Rattle.merge_core.specs.Merged.{GoesOn};
 
 use crate::shards::Shards;
-use crate::tagged::Tagged;
+use merge_core::Tagged;
 use price_core::NoMemory;
 use std::thread::Threads;
 use wire_in::Record;

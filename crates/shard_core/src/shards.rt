@@ -6,16 +6,15 @@ ghost use Rattle.wire_in.specs.Bases.{IsInRange};
 ghost use Rattle.rulebook.specs.Admission.{IsLawful, most_names};
 ghost use Rattle.rulebook.specs.Base.{base_of, stand_in};
 ghost use Rattle.shard_core.specs.Block.{AreAdmissible, Represents, followed, given, given_from, market_of};
-ghost use Rattle.shard_core.specs.Merged.{GoesOn};
+ghost use Rattle.merge_core.specs.Merged.{GoesOn};
 ghost use Rattle.shard_core.specs.Turns.{AreEmpty};
 
 use crate::anew::{Counts, count, deal_evenly, even_out, gather};
 use crate::jobs::work_parts;
-use crate::order::merge;
 use crate::pieces::pieces;
-use crate::tagged::Tagged;
 use crate::turns::{Turn, is_begun, lead_all};
 use market_core::{Lead, Market, Section};
+use merge_core::{Tagged, merge};
 use price_core::NoMemory;
 use std::alloc::Global;
 use std::marker::Model;

@@ -8,8 +8,8 @@ ghost use Rattle.shard_core.specs.Block.{tagged};
 ghost use Rattle.shard_core.specs.declared.turns.Target.TheVariants as target;
 ghost use Rattle.shard_core.specs.Turns.{Leads, LeadsTo, is_begun, note_of, noted, target_of};
 
-use crate::tagged::Tagged;
 use market_core::Lead;
+use merge_core::Tagged;
 use price_core::NoMemory;
 use symbol_core::MarketView;
 use wire_in::Record;

@@ -1,7 +1,8 @@
 //! Ranges of loads, and the order of messages.
 
 use super::at;
-use shard_core::{Tagged, cut, merge};
+use merge_core::{Tagged, merge};
+use shard_core::cut;
 use std::process::Abort;
 use std::test::Fail;
 use wire_out::{Message, Stamped};

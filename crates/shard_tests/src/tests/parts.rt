@@ -1,7 +1,8 @@
 //! Parts of a market beside one market.
 
 use market_core::Market;
-use shard_core::{Shards, Tagged};
+use merge_core::Tagged;
+use shard_core::Shards;
 use std::alloc::Global;
 use std::process::Abort;
 use std::test::Fail;

@@ -4,7 +4,7 @@ use Rattle.std.proofs.lemmas.List.{length-set}
 use Rattle.std.proofs.lemmas.Option.{slice_get-get_or}
 use Rattle.rulebook.specs.Admission.{most_names}
 use Rattle.market_core.specs.Sections.{SectionState}
-use Rattle.shard_core.specs.declared.tagged.Tagged.{Tagged}
+use Rattle.merge_core.specs.declared.tagged.Tagged.{Tagged}
 use Rattle.shard_core.specs.Turns.{PartsTell, noted}
 use Rattle.shard_core.proofs.Working.{few_on, length-map_all, map-set, next_id, one_worked, others_stay, still}
 use Rattle.shard_core.proofs.part.work_all.Goals as goal

@@ -1,7 +1,7 @@
 use Rattle.std.proofs.Common.{◌≡◌, ℕ, ◌+◌, ◌≤◌, List, true, length}
 use Rattle.wire_in.specs.declared.record.Record.{Record}
 use Rattle.shard_core.specs.Block.{AreAdmissible, Represents}
-use Rattle.shard_core.specs.Merged.{GoesOn}
+use Rattle.merge_core.specs.Merged.{GoesOn}
 use Rattle.shard_core.proofs.PieceByPiece.{Remains}
 use Rattle.shard_core.proofs.pieces.pieces.Given as goal
 

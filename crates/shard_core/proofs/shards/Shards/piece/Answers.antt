@@ -4,10 +4,10 @@ use Rattle.std.proofs.lemmas.List.{with_items_is}
 use Rattle.symbol_core.specs.Rests.{SymbolState}
 use Rattle.market_core.specs.MarketState.{Represents}
 use Rattle.market_core.specs.Sections.{SectionState}
-use Rattle.shard_core.specs.declared.tagged.Tagged.{Tagged}
+use Rattle.merge_core.specs.declared.tagged.Tagged.{Tagged}
 use Rattle.shard_core.specs.declared.turns.Turn.{Turn}
 use Rattle.shard_core.specs.Block.{ShardsState, followed, market_of}
-use Rattle.shard_core.specs.Merged.{AreOfFirst, further, merged}
+use Rattle.merge_core.specs.Merged.{AreOfFirst, further, merged}
 use Rattle.shard_core.specs.Turns.{PartsTell, noted}
 use Rattle.shard_core.proofs.Gathered.{answered, stocks_of}
 use Rattle.shard_core.proofs.Markets.{market_with}

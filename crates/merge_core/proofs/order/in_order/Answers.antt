@@ -1,7 +1,7 @@
 use Rattle.std.proofs.Common.{◌∷◌, ◌++◌, List, map, ap, ◌∙◌}
-use Rattle.shard_core.specs.declared.tagged.Tagged.{Tagged}
-use Rattle.shard_core.proofs.InOrder.{merges, parts_joined}
-use Rattle.shard_core.proofs.order.in_order.Goals as goal
+use Rattle.merge_core.specs.declared.tagged.Tagged.{Tagged}
+use Rattle.merge_core.proofs.InOrder.{merges, parts_joined}
+use Rattle.merge_core.proofs.order.in_order.Goals as goal
 
 pub returns : goal.returns
 returns c =

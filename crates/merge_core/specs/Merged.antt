@@ -1,6 +1,6 @@
 -- Messages of several lists in one order.
 use Rattle.std.specs.Prelude.{◌≡◌, ℕ, zero, suc, ◌+◌, ◌==◌, ◌<◌, min, List, [], ◌++◌, All, filter, flat_map, map}
-use Rattle.shard_core.specs.declared.tagged.Tagged.{Tagged}
+use Rattle.merge_core.specs.declared.tagged.Tagged.{Tagged}
 
 -- the messages of one input, in their order
 abbrev pub of_input : ℕ → List Tagged → List Tagged

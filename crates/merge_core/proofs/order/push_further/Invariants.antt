@@ -1,6 +1,6 @@
 use Rattle.std.proofs.Common.{◌≡◌, ◌+◌, ◌≤◌, ◌++◌, take, vec_len, vec_capacity}
-use Rattle.shard_core.specs.Merged.{further}
-use Rattle.shard_core.proofs.order.push_further.Given as goal
+use Rattle.merge_core.specs.Merged.{further}
+use Rattle.merge_core.proofs.order.push_further.Given as goal
 
 abbrev pub invariant-loop-message : goal.invariant-loop-message
 invariant-loop-message l = record {

@@ -2,7 +2,7 @@
 
 ghost use Rattle.std.specs.Prelude.{◌≡◌, ℕ, ◌+◌, ◌≤◌, ◌++◌, ◌∷◌, map, flat_map, length, IfOk, OnOk, OnErr, vec_len, vec_capacity};
 ghost use Rattle.std.specs.List.Sorted.{IsNonDecreasingBy, IsPermutation};
-ghost use Rattle.shard_core.specs.Merged.{of_input, merged, further, AreOfFirst, GoesOn};
+ghost use Rattle.merge_core.specs.Merged.{of_input, merged, further, AreOfFirst, GoesOn};
 
 use crate::tagged::Tagged;
 use price_core::NoMemory;

@@ -9,8 +9,8 @@ use native.Mathlib.Decide.{ℕ_discrete}
 use Rattle.std.specs.Prelude.{All, cond, not, ◌&&◌, ◌==◌, filter, flat_map}
 use Rattle.std.specs.List.Sorted.{IsNonDecreasingBy, IsPermutation, IsStableByKey}
 use Rattle.std.specs.Ordering.{nat_cmp, is_lt}
-use Rattle.shard_core.specs.declared.tagged.Tagged.{Tagged}
-use Rattle.shard_core.specs.Merged.{of_input, merged, AreOfFirst}
+use Rattle.merge_core.specs.declared.tagged.Tagged.{Tagged}
+use Rattle.merge_core.specs.Merged.{of_input, merged, AreOfFirst}
 
 -- the messages of one list, input by input
 abbrev by_inputs : ℕ → List Tagged → List Tagged
