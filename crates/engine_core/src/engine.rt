@@ -78,14 +78,18 @@ impl Engine {
         })
     }
 
-    /// The engine of whatever records have a base, under a capacity of records, with 1 to 64 workers. It takes room for the
-    /// messages of any record.
+    /// The engine of whatever records have a base, under a capacity of records, with 1 to 64 workers. It takes over an engine of
+    /// no records with as many workers, and its room, which is for the messages of any record.
     pub fn restore(
+        self,
         alloc: Global,
         capacity: u64,
         workers: u32,
         base: &Base,
     ) -> Result<Engine, NoMemory>
+        requires fresh { (limit : ℕ) × Represents self limit [] [] }
+        requires roomy { IsRoomy self }
+        requires many { workers_of self.evaluator ≡ workers }
         requires workers { (1 ≤ workers) × (workers ≤ 64) }
         requires range { IsInRange base.now }
         ensures represents { IfOk result (λ engine. (limit : ℕ) (held : List Record) → base_of held ≡ Some base.now → IsLawful limit held
@@ -99,13 +103,12 @@ impl Engine {
         ensures evaluated { IfOk result (λ engine. engine.evaluated ≡ base.now.records) }
         ensures published { IfOk result (λ engine. engine.published ≡ base.now.messages) }
     {
-        let admission = Admission::restore(alloc, capacity, base)?;
-        let evaluator = Evaluator::restore(alloc, workers, base)?;
-        let messages = Vec::with_capacity(alloc, MOST_MESSAGES)?;
+        let admission = self.admission.restore(capacity, base);
+        let evaluator = self.evaluator.restore(alloc, workers, base)?;
         Ok(Engine {
             admission,
             evaluator,
-            messages,
+            messages: self.messages,
             evaluated: base.records,
             published: base.messages,
         })

@@ -45,8 +45,11 @@ impl Evaluator {
         }
     }
 
-    /// The market of whatever records have a base, for so many workers, from 1 to 64.
-    pub fn restore(alloc: Global, workers: u32, base: &Base) -> Result<Evaluator, NoMemory>
+    /// The market of whatever records have a base, for so many workers, from 1 to 64. It takes over one of no records for as many
+    /// workers: one worker goes on in its room, and several are made anew.
+    pub fn restore(self, alloc: Global, workers: u32, base: &Base) -> Result<Evaluator, NoMemory>
+        requires none { Represents self [] }
+        requires many { workers_of self ≡ workers }
         requires workers { (0 < workers) × (workers ≤ 64) }
         requires range { IsInRange base.now }
         ensures stands { IfOk result (λ evaluator. (capacity : ℕ) (evaluated : List Record) → base_of evaluated ≡ Some base.now → IsLawful capacity evaluated
@@ -56,10 +59,13 @@ impl Evaluator {
         ensures working { IfOk result IsWorking }
         ensures workers { IfOk result (λ evaluator. workers_of evaluator ≡ workers) }
     {
-        if workers == 1 {
-            Ok(Evaluator::One(Market::restore(alloc, base)?))
-        } else {
-            Ok(Evaluator::Many(Ahead::restore(alloc, workers, base)?))
+        match self {
+            Evaluator::One(market) => Ok(Evaluator::One(market.restore(base))),
+            Evaluator::Many(block) => {
+                // For the proof: it says that there are several.
+                let _alone = block.is_alone();
+                Ok(Evaluator::Many(Ahead::restore(alloc, workers, base)?))
+            }
         }
     }
 

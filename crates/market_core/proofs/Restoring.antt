@@ -1,11 +1,11 @@
 -- What is restored from a base stands for each list with that base: a market that begins with a day alone, an admission and a lead.
-use Rattle.std.proofs.Common.{nat_cmp, ◌≡◌, ◌≢◌, ℕ, zero, suc, ◌+◌, ◌<◌, ◌≤◌, Bool, true, false, cond, List, [], ◌∷◌, ◌++◌, length, map, not, get_or, take, replicate, Option, Some, None, is_some, Result, Ok, Err, refl, sym, ap, subst, ◌∙◌, true≢false, arith, append_assoc, length-append}
-use Rattle.std.specs.Prelude.{IfOk, IfSome, MatchResult, ◌==◌, ◌||◌, All, IsTrue, filter, is_ok, nat_le, option_map, position, slice_get}
+use Rattle.std.proofs.Common.{nat_cmp, ◌≡◌, ◌≢◌, ℕ, zero, suc, ◌+◌, ◌<◌, ◌≤◌, Bool, true, false, cond, List, [], ◌∷◌, ◌++◌, length, map, get_or, take, replicate, Option, Some, None, is_some, Result, Ok, Err, refl, sym, ap, subst, ◌∙◌, true≢false, arith, append_assoc, length-append}
+use Rattle.std.specs.Prelude.{MatchResult, ◌==◌, ◌||◌, IsTrue, filter, is_ok, nat_le, option_map, position, slice_get}
 use Rattle.std.specs.List.{list_any}
-use Rattle.std.specs.Option.{ok_or, option_map_or}
+use Rattle.std.specs.Option.{option_map_or}
 use Rattle.std.specs.Str.{bytes_eq}
 use Rattle.std.proofs.lemmas.Bool.Decides.{nat_tests}
-use Rattle.std.proofs.lemmas.List.{append-nil, length-replicate, map-append}
+use Rattle.std.proofs.lemmas.List.{append-nil, length-replicate}
 use Rattle.std.proofs.lemmas.Option.{slice_get_read}
 use Rattle.std.proofs.lemmas.List.Elements.{All-get_or, filter-append}
 use Rattle.std.proofs.lemmas.List.Quantifiers.{position-Some}
@@ -15,14 +15,13 @@ use Rattle.session_core.specs.declared.day.Day.{Day}
 use Rattle.session_core.specs.Dates.{Civil}
 use Rattle.wire_in.specs.declared.base.Base.{Base}
 use Rattle.wire_in.specs.declared.record.Record.{Record}
-use Rattle.wire_in.specs.declared.record.Record.TheVariants as in_
 use Rattle.wire_in.specs.Bases.{AreNew, AreRising, IsInRange}
 use Rattle.wire_in.specs.Records.{is_day, is_tick, moment_of, name_of, symbol_of}
 use Rattle.wire_in.proofs.RecordKinds.{by_listing}
 use Rattle.wire_out.specs.declared.message.Message.{Message}
 use Rattle.rulebook.specs.declared.event.Event.{Event}
 use Rattle.rulebook.specs.declared.event.Event.TheVariants.{Accepted}
-use Rattle.rulebook.specs.Admission.{IsLawful, id_of, is_listed, is_listed_name, last_day, names, verdict}
+use Rattle.rulebook.specs.Admission.{IsLawful, id_of, is_listed, is_listed_name, last_day, names}
 use Rattle.rulebook.specs.Base.{base_of, carried_ids, carries, stand_in}
 use Rattle.rulebook.specs.Book.{named, ids_below, history, listed_ids, messages_of, target}
 use Rattle.rulebook.specs.History.{publish}
@@ -244,11 +243,6 @@ marked_no symbols n e = next-below symbols n ∙ marked_more symbols n false e �
 
 pub marked_at : (symbols : List SymbolState) (n : ℕ) (held : SymbolState) → n < length symbols → held ≡ get_or symbols n held → is_marked symbols n ≡ held.kept.short.carried
 marked_at symbols n held lt is = ap (λ (o : Option SymbolState). option_map_or (λ h. h.kept.short.carried) o false) (slice_get_read symbols (length symbols) n held refl lt is)
-
--- what is made of the one thing that there may be
-pub ok-of : {X E : Type 0} (P : X → Type 0) (o : Option X) (e : E) (r : Result X E) (x : X) → r ≡ ok_or o e → IfSome o (λ y. y ≡ x) → P x → IfOk r P
-ok-of P None e r x is some p = subst (λ q. IfOk q P) (sym is) tt
-ok-of P (Some y) e r x is some p = subst (λ q. IfOk q P) (sym is) (subst P (sym some) p)
 
 pub base-of-kept : (kept : MarketState) (A earlier : List Record) (x : Record) (count messages : ℕ) → Represents kept A → A ≡ x ∷ earlier → is_day x ≡ true → count ≡ length A → messages ≡ length (messages_of A)
     → base_of A ≡ Some (record { records = count; messages = messages; day = x; names = kept.directory; carried = filter (is_marked kept.symbols) (ids_below (length kept.symbols)) })

@@ -126,17 +126,17 @@ fn day_of(x: &Record) -> Option<Day>
     }
 }
 
-/// Of so many names, that none was listed on a day that is known, with room for all names.
-fn never(alloc: Global, count: usize) -> Result<Vec<Option<Date>>, NoMemory>
-    requires { count ≤ most_names }
-    ensures dates { IfOk result (λ dates. dates.items ≡ replicate count None) }
-    ensures room { IfOk result (λ dates. most_names ≤ vec_capacity dates) }
+/// Puts into a list of no dates, which has room for all names, that none of so many names was listed on a day that is known.
+fn put_never(dates: &mut Vec<Option<Date>>, count: usize)
+    requires none { dates.old.items ≡ [] }
+    requires few { count ≤ most_names }
+    requires room { most_names ≤ vec_capacity dates.old }
+    ensures dates { dates.new.items ≡ replicate count None }
+    ensures room { vec_capacity dates.old ≤ vec_capacity dates.new }
 {
-    let mut dates = Vec::with_capacity(alloc, MOST_NAMES)?;
     for _name in 0..count {
         dates.push_reserved(None);
     }
-    Ok(dates)
 }
 
 impl Admission {
@@ -157,23 +157,26 @@ impl Admission {
     }
 
     /// The admission of whatever records have a base, under a capacity of records. It counts as many records as the base, and
-    /// none of its names is listed yet.
-    pub fn restore(alloc: Global, capacity: u64, base: &Base) -> Result<Admission, NoMemory>
+    /// none of its names is listed yet. It takes over an admission of no records, and its room.
+    pub fn restore(self, capacity: u64, base: &Base) -> Admission
+        requires none { Represents self [] }
         requires range { IsInRange base.now }
-        ensures capacity { IfOk result (λ a. a.capacity ≡ capacity) }
-        ensures count { IfOk result (λ a. a.count ≡ base.now.records) }
-        ensures stands { IfOk result (λ a. (admitted : List Record) → base_of admitted ≡ Some base.now → Stands a admitted) }
-        ensures stand_in { IfOk result (λ a. Stands a (stand_in base.now)) }
+        ensures capacity { result.capacity ≡ capacity }
+        ensures count { result.count ≡ base.now.records }
+        ensures stands { (admitted : List Record) → base_of admitted ≡ Some base.now → Stands result admitted }
+        ensures stand_in { Stands result (stand_in base.now) }
     {
         let names = base.names.list();
-        Ok(Admission {
+        let mut listed_on = self.listed_on;
+        put_never(&mut listed_on, names.len());
+        Admission {
             capacity,
             count: base.records,
             day: day_of(&base.day),
             last: Some(base.day.moment()),
-            directory: Directory::restore(alloc, names)?,
-            listed_on: never(alloc, names.len())?,
-        })
+            directory: self.directory.restore(names),
+            listed_on,
+        }
     }
 
     /// Puts another capacity of records in.

@@ -41,17 +41,18 @@ impl Directory {
         })
     }
 
-    /// These names, with room for 16,384.
-    pub fn restore(alloc: Global, names: &[[u8; 8]]) -> Result<Directory, NoMemory>
+    /// These names. It takes over a directory of none, and its room.
+    pub fn restore(self, names: &[[u8; 8]]) -> Directory
+        requires none { self ≡ [] }
         requires few { length names.now ≤ most_names }
         requires different { AreNew [] names.now }
-        ensures { IfOk result (λ directory. directory ≡ names.now) }
+        ensures { result ≡ names.now }
     {
-        let mut directory = Directory::new(alloc)?;
+        let mut directory = self;
         for name in names {
             directory.push(*name);
         }
-        Ok(directory)
+        directory
     }
 
     /// All names, in order of their ids.

@@ -151,20 +151,21 @@ impl Lead {
         })
     }
 
-    /// The market's part of whatever records have a base.
-    pub fn restore(alloc: Global, base: &Base) -> Result<Lead, NoMemory>
+    /// The market's part of whatever records have a base. It takes over one of no names, and its room.
+    pub fn restore(self, base: &Base) -> Lead
+        requires none { self.directory ≡ [] }
         requires range { IsInRange base.now }
-        ensures kept { IfOk result (λ lead. lead ≡ record { directory = base.now.names; today = today_led base.now.day None }) }
-        ensures led { IfOk result (λ lead. (led : List Record) → base_of led ≡ Some base.now → IsLed lead led) }
-        ensures stand_in { IfOk result (λ lead. IsLed lead (stand_in base.now)) }
+        ensures kept { result ≡ record { directory = base.now.names; today = today_led base.now.day None } }
+        ensures led { (led : List Record) → base_of led ≡ Some base.now → IsLed result led }
+        ensures stand_in { IsLed result (stand_in base.now) }
     {
         let today = begun(&base.day);
         let view = today.as_ref().map(|today| today.view());
-        Ok(Lead {
-            directory: Directory::restore(alloc, base.names.list())?,
+        Lead {
+            directory: self.directory.restore(base.names.list()),
             today,
             view,
-        })
+        }
     }
 
     /// All names, in order of their ids.

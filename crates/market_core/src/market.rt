@@ -79,15 +79,21 @@ impl Market {
         })
     }
 
-    /// The market of whatever records have a base. It takes the room for the stocks of all names that may still come.
-    pub fn restore(alloc: Global, base: &Base) -> Result<Market, NoMemory>
+    /// The market of whatever records have a base. It takes over a market of no records, and its room, which is for the stocks
+    /// of all names that may come.
+    pub fn restore(self, base: &Base) -> Market
+        requires none { Represents self [] }
         requires range { IsInRange base.now }
-        ensures stands { IfOk result (λ market. (capacity : ℕ) (applied : List Record) → base_of applied ≡ Some base.now → IsLawful capacity applied → Represents market applied) }
-        ensures stand_in { IfOk result (λ market. Represents market (stand_in base.now)) }
+        ensures stands { (capacity : ℕ) (applied : List Record) → base_of applied ≡ Some base.now → IsLawful capacity applied → Represents result applied }
+        ensures stand_in { Represents result (stand_in base.now) }
     {
-        let lead = Lead::restore(alloc, base)?;
-        let section = Section::restore(alloc, lead.names(), base.carried.list())?;
-        Market::of(alloc, lead, section)?.ok_or(NoMemory)
+        let lead = self.lead.restore(base);
+        let section = self.section.restore(lead.names(), base.carried.list());
+        Market {
+            alloc: self.alloc,
+            lead,
+            section,
+        }
     }
 
     /// The base of the applied records, of which the last one is this day; how many records and messages there are is given.

@@ -16,7 +16,6 @@ use crate::since::{ALWAYS_DUE, Since, alarm_of, pass, renew};
 use crate::symbols::{evaluate, evaluate_each};
 use alarms::Alarms;
 use price_core::NoMemory;
-use rulebook::MOST_NAMES;
 use session_core::Moment;
 use std::alloc::Global;
 use std::marker::Model;
@@ -118,20 +117,22 @@ impl Section {
     }
 
     /// The stocks of so many ids on a day on which nothing was said of them yet, and which carries the restrictions of these ids,
-    /// in rising order.
-    pub fn restore(alloc: Global, count: u32, carried: &[u16]) -> Result<Section, NoMemory>
+    /// in rising order. It takes over a section of no stocks, and its room, which is for those of all names.
+    pub fn restore(self, count: u32, carried: &[u16]) -> Section
+        requires none { self.symbols ≡ [] }
+        requires room { most_names ≤ length self.symbols + self.spare }
         requires few { count ≤ most_names }
         requires rising { AreRising carried.now }
-        ensures fresh { IfOk result (λ section. AreFresh carried.now count section.symbols) }
+        ensures fresh { AreFresh carried.now count result.symbols }
+        ensures room { most_names ≤ length result.symbols + result.spare }
     {
-        let mut section = Section::new(alloc)?;
-        // Room for all names is taken at once: places that are made together cost next to nothing.
-        section.reserve(MOST_NAMES)?;
+        let alloc = *self.symbols.allocator();
+        let mut section = self;
         for id in 0..count {
             let symbol = Symbol::restore(alloc, id as u16, is_among(carried, id as u16)).unwrap();
             section.push(symbol);
         }
-        Ok(section)
+        section
     }
 
     /// The ids of the stocks whose short sale restriction the day carries, where the first stock has the id 0.

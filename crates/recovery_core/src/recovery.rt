@@ -398,7 +398,7 @@ fn engine_before(
 {
     let capacity = scan.limit();
     if let Some(base) = scan.base() {
-        return Engine::restore(alloc, capacity, workers, base);
+        return fresh.restore(alloc, capacity, workers, base);
     }
     fresh.limit(capacity);
     Ok(fresh)

@@ -138,7 +138,7 @@ impl Shards {
         ensures parts { IfOk result (λ shards. length shards.parts ≡ workers) }
         ensures working { IfOk result (λ shards. shards.working ≡ true) }
     {
-        let market = Market::restore(alloc, base)?;
+        let market = Market::new(alloc)?.restore(base);
         Shards::of(alloc, workers, market)
     }
 

@@ -1,8 +1,7 @@
 -- Records that are admitted behind a base, and a journal that is read batch by batch.
 use Rattle.std.proofs.Common.{◌≡◌, inl, inr, ℕ, ◌+◌, ◌<◌, List, [], ◌∷◌, ◌++◌, length, get_or, drop, refl, sym, ap, subst, ◌∙◌, arith}
-use Rattle.std.specs.Prelude.{Option, Some, None, Result, Ok, Err, IfOk}
+use Rattle.std.specs.Prelude.{Option, Some, None}
 use Rattle.std.proofs.lemmas.List.{drop_more}
-use Rattle.price_core.specs.declared.error.NoMemory.{NoMemory}
 use Rattle.host_core.specs.Outside.{Outside}
 use Rattle.host_core.specs.Frames.{OnlyReadsDisk, OnlySends}
 use Rattle.host_core.proofs.Chains.{still_settled}
@@ -47,12 +46,11 @@ fresh_admits limit {capacity} fresh next same none is r =
       lawful = tt;
     })
 
-pub based_admits : (limit : ℕ) {capacity : ℕ} {base : Option Base} (b : Base) (r : Result AdmissionState NoMemory) → limit ≡ capacity → base ≡ Some b → IfOk r (λ a. a.capacity ≡ limit) → IfOk r (λ a. a.count ≡ b.records)
-    → IfOk r (λ a. Stands a (stand_in b)) → IfOk r (Admits capacity base [])
-based_admits limit {capacity} b (Ok a) same some capacity_is count stands =
+pub based_admits : (limit : ℕ) {capacity : ℕ} {base : Option Base} (b : Base) (a : AdmissionState) → limit ≡ capacity → base ≡ Some b → a.capacity ≡ limit → a.count ≡ b.records → Stands a (stand_in b)
+    → Admits capacity base [] a
+based_admits limit {capacity} b a same some capacity_is count stands =
     subst (λ (base : Option Base). Admits capacity base [] a) (sym some)
     (record { limit = capacity_is ∙ same; stands = stands; count = omega (arith, count); lawful = tt })
-based_admits limit b (Err error) same some capacity_is count stands = tt
 
 -- Some batches were read.
 module _ {batches : List (List Record)} {disk : List ℕ} {reading : Reading} {now : Outside} (r : Reads batches disk reading now) where

@@ -1,6 +1,6 @@
 //! A journal that is read batch by batch, each record admitted and none evaluated.
 
-ghost use Rattle.std.specs.Prelude.{◌≡◌, ◌⊎◌, ◌+◌, ◌<◌, ◌≤◌, ◌++◌, ◌∷◌, [], ℕ, List, Option, Some, None, Ok, IfOk, IfErr, IsOk, IsTrue, OnOk, length, true, false};
+ghost use Rattle.std.specs.Prelude.{◌≡◌, ◌⊎◌, ◌+◌, ◌<◌, ◌≤◌, ◌++◌, ◌∷◌, [], ℕ, List, Option, Some, None, Ok, IfOk, IfErr, IsTrue, OnOk, length, true, false};
 ghost use Rattle.host_core.specs.Outside.{NoFault};
 ghost use Rattle.host_core.specs.Frames.{OnlyReadsDisk};
 ghost use Rattle.wire_in.specs.declared.base.Base.{Base};
@@ -50,19 +50,18 @@ fn admit_all(admission: &mut Admission, records: &[Record]) -> bool
 }
 
 /// The admission of the records before a scan: that of its base, or this one of no records, under the limit of the journal.
-fn admission_before(alloc: Global, scan: &Scan, mut fresh: Admission) -> Result<Admission, NoMemory>
+fn admission_before(scan: &Scan, mut fresh: Admission) -> Admission
     requires fresh { admissions.Represents fresh [] }
-    ensures before { IfOk result (Admits scan.now.capacity scan.now.base []) }
-    ensures few { IfOk result (λ admission. admission.capacity ≤ 2000000000) }
-    ensures within { IfOk result (λ admission. admission.count ≤ admission.capacity) }
-    ensures succeeds { scan.now.base ≡ None → IsOk result }
+    ensures before { Admits scan.now.capacity scan.now.base [] result }
+    ensures few { result.capacity ≤ 2000000000 }
+    ensures within { result.count ≤ result.capacity }
 {
     let capacity = scan.limit();
     if let Some(base) = scan.base() {
-        return Admission::restore(alloc, capacity, base);
+        return fresh.restore(capacity, base);
     }
     fresh.limit(capacity);
-    Ok(fresh)
+    fresh
 }
 
 /// How far a journal was read, the admission of its records so far, and the batch that was read last.
@@ -91,9 +90,7 @@ impl Reading {
             return Err(Status::NoMemory);
         };
         let scan = Scan::begin(alloc, host)?;
-        let Ok(admission) = admission_before(alloc, &scan, fresh) else {
-            return Err(Status::NoMemory);
-        };
+        let admission = admission_before(&scan, fresh);
         Ok(Reading {
             scan,
             admission,

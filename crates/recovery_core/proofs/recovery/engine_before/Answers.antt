@@ -6,6 +6,9 @@ use Rattle.wire_in.specs.declared.base.Base.{Base}
 use Rattle.recovery_core.proofs.Recovering.{based_before, fresh_before}
 use Rattle.recovery_core.proofs.recovery.engine_before.Goals as goal
 
+pub restore-requires-clause-fresh : goal.restore-requires-clause-fresh
+restore-requires-clause-fresh c = (0, c.requires.fresh)
+
 pub restore-requires-clause-range : goal.restore-requires-clause-range
 restore-requires-clause-range c =
     let some : c.args.scan.now.base ≡ Some c.in-Some.base.now = sym c.base.ensures.base ∙ ap option_copied c.in-Some.is in

@@ -9,7 +9,7 @@ use Rattle.standby_core.proofs.reading.admission_before.Goals as goal
 pub restore-requires : goal.restore-requires
 restore-requires c =
     let some : c.args.scan.now.base ≡ Some c.in-Some.base.now = sym c.base.ensures.base ∙ ap option_copied c.in-Some.is in
-    record { range = subst (λ (o : Option Base). IfSome o IsInRange) some c.base.ensures.range }
+    record { none = c.requires.fresh; range = subst (λ (o : Option Base). IfSome o IsInRange) some c.base.ensures.range }
 
 pub returns-in-Some-clause-before : goal.returns-in-Some-clause-before
 returns-in-Some-clause-before c =

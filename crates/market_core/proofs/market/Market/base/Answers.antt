@@ -1,4 +1,4 @@
-use Rattle.std.proofs.Common.{◌∷◌, List, ℕ, Some, refl, sym, ap, length, ◌∙◌}
+use Rattle.std.proofs.Common.{◌∷◌, Some, refl, sym, ap, length, ◌∙◌}
 use Rattle.std.specs.Prelude.{filter}
 use Rattle.rulebook.specs.Book.{ids_below}
 use Rattle.market_core.specs.Fresh.{is_marked}

@@ -1,8 +1,6 @@
-use Rattle.std.proofs.Common.{ℕ, Bool, Result, subst, arith}
+use Rattle.std.proofs.Common.{Bool, subst, arith}
 use Rattle.std.specs.Prelude.{IfOk}
-use Rattle.std.specs.List.{list_any}
 use Rattle.symbol_core.specs.Fresh.{IsFresh}
-use Rattle.symbol_core.specs.Rests.{SymbolState}
 use Rattle.market_core.proofs.Restoring.{fresh-push}
 use Rattle.market_core.proofs.section.Section.restore.Goals as goal
 

@@ -1,9 +1,9 @@
-use Rattle.std.proofs.Common.{inl, inr, [], refl, sym, arith}
+use Rattle.std.proofs.Common.{inl, [], refl, sym, arith}
 use Rattle.std.specs.Prelude.{None}
-use Rattle.host_core.proofs.Chains.{reads_faultless, reads_nothing}
+use Rattle.host_core.proofs.Chains.{reads_nothing}
 use Rattle.journal_core.proofs.Starts.{headed}
 use Rattle.recovery_core.specs.Ends.{TellsNoStart}
-use Rattle.recovery_core.proofs.Recovering.{answered_on, scan_hinders, scan_tells, none_fails, has_base}
+use Rattle.recovery_core.proofs.Recovering.{answered_on, scan_hinders, scan_tells}
 use Rattle.standby_core.proofs.PartTexts.{origin_records}
 use Rattle.standby_core.proofs.reading.Reading.begin.Goals as goal
 
@@ -19,27 +19,20 @@ returns-in_err-scan-clause-hindered g c =
 pub returns-in_err-scan-clause-kind : goal.returns-in_err-scan-clause-kind
 returns-in_err-scan-clause-kind g c = answered_on TellsNoStart c.from_residual.result c.from_residual.ensures.1 (scan_tells _)
 
--- there was no memory for the last base or for its admission
-pub returns-in_default-admission_before-clause-hindered : goal.returns-in_default-admission_before-clause-hindered
-returns-in_default-admission_before-clause-hindered g c = (
-  reads_faultless c.begin.ensures.keeps (c.begin.ensures.faultless (λ is. cc (c.in_ok-scan.was, is))),
-  inr (λ disk known. has_base (c.in_ok-scan.ensures.read disk known) (λ none. none_fails c.admission_before.result (c.admission_before.ensures.succeeds none) c.in_default-admission_before.not-Ok)),
-)
-
 pub returns-clause-reads : goal.returns-clause-reads
 returns-clause-reads g c = λ disk known. record {
   rests = record { known = known; settled = c.in_ok-scan.ensures.settled };
   read = c.in_ok-scan.ensures.read disk known;
-  admits = (c.in-Ok-admission_before.ensures).before;
+  admits = c.admission_before.ensures.before;
 }
 
 pub returns-clause-in_step : goal.returns-clause-in_step
 returns-clause-in_step g c =
-    let a = c.in-Ok-admission_before.ensures in
+    let a = c.admission_before.ensures in
     record {
       of_disk = c.in_ok-scan.ensures.of_disk;
-      capacity = sym (a.before).limit;
-      count = omega (arith, c.in_ok-scan.ensures.begun.count, (a.before).count, origin_records c.in_ok-scan.scan.base);
+      capacity = sym a.before.limit;
+      count = omega (arith, c.in_ok-scan.ensures.begun.count, a.before.count, origin_records c.in_ok-scan.scan.base);
       few = a.few;
       within = a.within;
     }
