@@ -7,6 +7,7 @@ pub mod Room
 pub mod Ranges
 pub mod RecordsOfOthers
 pub mod OwnSteps
+pub mod Passing
 pub mod MarketSteps
 pub mod Applying
 pub mod Leading

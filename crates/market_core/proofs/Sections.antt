@@ -12,26 +12,31 @@ use Rattle.wire_out.specs.declared.message.Message.{Message}
 use Rattle.wire_out.specs.declared.message.Stamped.{Stamped}
 use Rattle.symbol_core.specs.declared.symbol.MarketView.{MarketView}
 use Rattle.symbol_core.specs.Evaluates.{Evaluates}
+use Rattle.symbol_core.specs.Idle.{IsQuiet}
+use Rattle.symbol_core.specs.InStep.{at_rest}
 use Rattle.symbol_core.specs.Rests.{SymbolState}
+use Rattle.symbol_core.specs.Steps.{step_for}
+use Rattle.symbol_core.specs.Ticks.{Idles}
+use Rattle.symbol_core.proofs.Unmoved.{evaluated-idle}
 use Rattle.market_core.specs.declared.since.Since.{Since}
 use Rattle.market_core.specs.Applied.{AppendsBelow, AppendsOne}
-use Rattle.market_core.specs.Sections.{EachIdles, Idles, IdlesUntil, NoneMoves, SectionState}
+use Rattle.market_core.specs.Sections.{EachIdles, IdlesUntil, NoneMoves, SectionState}
 use Rattle.market_core.proofs.Appending.{get-before, get-last}
 
 -- An alarm that holds from one moment on holds from a later one on.
 
 pub idles-included : (a b : Since) (alarm : ℕ) (held : SymbolState) → a.from ≤ b.from → a.market ≡ b.market → Idles a.market a.from alarm held → Idles b.market b.from alarm held
-idles-included a b alarm held le same idles = λ x tick from until said. subst (λ (m : MarketView). Evaluates m x held held said said) same (idles x tick (omega arith) until said)
+idles-included a b alarm held le same idles = λ inside x tick from until. subst (λ (m : MarketView). IsQuiet (at_rest held.kept) held.deals (step_for m x)) same (idles inside x tick (omega arith) until)
 
 pub idles-later : (since : Option Since) (s : Since) (t alarm : ℕ) (held : SymbolState) → since ≡ Some s → s.from ≤ t → IdlesUntil since alarm held → Idles s.market t alarm held
 idles-later since s t alarm held e le idles =
     let own : Idles s.market s.from alarm held = subst (λ (o : Option Since). IdlesUntil o alarm held) e idles in
-    λ x tick from until said. own x tick (omega arith) until said
+    λ inside x tick from until. own inside x tick (omega arith) until
 
 -- and one that is always due holds in any case
 pub idles-always : (since : Option Since) (alarm : ℕ) (held : SymbolState) → alarm ≡ 0 → IdlesUntil since alarm held
 idles-always None alarm held none = tt
-idles-always (Some s) alarm held none = λ x tick from until said. absurd (omega arith)
+idles-always (Some s) alarm held none = λ inside x tick from until. absurd (omega arith)
 
 pub each-always : (since : Option Since) (before alarms : List ℕ) (stocks : List SymbolState) (n : ℕ) → alarms ≡ replicate n 0 ++ drop n before → length stocks ≤ n → EachIdles since alarms stocks
 each-always since before alarms stocks n due within =
@@ -82,7 +87,7 @@ none-moves state stocks spare since alarms market x t from before seen covers ea
     let later : t < slice_index alarms place = none place after until (omega arith) in
     let on : since ≡ Some (record { from = moment_of x; market = market }) = ap (λ (s : SectionState). s.since) seen ∙ now in
     let idles : IdlesUntil (Some (record { from = moment_of x; market = market })) (slice_index alarms place) held = subst (λ (o : Option Since). IdlesUntil o (slice_index alarms place) held) on (each place held e) in
-    idles x tick (omega arith) (omega arith) said)
+    evaluated-idle market x held (moment_of x) (slice_index alarms place) said idles tick (omega arith) (omega arith))
 
 -- A stock that moves nothing is evaluated as it stands.
 

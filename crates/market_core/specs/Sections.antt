@@ -1,11 +1,11 @@
 -- Stocks with the moments before which ticks bring them nothing.
-use Rattle.std.specs.Prelude.{◌≡◌, ℕ, ◌<◌, ◌≤◌, true, Option, Some, None, List, slice_get, slice_index}
+use Rattle.std.specs.Prelude.{◌≡◌, ℕ, ◌<◌, ◌≤◌, Option, Some, None, List, slice_get, slice_index}
 use Rattle.wire_in.specs.declared.record.Record.{Record}
-use Rattle.wire_in.specs.Records.{is_tick, moment_of}
 use Rattle.wire_out.specs.declared.message.Message.{Message}
 use Rattle.symbol_core.specs.declared.symbol.MarketView.{MarketView}
 use Rattle.symbol_core.specs.Evaluates.{Evaluates}
 use Rattle.symbol_core.specs.Rests.{SymbolState}
+use Rattle.symbol_core.specs.Ticks.{Idles}
 use Rattle.market_core.specs.declared.since.Since.{Since}
 
 -- the stocks of a section, for how many more there is room, and from when on and over which market its alarms hold
@@ -14,11 +14,7 @@ pub record SectionState : Type 0 where
   pub spare : ℕ
   pub since : Option Since
 
--- ticks over that market from that moment on and before the other bring a stock nothing
-abbrev pub Idles : MarketView → ℕ → ℕ → SymbolState → Type 0
-Idles market from until held =
-    (x : Record) → is_tick x ≡ true → from ≤ moment_of x → moment_of x < until → (before : List Message) → Evaluates market x held held before before
-
+-- ticks from then on over that market and before that moment bring a stock nothing
 abbrev pub IdlesUntil : Option Since → ℕ → SymbolState → Type 0
 IdlesUntil None alarm held = Unit {0}
 IdlesUntil (Some since) alarm held = Idles since.market since.from alarm held

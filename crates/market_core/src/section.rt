@@ -236,6 +236,10 @@ impl Section {
     {
         pass(&mut self.since, x.moment());
         let symbol = &mut self.symbols[index];
+        if symbol.pass_quote(x, market) {
+            // Its alarm still holds.
+            return Ok(());
+        }
         evaluate(symbol, x, market, &mut self.said, out)?;
         let alarm = alarm_of(symbol, &self.since);
         self.alarms.set(index, alarm);

@@ -1,8 +1,9 @@
 //! From when on, and over which market, alarms of stocks hold.
 
-ghost use Rattle.std.specs.Prelude.{◌≡◌, ◌≤◌, ℕ, true, Some, List, length};
+ghost use Rattle.std.specs.Prelude.{◌≡◌, ◌≤◌, ℕ, true, Some, IfSome, List, length};
 ghost use Rattle.symbol_core.specs.Rests.{SymbolState};
-ghost use Rattle.market_core.specs.Sections.{EachIdles, Idles, IdlesUntil};
+ghost use Rattle.symbol_core.specs.Ticks.{Idles};
+ghost use Rattle.market_core.specs.Sections.{EachIdles, IdlesUntil};
 
 use alarms::Alarms;
 use session_core::Moment;
@@ -51,6 +52,7 @@ pub(crate) fn renew(alarms: &mut Alarms, count: usize, since: &Option<Since>, no
 pub(crate) fn pass(since: &mut Option<Since>, t: Moment)
     ensures idles { (alarm : ℕ) (held : SymbolState) → IdlesUntil since.old alarm held → IdlesUntil since.new alarm held }
     ensures same { (market : MarketView) → since.old ≡ Some (record { from = t; market = market }) → since.new ≡ since.old }
+    ensures later { IfSome since.new (λ since. t ≤ since.from) }
 {
     if let Some(since) = since {
         if since.from.nanos() < t.nanos() {

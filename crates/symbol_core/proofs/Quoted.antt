@@ -15,13 +15,14 @@ use Rattle.symbol_core.specs.declared.state.Run.{Run}
 use Rattle.symbol_core.specs.declared.state.Step.{Step}
 use Rattle.symbol_core.specs.declared.symbol.MarketView.{MarketView}
 use Rattle.symbol_core.specs.Evaluates.{Evaluates}
-use Rattle.symbol_core.specs.Idle.{IsDue, IsIdle, IsSettled, IsSettledAt, WaitsAt, changes_bands, is_out}
+use Rattle.symbol_core.specs.Idle.{IsDue, IsIdle, IsQuiet, IsSettled, IsSettledAt, WaitsAt, changes_bands, is_out}
 use Rattle.symbol_core.specs.InStep.{at_rest}
 use Rattle.symbol_core.specs.Kept.{quoted_by, requoted, with_quote}
 use Rattle.symbol_core.specs.Pricing.{reference}
 use Rattle.symbol_core.specs.Rests.{SymbolState}
 use Rattle.symbol_core.specs.Steps.{Steps, step_for}
 use Rattle.symbol_core.specs.Taken.{leaves, taken}
+use Rattle.symbol_core.specs.Ticks.{Idles}
 use Rattle.symbol_core.specs.Window.{SameLive, window}
 use Rattle.symbol_core.proofs.Cancels.{leaves-all}
 use Rattle.symbol_core.proofs.Evaluated.{step-evaluated}
@@ -70,6 +71,33 @@ quoted-due k deals due t quote market is from same run settled = λ inside. by (
         };
         within = idle.within;
         prices = λ step tick le lt. reference_quoted k quote step (mean_of (live step.moment (live t deals))) ∙ ap (λ (ds : List Deal). reference (at_rest k) step (mean_of ds)) (live-live t step.moment le deals) ∙ idle.prices step tick (omega arith) lt;
+      }
+
+-- and ticks of any market that brought it nothing still do
+pub quoted-idles : (market : MarketView) (from until t : ℕ) (held : SymbolState) (quote : Quotation) (stopped : Bool) → t ≤ from → is_some held.kept.run ≡ true → IsSettledAt held.kept (Some quote) stopped → Idles market from until held
+    → Idles market from until (quoted held t quote)
+quoted-idles market from until t held quote stopped le run settled idles = λ inside x tick since early. by (step_for market x) (omega arith) (idles inside x tick since early) where
+  k : Kept
+  k = held.kept
+
+  by : (step : Step) → t ≤ step.moment → IsQuiet (at_rest k) held.deals step → IsQuiet (at_rest (with_quote k quote)) (live t held.deals) step
+  by step later quiet =
+      let before = quiet.settled in
+      let mean = mean_of (live step.moment (live t held.deals)) in
+      record {
+        settled = settled_quoted k quote step.stopped run (record { runs = before.runs; halted = settled.halted; stays = settled.stays; low = settled.low; high = settled.high; straddles = settled.straddles });
+        closes = quiet.closes;
+        starts = quiet.starts;
+        pauses = quiet.pauses;
+        asks = quiet.asks;
+        reopens = quiet.reopens;
+        prices = ap (λ (ds : List Deal). reference (at_rest (with_quote k quote)) step (mean_of (live step.moment ds))) (window_rested (with_quote k quote) (live t held.deals))
+            ∙ reference_quoted k quote step mean
+            ∙ ap (λ (ds : List Deal). reference (at_rest k) step (mean_of ds)) (live-live t step.moment later held.deals)
+            ∙ ap (λ (ds : List Deal). reference (at_rest k) step (mean_of (live step.moment ds))) (sym (window_rested k held.deals))
+            ∙ quiet.prices;
+        bands = kept_quoted (λ l. changes_bands l step) k quote (λ run other. refl) ∙ quiet.bands;
+        restricts = refl;
       }
 
 module _ (market : MarketView) (t i y z : ℕ) (bid offer : Option ℕ) (k : Kept) (deals : List Deal) (due : Due) (quote : Quotation)

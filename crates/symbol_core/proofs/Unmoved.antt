@@ -48,6 +48,7 @@ use Rattle.symbol_core.specs.Silent.{IsOfOthers}
 use Rattle.symbol_core.specs.Stands.{named, Stands}
 use Rattle.symbol_core.specs.Steps.{step_for}
 use Rattle.symbol_core.specs.Taken.{cancelled_by, leaves, taken}
+use Rattle.symbol_core.specs.Ticks.{Idles}
 use Rattle.symbol_core.specs.Window.{SameLive, window}
 use Rattle.symbol_core.proofs.Cancels.{leaves-all}
 use Rattle.symbol_core.proofs.Evaluated.{evaluated-away, starts}
@@ -302,12 +303,11 @@ idle_quiet k deals due step idle tick from until day stopped =
     of_none : OfNone k.id step.input
     of_none = tick_of_none k.id step.input tick
 
-evaluated-idle : (market : MarketView) (x : Record) (held : SymbolState) (due : Due) (before : List Message) → IsIdle held.kept held.deals due → is_tick x ≡ true → due.from ≤ moment_of x → moment_of x < due.until → market ≡ due.market
-    → Evaluates market x held held before before
-evaluated-idle market x held due before idle tick from until same =
+evaluated-quiet : (market : MarketView) (x : Record) (held : SymbolState) (before : List Message) → is_tick x ≡ true → IsQuiet (at_rest held.kept) held.deals (step_for market x) → Evaluates market x held held before before
+evaluated-quiet market x held before tick quiet =
     evaluated-none market x held before tick
     (λ mine others h p.
-    quiet_rules (at_rest k) held.deals step (idle_quiet k held.deals due step idle tick from until (ap (λ (m : MarketView). m.day) same) (ap (λ (m : MarketView). m.stopped) same)) mine (open_history x others h)
+    quiet_rules (at_rest k) held.deals step quiet mine (open_history x others h)
     (subst (λ (ds : List Deal). Stands mine (at_rest k) ds step (open_history x others h)) (leaves-all k.id x held.deals of_none.cancels)
     (subst (λ (l : InStep). Stands mine l (filter (leaves k.id x) held.deals) step (open_history x others h)) (of_none.takes k step refl refl)
     (stands-opened mine step k held.deals others h (starts mine held market x others h p)))))
@@ -321,14 +321,30 @@ evaluated-idle market x held due before idle tick from until same =
     of_none : OfNone k.id x
     of_none = tick_of_none k.id x tick
 
--- a tick before a symbol is due
-pub evaluated-due : (market : MarketView) (x : Record) (held : SymbolState) (due : Due) (before : List Message) → IsDue (Some due) held.kept held.deals → is_tick x ≡ true → due.from ≤ moment_of x → moment_of x < due.until → market ≡ due.market
-    → Evaluates market x held held before before
-evaluated-due market x held due before is tick from until same = by (is_done held.kept.phase) (is_some held.kept.terms) refl refl where
+-- a tick at which a symbol idles
+pub evaluated-idle : (market : MarketView) (x : Record) (held : SymbolState) (from until : ℕ) (before : List Message) → Idles market from until held → is_tick x ≡ true → from ≤ moment_of x → moment_of x < until → Evaluates market x held held before before
+evaluated-idle market x held from until before idles tick since early = by (is_done held.kept.phase) (is_some held.kept.terms) refl refl where
   by : (done listed : Bool) → is_done held.kept.phase ≡ done → is_some held.kept.terms ≡ listed → Evaluates market x held held before before
   by true listed e f = evaluated-closed market x held before tick e
   by false false e f = evaluated-away market x held before ((λ i. tick i && not (f i)))
-  by false true e f = evaluated-idle market x held due before (is (λ i. e i || not (f i))) tick from until same
+  by false true e f = evaluated-quiet market x held before tick (idles (λ i. e i || not (f i)) x tick since early)
+
+idles-due : (held : SymbolState) (due : Due) → IsDue (Some due) held.kept held.deals → Idles due.market due.from due.until held
+idles-due held due is = λ inside x tick from until. idle_quiet held.kept held.deals due (step_for due.market x) (is inside) tick from until refl refl
+
+-- before a symbol is due it idles
+abbrev pub IsIdling : Option Due → SymbolState → Type 0
+IsIdling o held = IfSome o (λ due. Idles due.market due.from due.until held)
+
+pub idling : (o : Option Due) (held : SymbolState) → IsDue o held.kept held.deals → IsIdling o held
+idling None held is = tt
+idling (Some due) held is = idles-due held due is
+
+-- a tick before a symbol is due
+pub evaluated-due : (market : MarketView) (x : Record) (held : SymbolState) (due : Due) (before : List Message) → IsDue (Some due) held.kept held.deals → is_tick x ≡ true → due.from ≤ moment_of x → moment_of x < due.until → market ≡ due.market
+    → Evaluates market x held held before before
+evaluated-due market x held due before is tick from until same =
+    subst (λ (m : MarketView). Evaluates m x held held before before) (sym same) (evaluated-idle due.market x held due.from due.until before (idles-due held due is) tick from until)
 
 -- Deals that are five minutes old may go at a tick.
 pub evaluated-live : (market : MarketView) (x : Record) (held : SymbolState) (before : List Message) → is_tick x ≡ true → Evaluates market x held held before before

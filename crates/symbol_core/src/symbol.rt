@@ -15,6 +15,7 @@ ghost use Rattle.symbol_core.specs.InStep.{in_step};
 ghost use Rattle.symbol_core.specs.Stands.{Speaks};
 ghost use Rattle.symbol_core.specs.Steps.{Steps, step_for};
 ghost use Rattle.symbol_core.specs.Taken.{deal_of};
+ghost use Rattle.symbol_core.specs.Ticks.{Idles};
 
 use crate::due::Due;
 use crate::ingest::{drop_cancelled, keep_deals};
@@ -155,6 +156,7 @@ impl Symbol {
     /// When the stock is next due: ticks of that market from that moment on and before that one bring it nothing. None where
     /// that isn't known.
     pub fn due(&self) -> Option<Due>
+        ensures idles { IfSome result (λ due. Idles due.market due.from due.until self.now) }
         ensures nothing { IfSome result (λ due. (x : Record) → is_tick x ≡ true → due.from ≤ moment_of x → moment_of x < due.until → (before : List Said) → Evaluates due.market x self.now self.now before before) }
     {
         self.due
@@ -206,10 +208,12 @@ impl Symbol {
     }
 
     /// Takes a quotation in, where it and its moment bring the run nothing else, and removes the trades that are five minutes
-    /// old. False: the record is no such quotation, and all is as it was.
+    /// old. Ticks that brought the stock nothing still do, so it is due when it was. False: the record is no such quotation, and
+    /// all is as it was.
     #[inline(always)]
-    fn pass_quote(&mut self, x: &Record, market: &MarketView) -> bool
+    pub fn pass_quote(&mut self, x: &Record, market: &MarketView) -> bool
         ensures nothing { result ≡ true → (before : List Said) → Evaluates market.now x.now self.old self.new before before }
+        ensures idles { result ≡ true → (over : MarketView) (from until : ℕ) → moment_of x.now ≤ from → Idles over from until self.old → Idles over from until self.new }
         ensures recent { result ≡ true → live (moment_of x.now) self.new.deals ≡ self.new.deals }
         ensures others { result ≡ false → self.new ≡ self.old }
     {
@@ -356,7 +360,7 @@ impl Symbol {
             self.stay_away(x.moment(), market);
             return Ok(());
         }
-        if self.pass(x, market) || self.pass_quote(x, market) {
+        if self.pass(x, market) {
             return Ok(());
         }
         if brings_deal_or_time(x) {

@@ -317,18 +317,18 @@ impl Window {
 
     /// From when on, at a moment or after it, the mean of those deals that are then less than five minutes old may be at least one
     /// per cent away from a reference price, where no deal is added (LULD Plan, Section V); both in nanoseconds of the day.
-    /// It looks at a few deals, or at the first of many.
+    /// It looks at none where each price is known to be nearer, and else at a few deals, or at the first of many.
     pub fn moves_from(&self, from: u64, reference: Price) -> u64
         ensures near { (u : ℕ) → from ≤ u → u < result → mean_has_moved reference (live u self.now.deals) ≡ false }
     {
+        if self.stays_near(reference) {
+            return u64::MAX;
+        }
         if !self.is_ordered {
             return from;
         }
         if self.items.len() <= FEW {
             return few_move_from(&self.items, from, reference);
-        }
-        if self.stays_near(reference) {
-            return u64::MAX;
         }
         many_move_from(&self.items[0], &self.tally(), from, reference)
     }

@@ -29,7 +29,12 @@ impl Scene {
         })
     }
 
+    /// It passes over what may be passed over, as a section does.
     pub fn take(&mut self, x: &Record) -> Result<(), Fail> {
+        if self.symbol.pass_quote(x, &self.market) {
+            self.out.clear();
+            return Ok(());
+        }
         Ok(self.symbol.evaluate(x, &self.market, &mut self.out)?)
     }
 

@@ -3,7 +3,6 @@ use Rattle.symbol_core.specs.Evaluates.{Evaluates}
 use Rattle.symbol_core.specs.Rests.{SymbolState}
 use Rattle.symbol_core.proofs.Evaluated.{evaluated-away}
 use Rattle.symbol_core.proofs.symbol.Symbol.evaluate_behind.Goals as goal
-use Rattle.symbol_core.proofs.symbol.Symbol.evaluate_behind.Goals.{then-pass-via-then-pass, then-pass-via-else-pass+then-pass_quote}
 
 pub returns-then-is_away-clause-ok : goal.returns-then-is_away-clause-ok
 returns-then-is_away-clause-ok c =
@@ -14,10 +13,4 @@ pub returns-then-brings_deal_or_time-clause-recent : goal.returns-then-brings_de
 returns-then-brings_deal_or_time-clause-recent c = λ listed. c.take_deal_or_time.ensures.recent
 
 pub returns-then-pass-clause-ok : goal.returns-then-pass-clause-ok
-returns-then-pass-clause-ok c =
-    let is : SymbolState → Type 0 = λ held. Evaluates c.args.market.now c.args.x.now c.args.self.now held c.args.out.now c.args.out.now in
-    elim c.then-pass.branch [
-      | then-pass-via-then-pass w ↦ subst is (sym w.self-is) (c.pass.ensures.nothing w.if-pass.true c.args.out.now)
-      | then-pass-via-else-pass+then-pass_quote w ↦ subst is (sym w.self-is)
-          (subst (λ (old : SymbolState). Evaluates c.args.market.now c.args.x.now old w.pass_quote.new.self c.args.out.now c.args.out.now) (c.pass.ensures.others w.if-pass.false) (w.pass_quote.ensures.nothing w.if-pass_quote.true c.args.out.now))
-    ]
+returns-then-pass-clause-ok c = c.pass.ensures.nothing c.if-pass.true c.args.out.now

@@ -7,8 +7,9 @@ use Rattle.symbol_core.specs.declared.due.Due.{Due}
 use Rattle.symbol_core.specs.Evaluates.{Evaluates}
 use Rattle.symbol_core.specs.Idle.{IsDue}
 use Rattle.symbol_core.specs.Rests.{SymbolState}
+use Rattle.symbol_core.specs.Ticks.{Idles}
 use Rattle.symbol_core.proofs.Evaluated.{evaluated-with}
-use Rattle.symbol_core.proofs.Quoted.{quoted, quoted-due, quoted-evaluated, settled-market}
+use Rattle.symbol_core.proofs.Quoted.{quoted, quoted-due, quoted-evaluated, quoted-idles, settled-market}
 use Rattle.symbol_core.proofs.symbol.Symbol.pass_quote.Goals as goal
 
 pub invariant_of-self : goal.invariant_of-self
@@ -52,6 +53,22 @@ returns-in-Some-due-clause-nothing c = λ passed before.
     (subst (λ (is : SymbolState). Evaluates market x held is before before) (sym left)
     (quoted-evaluated market x k deals due quote before is (by.listed yes) from until same (by.run yes) settled
     (sym c.quoted_by.ensures ∙ c.in-Some.is))))
+
+pub returns-in-Some-due-clause-idles : goal.returns-in-Some-due-clause-idles
+returns-in-Some-due-clause-idles c = λ passed over from until later idles.
+    let k = c.self.inside.kept in
+    let deals = c.self.inside.deals.deals in
+    let quote = c.in-Some.quote in
+    let is = subst (λ (o : Option Due). IsDue o k deals) c.in-Some-due.is c.self.invariant in
+    let by = c.stays_settled.ensures in
+    let yes = c.if-stays_settled.true in
+    let settled = by.settled yes (settled-market k deals c.in-Some-due.due c.args.market.now is (by.listed yes) (c.holds.ensures.market c.if-holds.true)) in
+    let held : SymbolState = record { kept = k; deals = deals; spare = 0 } in
+    let t = moment_of c.args.x.now in
+    let left : record { kept = c.take_quote.new.self; deals = c.drop_old.new.deals.deals; spare = 0 } ≡ quoted held t quote =
+    (λ i. record { kept = c.take_quote.ensures i; deals = c.drop_old.ensures.deals i; spare = 0 }) ∙ ap (λ (t : ℕ). quoted held t quote) c.moment-t.ensures in
+    subst (λ (is : SymbolState). Idles over from until is) (sym left)
+    (quoted-idles over from until t held quote c.args.market.now.stopped later (by.run yes) settled (subst (λ (is : SymbolState). Idles over from until is) (sym c.self.view_is) idles))
 
 pub returns-in-Some-due-clause-recent : goal.returns-in-Some-due-clause-recent
 returns-in-Some-due-clause-recent c = λ passed.
