@@ -27,9 +27,9 @@ pub record IsPrefixOf (disk ahead rest : List ℕ) : Type 0 where
   pub whole : disk ≡ ahead ++ rest
   pub long : 17 ≤ length ahead
 
-pub prefix_of_disk : (size : ℕ) (disk ahead : List ℕ) → size ≡ length disk → 17 ≤ size → length ahead ≡ min size 65536 → ahead ≡ take (min size 65536) (drop 0 disk) → IsPrefixOf disk ahead (drop (min size 65536) disk)
-prefix_of_disk size disk ahead sizes long len is = record {
-  whole = sym (take-append-drop (min size 65536) disk) ∙ ap (λ (l : List ℕ). l ++ drop (min size 65536) disk) (sym is);
+pub prefix_of_disk : (count : ℕ) (disk ahead : List ℕ) → 17 ≤ count → length ahead ≡ count → ahead ≡ take count (drop 0 disk) → IsPrefixOf disk ahead (drop count disk)
+prefix_of_disk count disk ahead long len is = record {
+  whole = sym (take-append-drop count disk) ∙ ap (λ (l : List ℕ). l ++ drop count disk) (sym is);
   long = omega (arith, len, long);
 }
 

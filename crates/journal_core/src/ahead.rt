@@ -9,8 +9,8 @@ use price_core::NoMemory;
 use std::alloc::Global;
 use std::marker::Model;
 
-/// The most bytes of one read: 64 KiB, 28 of the greatest batches.
-pub const PIECE_MAX: usize = 65_536;
+/// The most bytes of one read: 256 KiB, more than a hundred of the greatest batches.
+pub const PIECE_MAX: usize = 262_144;
 
 /// Bytes that were read ahead, in a buffer whose room is taken when it is made.
 #[derive(Debug, Drop)]

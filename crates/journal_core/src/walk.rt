@@ -20,6 +20,9 @@ use host_core::{Failed, Host};
 use std::alloc::Global;
 use wire_in::{Base, BaseError, get_base};
 
+/// How many bytes a walk reads at once: what it passes over stays in the nearest cache then.
+const AT_ONCE: u64 = 65_536;
+
 /// A base that a walk has passed: the offset of its gate, and how many bytes its body has.
 #[derive(Clone, Copy, Debug, PartialEq, Eq)]
 pub struct BaseAt {
@@ -79,7 +82,7 @@ impl Walk {
         if size < 17 {
             return Err(ScanError::NoJournal);
         }
-        ahead.read(host, 0, size)?;
+        ahead.read(host, 0, size.min(AT_ONCE))?;
         let Some(capacity) = limit_of(ahead.bytes()) else {
             return Err(ScanError::NoJournal);
         };
@@ -157,7 +160,8 @@ impl Walk {
         let end = self.start + self.ahead.bytes().len() as u64;
         if end < self.size.min(self.gate + MARK_BYTES as u64) {
             self.start = self.gate;
-            self.ahead.read(host, self.gate, self.size - self.gate)?;
+            self.ahead
+                .read(host, self.gate, (self.size - self.gate).min(AT_ONCE))?;
         }
         Ok(())
     }

@@ -6,7 +6,7 @@ use mir.Syntax as Syntax
 use Rattle.std.proofs.Crossing.{crosses}
 use Rattle.wire_in.proofs.record.Record.TheSendSync.{the_sync as record_sync}
 use Rattle.market_core.proofs.section.Section.TheSendSync.{the_send as section_send}
-use Rattle.shard_core.proofs.tagged.Tagged.TheSendSync.{the_send as tagged_send}
+use Rattle.merge_core.proofs.tagged.Tagged.TheSendSync.{the_send as tagged_send}
 use Rattle.shard_core.proofs.turns.Turn.TheSendSync.{the_sync as turn_sync}
 use Rattle.shard_core.specs.contracts.job.PartJob.{the_row}
 

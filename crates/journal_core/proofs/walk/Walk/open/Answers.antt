@@ -8,8 +8,7 @@ returns-in_err-read-clause-keeps g c = reads_on c.disk_len.ensures.measures.keep
 
 pub returns-in_default-clause-no_journal : goal.returns-in_default-clause-no_journal
 returns-in_default-clause-no_journal g c is disk known =
-    let before = sym c.disk_len.ensures.measures.keeps.disk ∙ sym c.read.ensures.keeps.disk ∙ known in
-    let prefix = prefix_of_disk c.in_ok-size.size disk c.read.new.self (c.in_ok-size.ensures.measures.len.1 disk before) (omega arith) c.in_ok-read.ensures.len (c.in_ok-read.ensures.bytes disk (sym c.read.ensures.keeps.disk ∙ known)) in
+    let prefix = prefix_of_disk _ disk c.read.new.self (omega arith) c.in_ok-read.ensures.len (c.in_ok-read.ensures.bytes disk (sym c.read.ensures.keeps.disk ∙ known)) in
     has_no_header disk c.read.new.self _ prefix (rw c.bytes.ensures at c.in_default.ensures)
 
 pub returns-in_default-clause-keeps : goal.returns-in_default-clause-keeps
@@ -18,7 +17,7 @@ returns-in_default-clause-keeps g c = reads_on c.disk_len.ensures.measures.keeps
 pub returns-clause-walked : goal.returns-clause-walked
 returns-clause-walked g c disk known =
     let before = sym c.disk_len.ensures.measures.keeps.disk ∙ sym c.read.ensures.keeps.disk ∙ known in
-    let prefix = prefix_of_disk c.in_ok-size.size disk c.read.new.self (c.in_ok-size.ensures.measures.len.1 disk before) (omega arith) c.in_ok-read.ensures.len (c.in_ok-read.ensures.bytes disk (sym c.read.ensures.keeps.disk ∙ known)) in
+    let prefix = prefix_of_disk _ disk c.read.new.self (omega arith) c.in_ok-read.ensures.len (c.in_ok-read.ensures.bytes disk (sym c.read.ensures.keeps.disk ∙ known)) in
     let found = rw c.bytes.ensures at c.in-Some.ensures in
     begun disk c.read.new.self _ prefix c.in-Some.capacity found.0 found.2 _ (c.in_ok-size.ensures.measures.len.1 disk before) refl refl refl refl refl refl refl
 
