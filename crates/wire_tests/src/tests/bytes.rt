@@ -8,9 +8,9 @@ pub const MOST: usize = 45;
 
 /// Writes bytes from an offset on, as far as there is room.
 fn put(into: &mut [u8], at: usize, bytes: &[u8]) {
-    for (to, from) in into.iter_mut().skip(at).zip(bytes) {
-        *to = *from;
-    }
+    let start = at.min(into.len());
+    let count = bytes.len().min(into.len() - start);
+    into[start..start + count].copy_from_slice(&bytes[..count]);
 }
 
 /// A body with other bytes at an offset, and with zeros behind it.

@@ -111,17 +111,20 @@ fn spells_frame(body: &[u8], len: usize, at: usize, bytes: &[u8]) -> bool {
     get_frame(&changed(body, at, bytes)[..len.min(MOST)]).is_ok()
 }
 
+/// Whether a body spells a frame, and with a byte less or more none.
+fn has_length(body: &[u8]) -> bool {
+    let len = body.len();
+    spells_frame(body, len, 0, &[])
+        && !spells_frame(body, len.wrapping_sub(1), 0, &[])
+        && !spells_frame(body, len.wrapping_add(1), 0, &[])
+}
+
 impl Row for Body {
     fn holds(&self) -> bool {
         match *self {
             Bad(body, at, bytes) => !spells_frame(body, body.len(), at, bytes),
             Good(body, at, bytes) => spells_frame(body, body.len(), at, bytes),
-            HasLength(body) => {
-                let len = body.len();
-                spells_frame(body, len, 0, &[])
-                    && !spells_frame(body, len.wrapping_sub(1), 0, &[])
-                    && !spells_frame(body, len.wrapping_add(1), 0, &[])
-            }
+            HasLength(body) => has_length(body),
         }
     }
 }

@@ -1,5 +1,8 @@
 //! Records as bytes, and back.
 
+ghost use Rattle.std.specs.Prelude.{◌<◌, IsTrue, length};
+ghost use Rattle.wire_in.specs.Cutting.{is_frame};
+
 use super::bytes::{MOST, UNWRITTEN, changed, is_written};
 use super::table::{Row, check};
 use Case::{Bad, Good, HasLength, IsCut, IsTold, Refused};
@@ -129,6 +132,36 @@ fn refusal(body: &[u8], at: usize, bytes: &[u8]) -> Option<Refusal> {
     }
 }
 
+/// Whether a type has bodies of a length alone.
+fn has_length(kind: u8, len: usize) -> bool {
+    has_bad_length(kind, len.wrapping_sub(1))
+        && !has_bad_length(kind, len)
+        && has_bad_length(kind, len.wrapping_add(1))
+}
+
+/// Whether a body is read.
+fn is_good(body: &[u8], at: usize, bytes: &[u8]) -> bool {
+    refusal(body, at, bytes) == None
+}
+
+/// Whether a body is read, and is refused for a field with other bytes at an offset.
+fn is_bad(body: &[u8], at: usize, bytes: &[u8], field: u8) -> bool {
+    is_good(body, at, &[]) && refusal(body, at, bytes) == Some(Refusal::BadField(field))
+}
+
+/// Whether a refusal has that code and that field.
+fn is_told(refusal: Refusal, code: u8, field: u8) -> bool {
+    refusal.code() == code && refusal.field() == field
+}
+
+/// Whether a cutter holds the body at a place of these.
+fn has_body(cutter: &Cutter, bodies: &[&[u8]], place: usize) -> bool
+    requires { IsTrue (is_frame cutter.now) }
+    ensures { IsTrue result → place < length bodies.now }
+{
+    place < bodies.len() && cutter.body() == bodies[place]
+}
+
 /// How many of these bodies a stream gives that is taken in pieces of that size, and whether it ends inside a frame.
 fn cut(stream: &[u8], size: usize, bodies: &[&[u8]]) -> (usize, bool) {
     let mut cutter = Cutter::new();
@@ -137,32 +170,27 @@ fn cut(stream: &[u8], size: usize, bodies: &[&[u8]]) -> (usize, bool) {
     for _ in 0..stream.len() {
         let cut = cutter.take(&rest[..size.min(rest.len())]);
         rest = &rest[cut.used..];
-        if cut.whole && found < bodies.len() && cutter.body() == bodies[found] {
+        if cut.whole && has_body(&cutter, bodies, found) {
             found += 1;
         }
     }
     (found, cutter.inside())
 }
 
+/// Whether the stream of two frames and the begin of one, and that of the two alone, are cut into these in pieces of a size.
+fn is_cut(size: usize) -> bool {
+    cut(&STREAM, size, BODIES) == (2, true) && cut(&STREAM[..34], size, BODIES) == (2, false)
+}
+
 impl Row for Case {
     fn holds(&self) -> bool {
         match *self {
-            HasLength(kind, len) => {
-                has_bad_length(kind, len.wrapping_sub(1))
-                    && !has_bad_length(kind, len)
-                    && has_bad_length(kind, len.wrapping_add(1))
-            }
+            HasLength(kind, len) => has_length(kind, len),
             Refused(body, want) => refusal(body, 0, &[]) == Some(want),
-            Bad(body, at, bytes, field) => {
-                refusal(body, at, &[]) == None
-                    && refusal(body, at, bytes) == Some(Refusal::BadField(field))
-            }
-            Good(body, at, bytes) => refusal(body, at, bytes) == None,
-            IsCut(size) => {
-                cut(&STREAM, size, BODIES) == (2, true)
-                    && cut(&STREAM[..34], size, BODIES) == (2, false)
-            }
-            IsTold(refusal, code, field) => refusal.code() == code && refusal.field() == field,
+            Bad(body, at, bytes, field) => is_bad(body, at, bytes, field),
+            Good(body, at, bytes) => is_good(body, at, bytes),
+            IsCut(size) => is_cut(size),
+            IsTold(refusal, code, field) => is_told(refusal, code, field),
         }
     }
 }
