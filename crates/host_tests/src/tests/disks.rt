@@ -4,9 +4,7 @@ use Step::{IsPage, Len, Read, Sync, Write, WritePage};
 use host_core::Disk;
 use std::alloc::{AllocError, Global};
 use std::io;
-use std::ops::Range;
 use std::process::Abort;
-use std::test::Fail;
 
 /// A call of a disk, and what it has to answer. Offsets and lengths are in bytes.
 #[derive(Clone, Copy)]
@@ -25,76 +23,98 @@ pub enum Step<'a> {
 /// How many bytes a page has.
 const PAGE: usize = 10_000;
 
-/// The bytes between two offsets of a page: each tells its offset, but for those of a run.
-fn page(alloc: Global, offsets: Range<usize>, run: Range<usize>) -> Result<Vec<u8>, AllocError> {
+/// A byte of a page: it tells its offset, but in a run.
+fn byte_at(offset: usize, run: (usize, usize)) -> u8 {
+    if run.0 <= offset && offset < run.1 {
+        b'#'
+    } else {
+        (offset % 251) as u8
+    }
+}
+
+/// The bytes between two offsets of a page with a run.
+fn page(alloc: Global, from: usize, to: usize, run: (usize, usize)) -> Result<Vec<u8>, AllocError> {
     let mut bytes = Vec::new(alloc);
-    for offset in offsets {
-        let plain = (offset % 251) as u8;
-        bytes.push(if run.contains(&offset) { b'#' } else { plain })?;
+    for offset in from..to {
+        bytes.push(byte_at(offset, run))?;
     }
     Ok(bytes)
 }
 
-/// Whether a disk is a page, but for a run.
-fn is_page<D: Disk>(alloc: Global, disk: &mut D, run: Range<usize>) -> io::Result<bool> {
-    let wanted = page(alloc, 0..PAGE, run)?;
-    let mut bytes = Vec::from_elem(alloc, 0, PAGE)?;
-    disk.read(0, &mut bytes)?;
-    Ok(bytes == wanted && disk.len()? == PAGE as u64)
+/// Writes the bytes of a page between two offsets.
+fn write_page<D: Disk>(alloc: Global, disk: &mut D, from: usize, to: usize) -> Option<bool> {
+    let bytes = page(alloc, from, to, (0, 0)).ok()?;
+    done(disk.write(from as u64, &bytes))
+}
+
+/// Whether a read into a buffer gives these bytes.
+fn reads<D: Disk>(disk: &mut D, at: u64, into: &mut [u8], wanted: &[u8]) -> Option<bool> {
+    disk.read(at, into).ok()?;
+    Some(*into == *wanted)
 }
 
 /// Whether these bytes stand on a disk from an offset on.
-fn has<D: Disk>(alloc: Global, disk: &mut D, at: u64, wanted: &[u8]) -> io::Result<bool> {
-    let mut bytes = Vec::from_elem(alloc, 0, wanted.len())?;
-    disk.read(at, &mut bytes)?;
-    Ok(bytes.as_slice() == wanted)
+fn has<D: Disk>(alloc: Global, disk: &mut D, at: u64, wanted: &[u8]) -> Option<bool> {
+    let mut bytes = Vec::from_elem(alloc, 0, wanted.len()).ok()?;
+    reads(disk, at, &mut bytes, wanted)
 }
 
-/// Writes the bytes of a page between two offsets.
-fn write_page<D: Disk>(alloc: Global, disk: &mut D, offsets: Range<usize>) -> io::Result<()> {
-    let at = offsets.start as u64;
-    let bytes = page(alloc, offsets, 0..0)?;
-    disk.write(at, &bytes)
+/// Whether a disk has so many bytes.
+fn has_len<D: Disk>(disk: &mut D, wanted: u64) -> Option<bool> {
+    Some(disk.len().ok()? == wanted)
+}
+
+/// Whether a disk has these bytes and no others.
+fn is_whole<D: Disk>(alloc: Global, disk: &mut D, wanted: &[u8]) -> Option<bool> {
+    let stands = has(alloc, disk, 0, wanted)?;
+    let ends = has_len(disk, wanted.len() as u64)?;
+    Some(stands && ends)
+}
+
+/// Whether a disk is a page, but for a run.
+fn is_page<D: Disk>(alloc: Global, disk: &mut D, run: (usize, usize)) -> Option<bool> {
+    let wanted = page(alloc, 0, PAGE, run).ok()?;
+    is_whole(alloc, disk, &wanted)
 }
 
 /// True of a call that is done.
-fn done(answer: io::Result<()>) -> io::Result<bool> {
-    answer?;
-    Ok(true)
+fn done(answer: io::Result<()>) -> Option<bool> {
+    answer.ok()?;
+    Some(true)
 }
 
-/// Whether a disk answers a call as wanted.
-fn is_answered<D: Disk>(alloc: Global, disk: &mut D, step: Step<'_>) -> io::Result<bool> {
+/// Whether a disk answers a call as wanted; none where the call is an error.
+fn answer<D: Disk>(alloc: Global, disk: &mut D, step: Step<'_>) -> Option<bool> {
     match step {
         Write(at, bytes) => done(disk.write(at, bytes)),
         Sync => done(disk.sync()),
         Read(at, wanted) => has(alloc, disk, at, wanted),
-        Len(wanted) => Ok(disk.len()? == wanted),
-        WritePage(from, to) => done(write_page(alloc, disk, from..to)),
-        IsPage(from, to) => is_page(alloc, disk, from..to),
+        Len(wanted) => has_len(disk, wanted),
+        WritePage(from, to) => write_page(alloc, disk, from, to),
+        IsPage(from, to) => is_page(alloc, disk, (from, to)),
+    }
+}
+
+/// Takes the steps one after the other, of which each is answered so.
+fn go_over<R: Abort + AllocGlobal, D: Disk>(
+    rt: &R,
+    disk: &mut D,
+    steps: &[Step<'_>],
+    wanted: Option<bool>,
+) {
+    for (place, step) in steps.iter().enumerate() {
+        assert!(rt; answer(rt.alloc(), disk, *step) == wanted, "step {place}");
     }
 }
 
 /// Takes the steps one after the other.
-pub fn play<R: Abort + AllocGlobal, D: Disk>(
-    rt: &R,
-    disk: &mut D,
-    steps: &[Step<'_>],
-) -> Result<(), Fail> {
-    for (place, step) in steps.iter().enumerate() {
-        assert!(rt; is_answered(rt.alloc(), disk, *step)?, "step {place}");
-    }
-    Ok(())
+pub fn play<R: Abort + AllocGlobal, D: Disk>(rt: &R, disk: &mut D, steps: &[Step<'_>]) {
+    go_over(rt, disk, steps, Some(true));
 }
 
 /// None of the calls is done.
 pub fn refuse<R: Abort + AllocGlobal, D: Disk>(rt: &R, disk: &mut D, steps: &[Step<'_>]) {
-    for (place, step) in steps.iter().enumerate() {
-        assert!(rt;
-            is_answered(rt.alloc(), disk, *step).is_err(),
-            "step {place}"
-        );
-    }
+    go_over(rt, disk, steps, None);
 }
 
 /// Takes the steps one after the other, and none of the others is done. The disk is closed then.
@@ -103,8 +123,7 @@ pub fn play_and_refuse<R: Abort + AllocGlobal, D: Disk + Drop>(
     mut disk: D,
     done: &[Step<'_>],
     refused: &[Step<'_>],
-) -> Result<(), Fail> {
-    play(rt, &mut disk, done)?;
+) {
+    play(rt, &mut disk, done);
     refuse(rt, &mut disk, refused);
-    Ok(())
 }

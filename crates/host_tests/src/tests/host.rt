@@ -2,14 +2,12 @@
 
 use super::disks::{Step, play, play_and_refuse, refuse};
 use host_core::{
-    Disk, Failed, Held, Host, JournalFile, RealHost, Status, Stream, SystemFiles, send_all,
+    Disk, Failed, Host, JournalFile, Opens, RealHost, Status, Stream, SystemFiles, send_all,
 };
 use std::fs;
 use std::io::{self, Read, Write};
-use std::os::unix::fs::FileExt;
 use std::process::Abort;
 use std::rt::Files;
-use std::test::Fail;
 
 #[test]
 fn each_status_has_its_code(rt: HostRuntime) {
@@ -84,28 +82,20 @@ fn fails_in_turn<H: Host>(host: &mut H) -> bool {
 }
 
 /// The same of a real host over streams, whose journal has no file.
-fn fails_over<F: Files, R: Read + Drop, W: Write + Drop>(files: &F, input: R, output: W) -> bool
-where
-    F::File: FileExt + Held,
-{
+fn fails_over<O: Opens + Drop, R: Read + Drop, W: Write + Drop>(
+    files: O,
+    input: R,
+    output: W,
+) -> bool {
     let (input, output) = (Stream::new(input), Stream::new(output));
-    let file = JournalFile::new(SystemFiles::new(files), "-");
-    fails_in_turn(&mut RealHost::new(input, output, file))
+    fails_in_turn(&mut RealHost::new(input, output, JournalFile::new(files, "-")))
 }
 
 #[test]
 fn a_real_host_reads_and_sends_until_one_fails(rt: HostRuntime) {
     let mut sink = TwoBytes { taken: 0 };
-    let fails = fails_over(&rt, OneByte { given: false }, &mut sink);
+    let fails = fails_over(SystemFiles::new(&rt), OneByte { given: false }, &mut sink);
     assert!(rt; fails && sink.taken == 2);
-}
-
-/// The journal's file of a path.
-fn file_of<'a, F: Files>(files: &'a F, path: &'a str) -> JournalFile<'a, SystemFiles<'a, F>>
-where
-    F::File: FileExt + Held,
-{
-    JournalFile::new(SystemFiles::new(files), path)
 }
 
 /// A page that is written in two pieces, and a run over it.
@@ -120,6 +110,9 @@ const WRITTEN: &[Step<'static>] = &[
     Step::Read(4_100, &[b'#', b'#', 86, 87]),
 ];
 
+/// A read past its end.
+const PAST_END: &[Step<'static>] = &[Step::Read(9_997, &[0; 4])];
+
 /// The page is there when the file is opened again, and then a byte more.
 const REOPENED: &[Step<'static>] = &[
     Step::Len(10_000),
@@ -128,46 +121,61 @@ const REOPENED: &[Step<'static>] = &[
     Step::Len(10_001),
 ];
 
-#[test]
-fn a_file_keeps_each_byte_where_it_was_written(rt: HostRuntime) -> Result<(), Fail> {
-    // A file of an earlier run may stand there.
-    let _ = fs::remove_file(&rt, "pages.bin");
-    let file = file_of(&rt, "pages.bin");
-    play_and_refuse(&rt, file, WRITTEN, &[Step::Read(9_997, &[0; 4])])?;
-    play_and_refuse(&rt, file_of(&rt, "pages.bin"), REOPENED, &[])
+/// A file keeps a page, and has it when it is opened again.
+fn keeps_page<R: Abort + AllocGlobal, O: Opens + Drop>(rt: &R, first: O, second: O, path: &str) {
+    play_and_refuse(rt, JournalFile::new(first, path), WRITTEN, PAST_END);
+    play_and_refuse(rt, JournalFile::new(second, path), REOPENED, &[]);
 }
 
-/// A disk is written, and while it is open none of these calls is done by another of the same file.
-fn holds<R: Abort + AllocGlobal, D: Disk + Drop, E: Disk>(
-    rt: &R,
-    mut first: D,
-    second: &mut E,
-) -> Result<(), Fail> {
-    play(rt, &mut first, &[Step::Write(0, b"one")])?;
-    let refused = [
-        Step::Len(3),
-        Step::Read(0, b"one"),
-        Step::Write(0, b"two"),
-        Step::Sync,
-    ];
-    refuse(rt, second, &refused);
-    play(rt, &mut first, &[Step::Read(0, b"one")])
+#[test]
+fn a_file_keeps_each_byte_where_it_was_written(rt: HostRuntime) {
+    // A file of an earlier run may stand there.
+    let _ = fs::remove_file(&rt, "pages.bin");
+    let (first, second) = (SystemFiles::new(&rt), SystemFiles::new(&rt));
+    keeps_page(&rt, first, second, "pages.bin");
 }
+
+const WRITE_ONE: &[Step<'static>] = &[Step::Write(0, b"one")];
+
+const READ_ONE: &[Step<'static>] = &[Step::Read(0, b"one")];
+
+/// None of these is done by a second disk of a file, while the first is open.
+const HELD: &[Step<'static>] = &[
+    Step::Len(3),
+    Step::Read(0, b"one"),
+    Step::Write(0, b"two"),
+    Step::Sync,
+];
 
 /// The second of two disks of a file can be used once the first is closed.
 fn takes_over<R: Abort + AllocGlobal, D: Disk + Drop, E: Disk + Drop>(
     rt: &R,
-    first: D,
+    mut first: D,
     mut second: E,
-) -> Result<(), Fail> {
-    holds(rt, first, &mut second)?;
-    play(rt, &mut second, &[Step::Len(3)])
+) {
+    play(rt, &mut first, WRITE_ONE);
+    refuse(rt, &mut second, HELD);
+    play_and_refuse(rt, first, READ_ONE, &[]);
+    play(rt, &mut second, &[Step::Len(3)]);
+}
+
+/// The same of two disks of a path.
+fn holds<R: Abort + AllocGlobal, O: Opens + Drop>(rt: &R, first: O, second: O, path: &str) {
+    let first = JournalFile::new(first, path);
+    takes_over(rt, first, JournalFile::new(second, path));
 }
 
 #[test]
-fn a_file_that_is_in_use_is_held(rt: HostRuntime) -> Result<(), Fail> {
-    takes_over(&rt, file_of(&rt, "held.bin"), file_of(&rt, "held.bin"))
+fn a_file_that_is_in_use_is_held(rt: HostRuntime) {
+    let (first, second) = (SystemFiles::new(&rt), SystemFiles::new(&rt));
+    holds(&rt, first, second, "held.bin");
 }
+
+const BEFORE: &[Step<'static>] = &[Step::Write(0, b"before")];
+
+const AFTER: &[Step<'static>] = &[Step::Write(6, b" and after"), Step::Sync, Step::Len(16)];
+
+const BOTH: &[Step<'static>] = &[Step::Read(0, b"before and after")];
 
 /// A disk is written before and after its file gets another name.
 fn writes_on<R: Abort + AllocGlobal + Files, D: Disk + Drop>(
@@ -175,16 +183,20 @@ fn writes_on<R: Abort + AllocGlobal + Files, D: Disk + Drop>(
     mut disk: D,
     old: &str,
     new: &str,
-) -> Result<(), Fail> {
-    play(rt, &mut disk, &[Step::Write(0, b"before")])?;
-    fs::rename(rt, old, new)?;
-    let more = [Step::Write(6, b" and after"), Step::Sync, Step::Len(16)];
-    play(rt, &mut disk, &more)
+) {
+    play(rt, &mut disk, BEFORE);
+    assert!(rt; fs::rename(rt, old, new).is_ok());
+    play_and_refuse(rt, disk, AFTER, &[]);
+}
+
+/// A file is written under two names, and has it all under the second.
+fn stays_open<R: Abort + AllocGlobal + Files, O: Opens + Drop>(rt: &R, first: O, second: O) {
+    let (old, new) = ("open.bin", "renamed.bin");
+    writes_on(rt, JournalFile::new(first, old), old, new);
+    play_and_refuse(rt, JournalFile::new(second, new), BOTH, &[]);
 }
 
 #[test]
-fn a_file_stays_open_from_its_first_use_on(rt: HostRuntime) -> Result<(), Fail> {
-    writes_on(&rt, file_of(&rt, "open.bin"), "open.bin", "renamed.bin")?;
-    let whole = [Step::Read(0, b"before and after")];
-    play_and_refuse(&rt, file_of(&rt, "renamed.bin"), &whole, &[])
+fn a_file_stays_open_from_its_first_use_on(rt: HostRuntime) {
+    stays_open(&rt, SystemFiles::new(&rt), SystemFiles::new(&rt));
 }

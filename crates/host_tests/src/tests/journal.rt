@@ -1,21 +1,20 @@
 //! The journal, over memory and over real files.
 
-ghost use Rattle.std.specs.Prelude.{◌≡◌, ◌<◌, ◌≤◌, ◌+◌, true, IfOk, IsTrue, length};
+ghost use Rattle.std.specs.Prelude.{◌≡◌, ◌<◌, ◌≤◌, ◌+◌, true, false, IfOk, OnOk, IsTrue, length};
 ghost use Rattle.wire_in.specs.Records.{is_day};
 ghost use Rattle.wire_in.specs.Spelling.{InRange};
 ghost use Rattle.memory_host.specs.Memory.{known};
 ghost use Rattle.journal_core.specs.Journal.{HasBytes};
 ghost use Rattle.journal_core.specs.Layout.{IsLimit};
+ghost use Rattle.journal_core.specs.Scan.{IsScanOf};
 
 use super::bases::kept_day;
-use host_core::{Failed, Held, Host, JournalFile, RealHost, Stream, SystemFiles};
+use host_core::{Failed, Host, JournalFile, Opens, RealHost, Stream, SystemFiles};
 use journal_core::{AppendError, Batch, FormatError, Journal, Scan, ScanError, format};
 use memory_host::{MemoryHost, Pick};
 use price_core::{Index, Price};
 use session_core::{Close, Date, Day, Moment, Profile};
 use std::alloc::Global;
-use std::os::unix::fs::FileExt;
-use std::rt::Files;
 use std::test::Fail;
 use std::{fs, io};
 use wire_in::Record;
@@ -48,14 +47,12 @@ pub fn day_record() -> Result<Record, Fail>
 }
 
 /// A batch of that day.
-pub fn day(alloc: Global) -> Result<Batch, Fail>
+fn day(alloc: Global) -> Result<Batch, Fail>
     ensures { IfOk result (λ batch. 0 < length batch) }
 {
-    let moment = Moment::new(14_400_000_000_000)?;
-    let date = Date::of(2024, 6, 3)?;
-    let index_close = Index::new(500_000)?;
+    let record = day_record()?;
     let mut batch = Batch::new(alloc)?;
-    batch.push(day_at(moment, date, index_close));
+    batch.push(record);
     Ok(batch)
 }
 
@@ -81,21 +78,64 @@ fn quotes(alloc: Global, count: usize) -> Result<Batch, Fail>
     Ok(batch)
 }
 
+/// Reads the batches that are left of a journal.
+fn read_on<H: Host>(alloc: Global, host: &mut H, scan: &mut Scan) -> Result<(), ScanError>
+    requires { IsScanOf scan.old (H.outside host.old).disk }
+    ensures closed { OnOk result (IsTrue scan.new.is_closed) }
+    ensures of_disk { OnOk result (IsScanOf scan.new (H.outside host.new).disk) }
+{
+    let mut batch = Batch::new(alloc)?;
+    while scan.next(host, &mut batch)? {}
+    Ok(())
+}
+
 /// Reads a journal to its end.
 pub fn open<H: Host>(alloc: Global, host: &mut H) -> Result<Journal, ScanError>
     ensures whole { IfOk result (λ journal. IsTrue journal.whole) }
     ensures gate { IfOk result (λ journal. HasBytes (journal.gate + 1) (H.outside host.new).disk) }
 {
     let mut scan = Scan::begin(alloc, host)?;
-    let mut batch = Batch::new(alloc)?;
-    while scan.next(host, &mut batch)? {}
+    read_on(alloc, host, &mut scan)?;
     Ok(scan.finish())
+}
+
+/// The journal of a disk.
+pub fn opened(alloc: Global, disk: &[u8]) -> Result<Journal, ScanError> {
+    let mut host = MemoryHost::new(alloc, b"", disk)?;
+    open(alloc, &mut host)
 }
 
 /// How many records a disk holds.
 pub fn count_of(alloc: Global, disk: &[u8]) -> Result<u64, ScanError> {
-    let mut host = MemoryHost::new(alloc, b"", disk)?;
-    Ok(open(alloc, &mut host)?.count())
+    Ok(opened(alloc, disk)?.count())
+}
+
+/// How many records are read on the disk that a crash leaves.
+pub fn count_after(alloc: Global, host: &MemoryHost, pick: Pick) -> Result<u64, ScanError> {
+    let mut next = host.crash(pick, b"")?;
+    Ok(open(alloc, &mut next)?.count())
+}
+
+/// Makes an empty journal that takes so many records.
+fn begin<H: Host>(alloc: Global, host: &mut H, limit: u64) -> Result<Journal, Fail>
+    requires { IsLimit limit }
+    ensures whole { IfOk result (λ journal. IsTrue journal.whole) }
+    ensures gate { IfOk result (λ journal. HasBytes (journal.gate + 1) (H.outside host.new).disk) }
+{
+    format(host, limit)?;
+    Ok(open(alloc, host)?)
+}
+
+/// Makes a journal that takes 3 records, and appends a day.
+pub fn keep_day<H: Host>(alloc: Global, host: &mut H) -> Result<Journal, Fail>
+    ensures whole { IfOk result (λ journal. IsTrue journal.whole) }
+    ensures unrolled { IfOk result (λ journal. journal.rolled ≡ false) }
+    ensures gate { IfOk result (λ journal. HasBytes (journal.gate + 1) (H.outside host.new).disk) }
+{
+    let mut journal = begin(alloc, host, 3)?;
+    let day = day(alloc)?;
+    journal.append(host, &day)?;
+    Ok(journal)
 }
 
 /// A journal with the host that keeps it.
@@ -106,67 +146,82 @@ pub struct Kept {
 }
 
 /// An empty journal in memory that takes so many records.
-pub fn empty(alloc: Global, limit: u64) -> Result<Kept, Fail>
+fn empty(alloc: Global, limit: u64) -> Result<Kept, Fail>
     requires { IsLimit limit }
     ensures whole { IfOk result (λ kept. IsTrue kept.journal.whole) }
     ensures gate { IfOk result (λ kept. HasBytes (kept.journal.gate + 1) (known kept.host).disk) }
 {
     let mut host = MemoryHost::new(alloc, b"", b"")?;
-    format(&mut host, limit)?;
-    let journal = open(alloc, &mut host)?;
+    let journal = begin(alloc, &mut host, limit)?;
     Ok(Kept { host, journal })
+}
+
+/// Whether a journal is these bytes, in which so many records are read.
+fn is_stored(alloc: Global, kept: Kept, disk: &[u8], count: u64) -> bool {
+    count_of(alloc, disk) == Ok(count) && kept.host.disk() == disk
 }
 
 #[test]
 fn a_fresh_journal_is_a_header_and_a_closed_gate(rt: HostRuntime) -> Result<(), Fail> {
-    let kept = empty(rt.alloc(), 3)?;
     let fresh = b"HALTJNL2\0\0\0\0\0\0\0\x03\0";
-    let count = count_of(rt.alloc(), fresh);
-    assert!(rt; kept.host.disk() == fresh.as_slice() && count == Ok(0));
+    let kept = empty(rt.alloc(), 3)?;
+    assert!(rt; is_stored(rt.alloc(), kept, fresh, 0));
     Ok(())
 }
 
 #[test]
 fn a_batch_is_a_gate_a_length_and_frames(rt: HostRuntime) -> Result<(), Fail> {
-    let kept = kept_day(rt.alloc())?;
     let disk =
         b"HALTJNL2\0\0\0\0\0\0\0\x03\x01\0\0\0\x14\x13\x01\0\0\x0d\x18\xc2\xe2\x80\0\x07\xe8\x06\x03\x01\x02\0\x07\xa1\x20\0";
-    let count = count_of(rt.alloc(), disk);
-    assert!(rt; kept.host.disk() == disk.as_slice() && count == Ok(1));
+    let kept = kept_day(rt.alloc())?;
+    assert!(rt; is_stored(rt.alloc(), kept, disk, 1));
     Ok(())
 }
 
 /// Whether a batch finds no room in a journal.
-fn is_full(kept: &mut Kept, batch: &Batch, limit: u64) -> bool
-    requires whole { IsTrue kept.old.journal.whole }
+fn is_full(mut kept: Kept, batch: &Batch, limit: u64) -> bool
+    requires whole { IsTrue kept.journal.whole }
     requires some { 0 < length batch.now }
-    requires gate { HasBytes (kept.old.journal.gate + 1) (known kept.old.host).disk }
+    requires gate { HasBytes (kept.journal.gate + 1) (known kept.host).disk }
 {
     kept.journal.append(&mut kept.host, batch) == Err(AppendError::Full { limit })
 }
 
 #[test]
 fn a_batch_that_finds_no_room_is_told(rt: HostRuntime) -> Result<(), Fail> {
-    let mut kept = kept_day(rt.alloc())?;
     let more = quotes(rt.alloc(), 3)?;
-    assert!(rt; is_full(&mut kept, &more, 3));
+    let kept = kept_day(rt.alloc())?;
+    assert!(rt; is_full(kept, &more, 3));
     Ok(())
 }
 
-/// How many records are left of a batch of 64, where the append is stopped at one of its four calls, or behind them.
-fn records_left(alloc: Global, stop: u64, pick: Pick) -> Result<u64, Fail> {
-    let batch = quotes(alloc, 64)?;
-    let mut kept = empty(alloc, 100)?;
+/// Whether the append of a batch is stopped at a call.
+fn is_stopped(kept: &mut Kept, batch: &Batch, stop: u64) -> bool
+    requires whole { IsTrue kept.old.journal.whole }
+    requires some { 0 < length batch.now }
+    requires gate { HasBytes (kept.old.journal.gate + 1) (known kept.old.host).disk }
+{
     let first = kept.host.calls().saturating_add(stop);
     kept.host.stop_at(first.max(1));
-    let stopped = kept.journal.append(&mut kept.host, &batch).is_err();
-    let mut next = kept.host.crash(pick, b"")?;
-    let count = open(alloc, &mut next)?.count();
-    Ok(if stopped == (stop <= 4) {
-        count
-    } else {
-        u64::MAX
-    })
+    kept.journal.append(&mut kept.host, batch).is_err()
+}
+
+/// How many records are left of a batch, where the append is stopped at one of its four calls, or behind them.
+fn records_of(alloc: Global, mut kept: Kept, batch: &Batch, stop: u64, pick: Pick) -> Option<u64>
+    requires whole { IsTrue kept.journal.whole }
+    requires some { 0 < length batch.now }
+    requires gate { HasBytes (kept.journal.gate + 1) (known kept.host).disk }
+{
+    let stopped = is_stopped(&mut kept, batch, stop);
+    let count = count_after(alloc, &kept.host, pick).ok();
+    if stopped == (stop <= 4) { count } else { None }
+}
+
+/// How many records are so left of a batch of 64.
+fn records_left(alloc: Global, stop: u64, pick: Pick) -> Result<Option<u64>, Fail> {
+    let batch = quotes(alloc, 64)?;
+    let kept = empty(alloc, 100)?;
+    Ok(records_of(alloc, kept, &batch, stop, pick))
 }
 
 #[test]
@@ -191,30 +246,34 @@ fn a_stop_leaves_a_batch_whole_or_out(rt: HostRuntime) -> Result<(), Fail> {
         (4, Pick::Bytes(0), 0),
         (5, Pick::Old, 64),
     ] {
-        assert!(rt; records_left(rt.alloc(), stop, pick)? == want, "at {stop}");
+        assert!(rt;
+            records_left(rt.alloc(), stop, pick)? == Some(want),
+            "at {stop}"
+        );
     }
     Ok(())
 }
 
 /// A journal of the first version that takes 3 records: a clock in a batch whose gate is open, and a closed gate.
-const CLOCK: &[u8] =
-    b"HALTJNL1\0\0\0\0\0\0\0\x03\x55\0\0\0\x0a\x09\x07\0\0\x1f\x1a\xce\xd9\xf0\0\0";
+const CLOCK: [u8; 32] =
+    *b"HALTJNL1\0\0\0\0\0\0\0\x03\x55\0\0\0\x0a\x09\x07\0\0\x1f\x1a\xce\xd9\xf0\0\0";
 
-/// The first bytes of that journal, where it takes so many records and one byte is another.
-fn changed(alloc: Global, len: usize, limit: u32, at: usize, byte: u8) -> Result<Vec<u8>, Fail> {
-    let mut disk = Vec::new(alloc);
-    disk.extend_from_slice(&CLOCK[..12])?;
-    disk.extend_from_slice(&limit.to_be_bytes())?;
-    disk.extend_from_slice(&CLOCK[16..])?;
-    if at < disk.len() {
-        disk[at] = byte;
-    }
-    disk.truncate(len);
-    Ok(disk)
+/// How many records the first bytes of that journal hold, where it takes so many and one byte is another.
+fn count_changed(
+    alloc: Global,
+    len: usize,
+    limit: u32,
+    at: usize,
+    byte: u8,
+) -> Result<u64, ScanError> {
+    let mut disk = CLOCK;
+    disk[12..16].copy_from_slice(&limit.to_be_bytes());
+    disk[at % 32] = byte;
+    count_of(alloc, &disk[..len.min(32)])
 }
 
 #[test]
-fn damage_is_told_with_its_offset(rt: HostRuntime) -> Result<(), Fail> {
+fn damage_is_told_with_its_offset(rt: HostRuntime) {
     for (len, limit, at, byte, want) in [
         (0, 3, 16, 0, Err(ScanError::NoJournal)),
         (16, 3, 16, 0, Err(ScanError::NoJournal)),
@@ -227,10 +286,9 @@ fn damage_is_told_with_its_offset(rt: HostRuntime) -> Result<(), Fail> {
         (32, 3, 16, 0x55, Ok(1)),
         (31, 3, 16, 0x55, Err(ScanError::Damaged { at: 31 })),
     ] {
-        let disk = changed(rt.alloc(), len, limit, at, byte)?;
-        assert!(rt; count_of(rt.alloc(), &disk) == want, "of {len} bytes");
+        let count = count_changed(rt.alloc(), len, limit, at, byte);
+        assert!(rt; count == want, "of {len} bytes");
     }
-    Ok(())
 }
 
 #[test]
@@ -256,103 +314,98 @@ fn fill(
     Ok(())
 }
 
+/// Whether so many records are read in so many calls.
+fn is_read_in(alloc: Global, host: &mut MemoryHost, count: u64, calls: u64) -> bool {
+    let before = host.calls();
+    let Ok(journal) = open(alloc, host) else {
+        return false;
+    };
+    journal.count() == count && host.calls().saturating_sub(before) == calls
+}
+
+/// Whether a journal that is filled with a batch is read in large pieces.
+fn is_read_fast(alloc: Global, mut kept: Kept, batch: &Batch) -> bool
+    requires whole { IsTrue kept.journal.whole }
+    requires some { 0 < length batch.now }
+    requires gate { HasBytes (kept.journal.gate + 1) (known kept.host).disk }
+{
+    fill(&mut kept.host, &mut kept.journal, batch, 8_000).is_ok()
+        && is_read_in(alloc, &mut kept.host, 8_000, 6)
+}
+
 #[test]
 fn a_long_journal_is_read_in_large_pieces(rt: HostRuntime) -> Result<(), Fail> {
     let batch = quotes(rt.alloc(), 64)?;
-    let mut kept = empty(rt.alloc(), 9_000)?;
-    fill(&mut kept.host, &mut kept.journal, &batch, 8_000)?;
-    let before = kept.host.calls();
-    let count = open(rt.alloc(), &mut kept.host)?.count();
-    let calls = kept.host.calls().saturating_sub(before);
-    assert!(rt; count == 8_000 && calls == 6);
+    let kept = empty(rt.alloc(), 9_000)?;
+    assert!(rt; is_read_fast(rt.alloc(), kept, &batch));
     Ok(())
 }
 
 /// A host with the journal of a file.
-fn over<'a, F: Files>(
-    files: &'a F,
+fn over<'a, O: Opens + Drop>(
+    files: O,
     path: &'a str,
-) -> RealHost<Stream<io::Empty>, Stream<io::Sink>, JournalFile<'a, SystemFiles<'a, F>>>
-where
-    F::File: FileExt + Held,
-{
+) -> RealHost<Stream<io::Empty>, Stream<io::Sink>, JournalFile<'a, O>> {
     RealHost::new(
         Stream::new(io::empty()),
         Stream::new(io::sink()),
-        JournalFile::new(SystemFiles::new(files), path),
+        JournalFile::new(files, path),
     )
 }
 
-/// Makes a journal that takes 3 records, and appends a day.
-fn keep_day<H: Host>(alloc: Global, host: &mut H) -> Result<(), Fail> {
-    let day = day(alloc)?;
-    format(host, 3)?;
-    let mut journal = open(alloc, host)?;
-    journal.append(host, &day)?;
+/// Makes a file with a journal that takes 3 records, and appends a day.
+fn keep_day_in<O: Opens + Drop>(files: O, alloc: Global, path: &str) -> Result<(), Fail> {
+    keep_day(alloc, &mut over(files, path))?;
     Ok(())
 }
 
-/// Makes a file with a journal that takes 3 records, and appends a day.
-fn keep_day_in<F: Files>(files: &F, alloc: Global, path: &str) -> Result<(), Fail>
-where
-    F::File: FileExt + Held,
-{
-    // A file of an earlier run may stand there.
-    let _ = fs::remove_file(files, path);
-    keep_day(alloc, &mut over(files, path))
-}
-
 /// How many records the journal of a file holds, and how many it takes.
-fn count_in<F: Files>(files: &F, alloc: Global, path: &str) -> Result<(u64, u64), ScanError>
-where
-    F::File: FileExt + Held,
-{
+fn count_in<O: Opens + Drop>(files: O, alloc: Global, path: &str) -> Result<(u64, u64), ScanError> {
     let journal = open(alloc, &mut over(files, path))?;
     Ok((journal.count(), journal.limit()))
 }
 
 /// Makes an empty journal of a file.
-fn format_in<F: Files>(files: &F, path: &str) -> Result<(), FormatError>
-where
-    F::File: FileExt + Held,
-{
+fn format_in<O: Opens + Drop>(files: O, path: &str) -> Result<(), FormatError> {
     format(&mut over(files, path), 5)
+}
+
+/// The length of a file's disk.
+fn len_of<O: Opens + Drop>(files: O, path: &str) -> Result<u64, Failed> {
+    over(files, path).disk_len()
 }
 
 #[test]
 fn a_file_keeps_what_was_appended(rt: HostRuntime) -> Result<(), Fail> {
-    keep_day_in(&rt, rt.alloc(), "appended.journal")?;
-    assert!(rt; count_in(&rt, rt.alloc(), "appended.journal") == Ok((1, 3)));
+    let path = "appended.journal";
+    // A file of an earlier run may stand there.
+    let _ = fs::remove_file(&rt, path);
+    keep_day_in(SystemFiles::new(&rt), rt.alloc(), path)?;
+    assert!(rt; count_in(SystemFiles::new(&rt), rt.alloc(), path) == Ok((1, 3)));
     Ok(())
 }
 
 #[test]
 fn no_file_is_a_fault_of_the_disk(rt: HostRuntime) {
-    assert!(rt; format_in(&rt, "-") == Err(FormatError::DiskFault));
-    assert!(rt; count_in(&rt, rt.alloc(), "-") == Err(ScanError::DiskFault));
-}
-
-/// The length of a file's disk.
-fn len_of<F: Files>(files: &F, path: &str) -> Result<u64, Failed>
-where
-    F::File: FileExt + Held,
-{
-    over(files, path).disk_len()
+    assert!(rt; format_in(SystemFiles::new(&rt), "-") == Err(FormatError::DiskFault));
+    assert!(rt; count_in(SystemFiles::new(&rt), rt.alloc(), "-") == Err(ScanError::DiskFault));
 }
 
 #[test]
 fn a_file_that_is_not_there_is_not_made(rt: HostRuntime) {
     let path = "new.journal";
-    assert!(rt; len_of(&rt, path) == Ok(0));
-    assert!(rt; count_in(&rt, rt.alloc(), path) == Err(ScanError::NoJournal));
+    assert!(rt; len_of(SystemFiles::new(&rt), path) == Ok(0));
+    assert!(rt; count_in(SystemFiles::new(&rt), rt.alloc(), path) == Err(ScanError::NoJournal));
     assert!(rt; fs::remove_file(&rt, path).is_err());
 }
 
 #[test]
 fn a_journal_with_a_record_is_not_replaced(rt: HostRuntime) -> Result<(), Fail> {
     let path = "kept.journal";
-    keep_day_in(&rt, rt.alloc(), path)?;
-    assert!(rt; format_in(&rt, path) == Err(FormatError::DiskFault));
-    assert!(rt; count_in(&rt, rt.alloc(), path) == Ok((1, 3)));
+    // A file of an earlier run may stand there.
+    let _ = fs::remove_file(&rt, path);
+    keep_day_in(SystemFiles::new(&rt), rt.alloc(), path)?;
+    assert!(rt; format_in(SystemFiles::new(&rt), path) == Err(FormatError::DiskFault));
+    assert!(rt; count_in(SystemFiles::new(&rt), rt.alloc(), path) == Ok((1, 3)));
     Ok(())
 }

@@ -7,7 +7,6 @@ use Step::{
 use host_core::{Failed, Host, send_all};
 use memory_host::{Call, MemoryHost, Pick};
 use std::process::Abort;
-use std::test::Fail;
 
 /// A call of a host in memory with what it has to answer, or what the host has to tell. Offsets and lengths are in bytes.
 #[derive(Clone, Copy)]
@@ -86,52 +85,53 @@ fn play<R: Abort>(rt: &R, host: &mut MemoryHost, steps: &[Step<'_>]) {
     }
 }
 
-#[test]
-fn reads_and_sends_are_cut_into_pieces(rt: HostRuntime) -> Result<(), Fail> {
-    let mut host = MemoryHost::new(rt.alloc(), b"abcde", b"")?;
-    host.pieces(2, 3);
-    play(
-        &rt,
-        &mut host,
-        &[
-            ReadInput(Ok(2), b"ab\0\0"),
-            ReadInput(Ok(2), b"cd\0\0"),
-            ReadInput(Ok(1), b"ed\0\0"),
-            ReadInput(Ok(0), b"ed\0\0"),
-            Send(b"hello", Ok(3)),
-            SendAll(b"stacks"),
-            HasSent(b"helstacks"),
-            Calls(7),
-            Starved(0),
-        ],
-    );
-    Ok(())
+/// A host in memory over an input and a disk.
+fn host_over<R: Abort + AllocGlobal>(rt: &R, input: &[u8], disk: &[u8]) -> MemoryHost {
+    MemoryHost::new(rt.alloc(), input, disk).expect(rt, "memory")
 }
 
+/// In pieces of two bytes read and three sent.
+const PIECES: &[Step<'static>] = &[
+    ReadInput(Ok(2), b"ab\0\0"),
+    ReadInput(Ok(2), b"cd\0\0"),
+    ReadInput(Ok(1), b"ed\0\0"),
+    ReadInput(Ok(0), b"ed\0\0"),
+    Send(b"hello", Ok(3)),
+    SendAll(b"stacks"),
+    HasSent(b"helstacks"),
+    Calls(7),
+    Starved(0),
+];
+
 #[test]
-fn the_calls_that_were_asked_to_fail_do(rt: HostRuntime) -> Result<(), Fail> {
-    let mut host = MemoryHost::new(rt.alloc(), b"abc", b"xyz")?;
+fn reads_and_sends_are_cut_into_pieces(rt: HostRuntime) {
+    let mut host = host_over(&rt, b"abcde", b"");
+    host.pieces(2, 3);
+    play(&rt, &mut host, PIECES);
+}
+
+/// The second read, the first send, and each call from the seventh on fail.
+const FAILING: &[Step<'static>] = &[
+    ReadInput(Ok(1), b"a\0"),
+    ReadInput(Err(Failed), b"a\0"),
+    ReadInput(Ok(1), b"b\0"),
+    Send(b"q", Err(Failed)),
+    Send(b"r", Ok(1)),
+    DiskLen(Ok(3)),
+    DiskLen(Err(Failed)),
+    DiskSync(Err(Failed)),
+    HasSent(b"r"),
+    Starved(0),
+];
+
+#[test]
+fn the_calls_that_were_asked_to_fail_do(rt: HostRuntime) {
+    let mut host = host_over(&rt, b"abc", b"xyz");
     host.pieces(1, 1);
-    host.fail(Call::Read, 2)?;
-    host.fail(Call::Send, 1)?;
+    host.fail(Call::Read, 2).expect(&rt, "memory");
+    host.fail(Call::Send, 1).expect(&rt, "memory");
     host.stop_at(7);
-    play(
-        &rt,
-        &mut host,
-        &[
-            ReadInput(Ok(1), b"a\0"),
-            ReadInput(Err(Failed), b"a\0"),
-            ReadInput(Ok(1), b"b\0"),
-            Send(b"q", Err(Failed)),
-            Send(b"r", Ok(1)),
-            DiskLen(Ok(3)),
-            DiskLen(Err(Failed)),
-            DiskSync(Err(Failed)),
-            HasSent(b"r"),
-            Starved(0),
-        ],
-    );
-    Ok(())
+    play(&rt, &mut host, FAILING);
 }
 
 /// A synced write, one that is not synced and goes past the end, and one that fails.
@@ -157,27 +157,17 @@ const TORN: &[Step<'static>] = &[
 ];
 
 /// Takes steps over what a crash leaves.
-fn play_after<R: Abort>(
-    rt: &R,
-    host: &MemoryHost,
-    pick: Pick,
-    steps: &[Step<'_>],
-) -> Result<(), Fail> {
-    play(rt, &mut host.crash(pick, b"in")?, steps);
-    Ok(())
-}
-
-/// Takes the steps of each pick.
-fn play_each<R: Abort>(rt: &R, host: &MemoryHost) -> Result<(), Fail> {
-    play_after(rt, host, Pick::Old, OLD)?;
-    play_after(rt, host, Pick::New, NEW)?;
-    play_after(rt, host, Pick::Bytes(b'U'), TORN)
+fn play_after<R: Abort>(rt: &R, host: &MemoryHost, pick: Pick, steps: &[Step<'_>]) {
+    let mut next = host.crash(pick, b"in").expect(rt, "memory");
+    play(rt, &mut next, steps);
 }
 
 #[test]
-fn a_crash_leaves_the_picked_bytes(rt: HostRuntime) -> Result<(), Fail> {
-    let mut host = MemoryHost::new(rt.alloc(), b"", b"abcdef")?;
-    host.fail(Call::Write, 3)?;
+fn a_crash_leaves_the_picked_bytes(rt: HostRuntime) {
+    let mut host = host_over(&rt, b"", b"abcdef");
+    host.fail(Call::Write, 3).expect(&rt, "memory");
     play(&rt, &mut host, WRITES);
-    play_each(&rt, &host)
+    play_after(&rt, &host, Pick::Old, OLD);
+    play_after(&rt, &host, Pick::New, NEW);
+    play_after(&rt, &host, Pick::Bytes(b'U'), TORN);
 }

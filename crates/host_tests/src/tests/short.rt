@@ -3,12 +3,11 @@
 use super::disks::Step::{self, Len, Read, Sync, Write};
 use super::disks::play_and_refuse;
 use crate::ShortFiles;
-use host_core::{Held, JournalFile, SystemFiles};
+use host_core::{Held, JournalFile, Opens, SystemFiles};
 use std::fs;
 use std::os::unix::fs::FileExt;
 use std::process::Abort;
 use std::rt::Files;
-use std::test::Fail;
 
 /// Bytes that are written over others, and read.
 const DONE: &[Step<'static>] = &[
@@ -30,17 +29,21 @@ const DONE: &[Step<'static>] = &[
 const REFUSED: &[Step<'static>] = &[Read(41, &[0; 22])];
 
 /// A file of a path does the steps.
-fn keeps_all<R: Abort + AllocGlobal, F: Files>(rt: &R, files: &F, path: &str) -> Result<(), Fail>
+fn keeps_all<R: Abort + AllocGlobal, O: Opens + Drop>(rt: &R, files: O, path: &str) {
+    play_and_refuse(rt, JournalFile::new(files, path), DONE, REFUSED);
+}
+
+/// The same over the files of a runtime.
+fn keeps_all_in<R: Abort + AllocGlobal, F: Files>(rt: &R, files: &F, path: &str)
 where
     F::File: FileExt + Held,
 {
-    let file = JournalFile::new(SystemFiles::new(files), path);
-    play_and_refuse(rt, file, DONE, REFUSED)
+    keeps_all(rt, SystemFiles::new(files), path);
 }
 
 #[test]
-fn short_writes_and_reads_lose_nothing(rt: HostRuntime) -> Result<(), Fail> {
+fn short_writes_and_reads_lose_nothing(rt: HostRuntime) {
     // A file of an earlier run may stand there.
     let _ = fs::remove_file(&rt, "short.bin");
-    keeps_all(&rt, &ShortFiles::new(&rt), "short.bin")
+    keeps_all_in(&rt, &ShortFiles::new(&rt), "short.bin");
 }
