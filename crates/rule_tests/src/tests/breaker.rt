@@ -1,13 +1,11 @@
 //! Levels of the index, and the halts that they bring.
 
 use super::script::{Step, play};
-use super::values::{day, moment};
+use super::values::{day, index, moment};
 use Event::{Start, Stopped, Time, Value};
 use breaker_core::Breaker;
-use price_core::Index;
 use session_core::Close::{self, Early, Regular};
 use session_core::Level;
-use std::process::Abort;
 
 /// What comes to the circuit breakers of a day after an index close of 5000.00, with the wanted answer. Times are nanoseconds
 /// of the day, and index values are in hundredths of a point.
@@ -23,26 +21,21 @@ enum Event {
     Stopped(bool),
 }
 
-/// An index value in hundredths of a point.
-fn index<R: Abort>(rt: &R, hundredths: u32) -> Index {
-    Index::new(hundredths).expect(rt, "an index value")
-}
-
-fn start<R: Abort>(rt: &R) -> Breaker {
-    Breaker::start(index(rt, 500_000))
+fn start() -> Breaker {
+    Breaker::start(index(500_000))
 }
 
 impl Step<Breaker> for Event {
-    fn holds<R: Abort>(&self, rt: &R, breaker: &mut Breaker) -> bool {
+    fn holds(&self, breaker: &mut Breaker) -> bool {
         match *self {
             Start => {
-                *breaker = start(rt);
+                *breaker = start();
                 true
             }
             Value(close, nanos, value, want) => {
-                breaker.index(moment(rt, nanos), index(rt, value), &day(rt, close)) == want
+                breaker.index(moment(nanos), index(value), &day(close)) == want
             }
-            Time(nanos, want) => breaker.time(moment(rt, nanos)) == want,
+            Time(nanos, want) => breaker.time(moment(nanos)) == want,
             Stopped(want) => breaker.stopped() == want,
         }
     }
@@ -70,7 +63,7 @@ const AT_15_40: u64 = 940 * MINUTE;
 fn a_level_is_reached_at_its_percentage(rt: HostRuntime) {
     play(
         &rt,
-        &mut start(&rt),
+        &mut start(),
         &[
             Value(Regular, AT_10_00, 465_001, None),
             Stopped(false),
@@ -97,7 +90,7 @@ fn a_level_is_reached_at_its_percentage(rt: HostRuntime) {
 fn a_level_2_halt_of_15_25_ends_at_15_40(rt: HostRuntime) {
     play(
         &rt,
-        &mut start(&rt),
+        &mut start(),
         &[
             Value(Regular, AT_15_25, 435_000, Some(Level::Two)),
             Value(Regular, AT_15_30, 400_000, None),
@@ -114,7 +107,7 @@ fn a_level_2_halt_of_15_25_ends_at_15_40(rt: HostRuntime) {
 fn an_early_close_moves_the_last_moments(rt: HostRuntime) {
     play(
         &rt,
-        &mut start(&rt),
+        &mut start(),
         &[
             Value(Early, AT_9_30 - 1, 400_000, None),
             Value(Early, AT_12_25 + 1, 435_000, None),

@@ -5,7 +5,6 @@ use super::values::{day, moment};
 use Row::{Eligible, Opening, Says};
 use eligible_core::{Condition, eligible, opening};
 use session_core::Close;
-use std::process::Abort;
 
 /// A row with the wanted answer.
 #[derive(Clone, Copy)]
@@ -19,11 +18,11 @@ enum Row {
 }
 
 impl Step<()> for Row {
-    fn holds<R: Abort>(&self, rt: &R, _: &mut ()) -> bool {
+    fn holds(&self, _: &mut ()) -> bool {
         match *self {
             Eligible(close, seconds, flags, want) => {
-                let t = moment(rt, seconds.wrapping_mul(1_000_000_000));
-                flags < 1024 && eligible(flags, t, &day(rt, close)) == want
+                let t = moment(seconds.wrapping_mul(1_000_000_000));
+                flags < 1024 && eligible(flags, t, &day(close)) == want
             }
             Opening(flags, want) => opening(flags) == want,
             Says(bit, want) => bit < 16 && Condition::of(bit) == want,

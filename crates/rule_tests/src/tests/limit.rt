@@ -5,7 +5,6 @@ use super::values::{moment, price};
 use Row::{Expires, Quote};
 use limit_core::{LimitTimer, at_limit, straddles};
 use price_core::{Bands, Price, Quotation, Side};
-use std::process::Abort;
 
 /// A row with the wanted answer. Prices are in ten-thousandths of a dollar, and times nanoseconds of the day.
 #[derive(Clone, Copy)]
@@ -16,18 +15,18 @@ enum Row {
     Expires(u64, bool),
 }
 
-fn bands<R: Abort>(rt: &R) -> Bands {
+fn bands() -> Bands {
     Bands {
-        lower: price(rt, 475_000),
-        upper: price(rt, 525_000),
+        lower: price(475_000),
+        upper: price(525_000),
     }
 }
 
 impl Step<()> for Row {
-    fn holds<R: Abort>(&self, rt: &R, _: &mut ()) -> bool {
+    fn holds(&self, _: &mut ()) -> bool {
         match *self {
             Quote(bid, offer, side, straddling) => {
-                let bands = bands(rt);
+                let bands = bands();
                 let quotation = Quotation {
                     bid: Price::new(bid).ok(),
                     offer: Price::new(offer).ok(),
@@ -37,8 +36,8 @@ impl Step<()> for Row {
                     && straddles(&quotation, &bands) == straddling
             }
             Expires(nanos, want) => {
-                let timer = LimitTimer::enter(moment(rt, 36_000_000_000_000), Side::High);
-                timer.expired(moment(rt, nanos)) == want && timer.side() == Side::High
+                let timer = LimitTimer::enter(moment(36_000_000_000_000), Side::High);
+                timer.expired(moment(nanos)) == want && timer.side() == Side::High
             }
         }
     }

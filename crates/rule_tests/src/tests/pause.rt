@@ -6,7 +6,6 @@ use pause_core::{Brakes, Turned, pause, turn};
 use session_core::Phase::{
     self, Closed, Closing, Halted, LimitHigh, LimitLow, Paused, Shut, Stopped, Trading,
 };
-use std::process::Abort;
 
 /// A row with the wanted answer.
 #[derive(Clone, Copy)]
@@ -21,7 +20,7 @@ enum Row {
 }
 
 impl Step<()> for Row {
-    fn holds<R: Abort>(&self, _: &R, _: &mut ()) -> bool {
+    fn holds(&self, _: &mut ()) -> bool {
         match *self {
             Turn(phase, brakes, first) => {
                 let want = Turned {

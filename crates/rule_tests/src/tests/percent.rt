@@ -6,7 +6,6 @@ use Row::{BandsAt, CategoryOf, SpanAt};
 use percent_core::{bands, category, percent, span};
 use price_core::{Bands, Category, Leverage, Tier};
 use session_core::{Close, Profile, Span};
-use std::process::Abort;
 
 /// A row with the wanted answer. Prices are in ten-thousandths of a dollar, and times nanoseconds of the day.
 #[derive(Clone, Copy)]
@@ -27,21 +26,21 @@ struct Stock {
     leverage: u8,
 }
 
-fn bands_at<R: Abort>(rt: &R, stock: Stock, reference: u64, nanos: u64) -> Bands {
-    let category = category(Some(price(rt, stock.close)));
-    let span = span(moment(rt, nanos), &day(rt, Close::Regular));
+fn bands_at(stock: Stock, reference: u64, nanos: u64) -> Bands {
+    let category = category(Some(price(stock.close)));
+    let span = span(moment(nanos), &day(Close::Regular));
     let percent = percent(stock.tier, category, span, Profile::Since18);
-    let leverage = Leverage::new(stock.leverage).expect(rt, "a leverage ratio");
-    bands(price(rt, reference), category, percent, leverage)
+    let leverage = Leverage::new(stock.leverage.clamp(10, 50)).unwrap();
+    bands(price(reference), category, percent, leverage)
 }
 
 impl Step<()> for Row {
-    fn holds<R: Abort>(&self, rt: &R, _: &mut ()) -> bool {
+    fn holds(&self, _: &mut ()) -> bool {
         match *self {
-            CategoryOf(close, want) => category(price_or_none(rt, close)) == want,
-            SpanAt(close, nanos, want) => span(moment(rt, nanos), &day(rt, close)) == want,
+            CategoryOf(close, want) => category(price_or_none(close)) == want,
+            SpanAt(close, nanos, want) => span(moment(nanos), &day(close)) == want,
             BandsAt(stock, reference, nanos, (lower, upper)) => {
-                let bands = bands_at(rt, stock, reference, nanos);
+                let bands = bands_at(stock, reference, nanos);
                 bands.lower.units() == lower && bands.upper.units() == upper
             }
         }

@@ -6,7 +6,6 @@ use Call::{Adopt, Adopted, AwaitsMean, Current, Force, Observe};
 use price_core::Cause;
 use refprice_core::Reference;
 use session_core::Moment;
-use std::process::Abort;
 
 /// A call of a reference price, with the wanted answer. Times are nanoseconds after 09:30:00, and prices are in
 /// ten-thousandths of a dollar.
@@ -24,26 +23,25 @@ enum Call {
 }
 
 /// A moment so many nanoseconds after 09:30:00.
-fn after<R: Abort>(rt: &R, nanos: u64) -> Moment {
-    moment(rt, nanos.wrapping_add(34_200_000_000_000))
+fn after(nanos: u64) -> Moment {
+    moment(nanos.wrapping_add(34_200_000_000_000))
 }
 
 impl Step<Reference> for Call {
-    fn holds<R: Abort>(&self, rt: &R, reference: &mut Reference) -> bool {
+    fn holds(&self, reference: &mut Reference) -> bool {
         match *self {
             Observe(nanos, opening, mean, want) => {
-                let (opening, mean) = (price_or_none(rt, opening), price_or_none(rt, mean));
-                reference.observe(after(rt, nanos), opening, mean) == want
+                let (opening, mean) = (price_or_none(opening), price_or_none(mean));
+                reference.observe(after(nanos), opening, mean) == want
             }
-            Force(nanos, mean, want) => reference.force(after(rt, nanos), price_or_none(rt, mean))
-                == want,
+            Force(nanos, mean, want) => reference.force(after(nanos), price_or_none(mean)) == want,
             Adopt(nanos, units) => {
-                reference.adopt(after(rt, nanos), price(rt, units));
+                reference.adopt(after(nanos), price(units));
                 true
             }
-            Current(want) => reference.current() == price_or_none(rt, want),
-            Adopted(want) => reference.adopted() == after(rt, want),
-            AwaitsMean(nanos, want) => reference.awaits_mean(after(rt, nanos)) == want,
+            Current(want) => reference.current() == price_or_none(want),
+            Adopted(want) => reference.adopted() == after(want),
+            AwaitsMean(nanos, want) => reference.awaits_mean(after(nanos)) == want,
         }
     }
 }
@@ -52,7 +50,7 @@ impl Step<Reference> for Call {
 fn a_mean_moves_by_one_per_cent_after_30_seconds(rt: HostRuntime) {
     play(
         &rt,
-        &mut Reference::begin(after(&rt, 0)),
+        &mut Reference::begin(after(0)),
         &[
             Observe(0, Some(500_000), Some(500_000), Some(Cause::First)),
             Current(Some(500_000)),
@@ -71,7 +69,7 @@ fn a_mean_moves_by_one_per_cent_after_30_seconds(rt: HostRuntime) {
 fn the_mean_is_the_first_price_from_five_minutes_on(rt: HostRuntime) {
     play(
         &rt,
-        &mut Reference::begin(after(&rt, 0)),
+        &mut Reference::begin(after(0)),
         &[
             Observe(299_999_999_999, None, Some(500_000), None),
             Current(None),
@@ -92,7 +90,7 @@ fn the_mean_is_the_first_price_from_five_minutes_on(rt: HostRuntime) {
 fn the_end_of_a_limit_state_takes_any_mean(rt: HostRuntime) {
     play(
         &rt,
-        &mut Reference::released(after(&rt, 0), price(&rt, 500_000)),
+        &mut Reference::released(after(0), price(500_000)),
         &[
             Force(1_000_000_000, None, None),
             Current(Some(500_000)),
@@ -108,7 +106,7 @@ fn the_end_of_a_limit_state_takes_any_mean(rt: HostRuntime) {
 fn a_mean_is_awaited_after_five_minutes_and_then_after_30_seconds(rt: HostRuntime) {
     play(
         &rt,
-        &mut Reference::begin(after(&rt, 0)),
+        &mut Reference::begin(after(0)),
         &[
             AwaitsMean(299_999_999_999, false),
             AwaitsMean(300_000_000_000, true),

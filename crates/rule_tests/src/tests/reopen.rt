@@ -6,7 +6,6 @@ use Call::{Begin, Closes, Collars, Due, Extends, Indicate, NotDue, Releases, Rou
 use price_core::{Bands, Unmatched};
 use reopen_core::{Auction, Origin, Trial};
 use session_core::Moment;
-use std::process::Abort;
 
 /// A call of an auction, with the wanted answer. Times are nanoseconds after 10:00:00, and prices are in ten-thousandths of
 /// a dollar.
@@ -30,47 +29,47 @@ enum Call {
 }
 
 /// A moment so many nanoseconds after 10:00:00.
-fn after<R: Abort>(rt: &R, nanos: u64) -> Moment {
-    moment(rt, nanos.wrapping_add(36_000_000_000_000))
+fn after(nanos: u64) -> Moment {
+    moment(nanos.wrapping_add(36_000_000_000_000))
 }
 
-fn collars<R: Abort>(rt: &R, lower: u64, upper: u64) -> price_core::Collars {
+fn collars(lower: u64, upper: u64) -> price_core::Collars {
     price_core::Collars {
-        lower: price(rt, lower),
-        upper: price(rt, upper),
+        lower: price(lower),
+        upper: price(upper),
     }
 }
 
-fn begin<R: Abort>(rt: &R, origin: Origin, lower: u64, upper: u64) -> Auction {
+fn begin(origin: Origin, lower: u64, upper: u64) -> Auction {
     let bands = Bands {
-        lower: price(rt, lower),
-        upper: price(rt, upper),
+        lower: price(lower),
+        upper: price(upper),
     };
-    Auction::begin(after(rt, 0), origin, &bands, price(rt, 500_000))
+    Auction::begin(after(0), origin, &bands, price(500_000))
 }
 
 impl Step<Auction> for Call {
-    fn holds<R: Abort>(&self, rt: &R, auction: &mut Auction) -> bool {
+    fn holds(&self, auction: &mut Auction) -> bool {
         match *self {
             Begin(origin, lower, upper) => {
-                *auction = begin(rt, origin, lower, upper);
+                *auction = begin(origin, lower, upper);
                 true
             }
             Indicate(units, unmatched) => {
-                auction.indicate(price(rt, units), unmatched);
+                auction.indicate(price(units), unmatched);
                 true
             }
-            Collars(lower, upper) => auction.collars() == collars(rt, lower, upper),
+            Collars(lower, upper) => auction.collars() == collars(lower, upper),
             Due(nanos) => auction.due() == nanos,
             Round(number) => auction.round() == number,
-            NotDue(nanos) => auction.trial(after(rt, nanos), false) == Trial::NotDue,
+            NotDue(nanos) => auction.trial(after(nanos), false) == Trial::NotDue,
             Extends(nanos, lower, upper) => {
-                auction.trial(after(rt, nanos), false) == Trial::Extend(collars(rt, lower, upper))
+                auction.trial(after(nanos), false) == Trial::Extend(collars(lower, upper))
             }
             Releases(nanos, units) => {
-                auction.trial(after(rt, nanos), false) == Trial::Release(price(rt, units))
+                auction.trial(after(nanos), false) == Trial::Release(price(units))
             }
-            Closes(nanos) => auction.trial(after(rt, nanos), true) == Trial::Closing,
+            Closes(nanos) => auction.trial(after(nanos), true) == Trial::Closing,
         }
     }
 }
@@ -79,7 +78,7 @@ impl Step<Auction> for Call {
 fn a_price_below_widens_the_lower_collar_and_then_releases(rt: HostRuntime) {
     play(
         &rt,
-        &mut begin(&rt, Origin::Low, 475_000, 525_000),
+        &mut begin(Origin::Low, 475_000, 525_000),
         &[
             Collars(451_200, 525_000),
             Due(36_300_000_000_000),
@@ -101,7 +100,7 @@ fn a_price_below_widens_the_lower_collar_and_then_releases(rt: HostRuntime) {
 fn the_side_that_an_indication_widens(rt: HostRuntime) {
     play(
         &rt,
-        &mut begin(&rt, Origin::Low, 475_000, 525_000),
+        &mut begin(Origin::Low, 475_000, 525_000),
         &[
             Indicate(470_000, Unmatched::Sell),
             Extends(300_000_000_000, 427_400, 525_000),
@@ -122,7 +121,7 @@ fn the_side_that_an_indication_widens(rt: HostRuntime) {
 fn the_first_collars_of_each_origin(rt: HostRuntime) {
     play(
         &rt,
-        &mut begin(&rt, Origin::High, 475_000, 525_000),
+        &mut begin(Origin::High, 475_000, 525_000),
         &[
             Collars(475_000, 551_300),
             Begin(Origin::Straddle, 475_000, 525_000),
@@ -143,7 +142,7 @@ fn the_first_collars_of_each_origin(rt: HostRuntime) {
 fn without_an_indication_it_releases_at_the_auction_reference(rt: HostRuntime) {
     play(
         &rt,
-        &mut begin(&rt, Origin::Low, 475_000, 525_000),
+        &mut begin(Origin::Low, 475_000, 525_000),
         &[
             Releases(300_000_000_000, 475_000),
             Begin(Origin::High, 475_000, 525_000),

@@ -4,14 +4,14 @@ use std::process::Abort;
 
 /// A call of what is tested, with the answer that it has to give.
 pub trait Step<T> {
-    /// Takes the step, and says whether the answer is as wanted. It aborts where a value of the step is outside its range.
-    fn holds<R: Abort>(&self, rt: &R, tested: &mut T) -> bool;
+    /// Takes the step, and says whether the answer is as wanted.
+    fn holds(&self, tested: &mut T) -> bool;
 }
 
 /// Takes the steps one after the other.
 pub fn play<T, S: Step<T>, R: Abort>(rt: &R, tested: &mut T, steps: &[S]) {
     for (place, step) in steps.iter().enumerate() {
-        assert!(rt; step.holds(rt, tested), "step {place}");
+        assert!(rt; step.holds(tested), "step {place}");
     }
 }
 

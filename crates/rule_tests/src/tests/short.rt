@@ -4,7 +4,6 @@ use super::script::{Step, play};
 use super::values::{price, price_or_none};
 use Call::{IsCarried, IsRestricted, Listed, NextDay, Relisted, RestrictsNextDay, Trade};
 use short_core::Short;
-use std::process::Abort;
 
 /// A call of the short sale restriction of a stock, with the wanted answer. Prices are in ten-thousandths of a dollar.
 #[derive(Clone, Copy)]
@@ -23,21 +22,21 @@ enum Call {
 }
 
 impl Step<Short> for Call {
-    fn holds<R: Abort>(&self, rt: &R, short: &mut Short) -> bool {
+    fn holds(&self, short: &mut Short) -> bool {
         match *self {
             Listed(close) => {
-                *short = Short::listed(price_or_none(rt, close), false);
+                *short = Short::listed(price_or_none(close), false);
                 true
             }
             NextDay(close) => {
-                *short = Short::listed(price_or_none(rt, close), short.next_day());
+                *short = Short::listed(price_or_none(close), short.next_day());
                 true
             }
             Relisted(close) => {
-                short.list(price_or_none(rt, close));
+                short.list(price_or_none(close));
                 true
             }
-            Trade(units, want) => short.trade(price(rt, units)) == want,
+            Trade(units, want) => short.trade(price(units)) == want,
             IsRestricted(want) => short.restricted() == want,
             IsCarried(want) => short.is_carried() == want,
             RestrictsNextDay(want) => short.next_day() == want,

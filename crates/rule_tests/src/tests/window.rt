@@ -1,19 +1,19 @@
 //! Trades that come, go and are cancelled.
 
-use Step::{
+use super::script::{Step, play};
+use super::values::{moment, price, price_or_none};
+use Call::{
     Add, Advance, Cancel, IsLive, IsNear, LiveUntil, Mean, MovesFrom, Oldest, Restart, Trade,
 };
-use price_core::Price;
 use session_core::Moment;
 use std::process::Abort;
-use std::test::Fail;
 use std::time::{Duration, Instant};
 use window_core::{Deal, Window};
 
-/// A call of a window, or what one has to answer. Times are nanoseconds after 09:30:00, and prices are in ten-thousandths of
-/// a dollar.
+/// A call of a window, with the wanted answer. Times are nanoseconds after 09:30:00, and prices are in ten-thousandths of a
+/// dollar.
 #[derive(Clone, Copy)]
-enum Step {
+enum Call {
     /// A time comes, and a trade at it: its number and price.
     Trade(u64, u32, u64),
     /// The same with no time that comes.
@@ -34,78 +34,85 @@ enum Step {
 
 const OPEN: u64 = 34_200_000_000_000;
 
+/// A moment that many nanoseconds after 09:30:00.
+fn after(nanos: u64) -> Moment {
+    moment(OPEN.wrapping_add(nanos))
+}
+
 /// The nanoseconds of the day of an answer that may be never.
 fn time_of(nanos: Option<u64>) -> u64 {
-    nanos.map_or(u64::MAX, |nanos| OPEN.wrapping_add(nanos))
+    match nanos {
+        Some(nanos) => OPEN.wrapping_add(nanos),
+        None => u64::MAX,
+    }
 }
 
-/// A moment that many nanoseconds after 09:30:00.
-fn after(nanos: u64) -> Result<Moment, Fail> {
-    Ok(Moment::new(OPEN.wrapping_add(nanos))?)
+/// Whether the oldest deal is of a time, or there is none.
+fn is_oldest(window: &Window, want: Option<u64>) -> bool {
+    let nanos = match window.oldest() {
+        Some(oldest) => oldest.nanos(),
+        None => u64::MAX,
+    };
+    nanos == time_of(want)
 }
 
-fn add(window: &mut Window, nanos: u64, number: u32, units: u64) -> Result<(), Fail> {
-    window.reserve()?;
+/// Adds a deal. Whether there is memory for it.
+fn add(window: &mut Window, nanos: u64, number: u32, units: u64) -> bool {
+    let Ok(()) = window.reserve() else {
+        return false;
+    };
     window.add(Deal {
-        moment: after(nanos)?,
+        moment: after(nanos),
         number,
-        price: Price::new(units)?,
+        price: price(units),
     });
-    Ok(())
+    true
 }
 
-/// Calls a window.
-fn call(window: &mut Window, step: Step) -> Result<(), Fail> {
-    match step {
-        Trade(nanos, number, units) => {
-            window.advance(after(nanos)?);
-            add(window, nanos, number, units)
+/// A time comes, and a trade at it. Whether there is memory for it.
+fn trade(window: &mut Window, nanos: u64, number: u32, units: u64) -> bool {
+    window.advance(after(nanos));
+    add(window, nanos, number, units)
+}
+
+impl Step<Window> for Call {
+    fn holds(&self, window: &mut Window) -> bool {
+        match *self {
+            Trade(nanos, number, units) => trade(window, nanos, number, units),
+            Add(nanos, number, units) => add(window, nanos, number, units),
+            Advance(nanos) => {
+                window.advance(after(nanos));
+                true
+            }
+            Cancel(number) => {
+                window.cancel(number);
+                true
+            }
+            Restart => {
+                window.restart();
+                true
+            }
+            Mean(want) => window.mean() == price_or_none(want),
+            Oldest(want) => is_oldest(window, want),
+            IsLive(nanos, want) => window.are_live(after(nanos)) == want,
+            LiveUntil(want) => window.live_until() == time_of(want),
+            IsNear(units, want) => window.stays_near(price(units)) == want,
+            MovesFrom(nanos, units, want) => {
+                window.moves_from(after(nanos).nanos(), price(units)) == time_of(want)
+            }
         }
-        Add(nanos, number, units) => add(window, nanos, number, units),
-        Advance(nanos) => {
-            window.advance(after(nanos)?);
-            Ok(())
-        }
-        Cancel(number) => {
-            window.cancel(number);
-            Ok(())
-        }
-        Restart => {
-            window.restart();
-            Ok(())
-        }
-        _ => Ok(()),
     }
 }
 
-/// Whether a window answers what is wanted.
-fn answers(window: &Window, step: Step) -> Result<bool, Fail> {
-    Ok(match step {
-        Mean(want) => window.mean().map(|it| it.units()) == want,
-        Oldest(want) => window.oldest().map_or(u64::MAX, |it| it.nanos()) == time_of(want),
-        IsLive(nanos, want) => window.are_live(after(nanos)?) == want,
-        LiveUntil(want) => window.live_until() == time_of(want),
-        IsNear(units, want) => window.stays_near(Price::new(units)?) == want,
-        MovesFrom(nanos, units, want) => {
-            window.moves_from(after(nanos)?.nanos(), Price::new(units)?) == time_of(want)
-        }
-        _ => true,
-    })
-}
-
-/// Takes the steps one after the other over a new window.
-fn play<R: Abort + AllocGlobal>(rt: &R, steps: &[Step]) -> Result<(), Fail> {
-    let mut window = Window::new(rt.alloc())?;
-    for (place, step) in steps.iter().enumerate() {
-        call(&mut window, *step)?;
-        assert!(rt; answers(&window, *step)?, "step {place}");
-    }
-    Ok(())
+/// Takes the steps from a new window on.
+fn follow<R: Abort + AllocGlobal>(rt: &R, steps: &[Call]) {
+    let mut window = Window::new(rt.alloc()).unwrap();
+    play(rt, &mut window, steps);
 }
 
 #[test]
-fn a_mean_is_rounded_half_up(rt: HostRuntime) -> Result<(), Fail> {
-    play(
+fn a_mean_is_rounded_half_up(rt: HostRuntime) {
+    follow(
         &rt,
         &[
             Mean(None),
@@ -122,9 +129,9 @@ fn a_mean_is_rounded_half_up(rt: HostRuntime) -> Result<(), Fail> {
 }
 
 #[test]
-fn a_mean_moves_when_a_deal_leaves(rt: HostRuntime) -> Result<(), Fail> {
+fn a_mean_moves_when_a_deal_leaves(rt: HostRuntime) {
     // Of all three the mean is 50.4000, and behind the first one 50.6000.
-    play(
+    follow(
         &rt,
         &[
             MovesFrom(0, 500_000, None),
@@ -142,8 +149,8 @@ fn a_mean_moves_when_a_deal_leaves(rt: HostRuntime) -> Result<(), Fail> {
 }
 
 /// Nine deals, a nanosecond one after the other, of which the last has a price of its own.
-fn nine<R: Abort + AllocGlobal>(rt: &R, last: u64, moves: Option<u64>) -> Result<(), Fail> {
-    play(
+fn nine<R: Abort + AllocGlobal>(rt: &R, last: u64, moves: Option<u64>) {
+    follow(
         rt,
         &[
             Trade(0, 0, 500_000),
@@ -161,18 +168,18 @@ fn nine<R: Abort + AllocGlobal>(rt: &R, last: u64, moves: Option<u64>) -> Result
 }
 
 #[test]
-fn of_nine_deals_the_first_alone_is_looked_at(rt: HostRuntime) -> Result<(), Fail> {
+fn of_nine_deals_the_first_alone_is_looked_at(rt: HostRuntime) {
     nine(&rt, 510_000, Some(300_000_000_000))
 }
 
 #[test]
-fn nine_deals_near_the_reference_price_move_at_no_time(rt: HostRuntime) -> Result<(), Fail> {
+fn nine_deals_near_the_reference_price_move_at_no_time(rt: HostRuntime) {
     nine(&rt, 504_999, None)
 }
 
 #[test]
-fn a_trade_of_exactly_five_minutes_does_not_count(rt: HostRuntime) -> Result<(), Fail> {
-    play(
+fn a_trade_of_exactly_five_minutes_does_not_count(rt: HostRuntime) {
+    follow(
         &rt,
         &[
             Trade(0, 1, 490_000),
@@ -189,8 +196,8 @@ fn a_trade_of_exactly_five_minutes_does_not_count(rt: HostRuntime) -> Result<(),
 }
 
 #[test]
-fn a_cancel_removes_each_trade_of_its_number(rt: HostRuntime) -> Result<(), Fail> {
-    play(
+fn a_cancel_removes_each_trade_of_its_number(rt: HostRuntime) {
+    follow(
         &rt,
         &[
             Cancel(2),
@@ -209,8 +216,8 @@ fn a_cancel_removes_each_trade_of_its_number(rt: HostRuntime) -> Result<(), Fail
 }
 
 #[test]
-fn a_restart_begins_a_new_day(rt: HostRuntime) -> Result<(), Fail> {
-    play(
+fn a_restart_begins_a_new_day(rt: HostRuntime) {
+    follow(
         &rt,
         &[
             Trade(600_000_000_000, 1, 490_000),
@@ -224,8 +231,8 @@ fn a_restart_begins_a_new_day(rt: HostRuntime) -> Result<(), Fail> {
 }
 
 #[test]
-fn after_a_restart_earlier_deals_are_in_order(rt: HostRuntime) -> Result<(), Fail> {
-    play(
+fn after_a_restart_earlier_deals_are_in_order(rt: HostRuntime) {
+    follow(
         &rt,
         &[
             Add(600_000_000_000, 1, 500_000),
@@ -240,8 +247,8 @@ fn after_a_restart_earlier_deals_are_in_order(rt: HostRuntime) -> Result<(), Fai
 }
 
 #[test]
-fn deals_out_of_order_leave_when_they_are_five_minutes_old(rt: HostRuntime) -> Result<(), Fail> {
-    play(
+fn deals_out_of_order_leave_when_they_are_five_minutes_old(rt: HostRuntime) {
+    follow(
         &rt,
         &[
             Add(60_000_000_000, 1, 500_000),
@@ -257,14 +264,14 @@ fn deals_out_of_order_leave_when_they_are_five_minutes_old(rt: HostRuntime) -> R
 }
 
 #[test]
-fn prices_are_near_where_none_is_one_per_cent_away(rt: HostRuntime) -> Result<(), Fail> {
+fn prices_are_near_where_none_is_one_per_cent_away(rt: HostRuntime) {
     for (units, near) in [
         (495_000, false),
         (495_001, true),
         (504_999, true),
         (505_000, false),
     ] {
-        play(
+        follow(
             &rt,
             &[
                 IsNear(500_000, true),
@@ -273,31 +280,38 @@ fn prices_are_near_where_none_is_one_per_cent_away(rt: HostRuntime) -> Result<()
                 Trade(2, 3, 500_000),
                 IsNear(500_000, near),
             ],
-        )?;
+        );
     }
-    Ok(())
 }
 
-#[test]
-fn prices_that_drift_by_one_per_cent_and_a_half_stay_near_the_last(
-    rt: HostRuntime,
-) -> Result<(), Fail> {
-    let mut window = Window::new(rt.alloc())?;
+/// A trade at a price, to which all prices are near then, and not to one a little more than one per cent above.
+fn is_near_alone(window: &mut Window, nanos: u64, number: u32, units: u64) -> bool {
+    let beyond = units.saturating_add(5_100);
+    trade(window, nanos, number, units)
+        && window.stays_near(price(units))
+        && !window.stays_near(price(beyond))
+}
+
+/// Whether prices that drift, a trade every ten seconds, are near the last one and not near the first.
+fn drifts(window: &mut Window) -> bool {
+    let mut is_right = true;
     for step in 0..96_u32 {
         let units = 500_000 + 80 * u64::from(step);
         let nanos = 10_000_000_000 * u64::from(step);
-        call(&mut window, Trade(nanos, step, units))?;
-        for wanted in [IsNear(units, true), IsNear(units + 5_100, false)] {
-            assert!(rt; answers(&window, wanted)?);
-        }
+        is_right &= is_near_alone(window, nanos, step, units);
     }
-    assert!(rt; answers(&window, IsNear(500_000, false))?);
-    Ok(())
+    is_right && !window.stays_near(price(500_000))
 }
 
 #[test]
-fn a_far_price_is_forgotten_within_ten_minutes(rt: HostRuntime) -> Result<(), Fail> {
-    play(
+fn prices_that_drift_by_one_per_cent_and_a_half_stay_near_the_last(rt: HostRuntime) {
+    let mut window = Window::new(rt.alloc()).unwrap();
+    assert!(&rt; drifts(&mut window));
+}
+
+#[test]
+fn a_far_price_is_forgotten_within_ten_minutes(rt: HostRuntime) {
+    follow(
         &rt,
         &[
             Trade(0, 1, 600_000),
@@ -311,8 +325,8 @@ fn a_far_price_is_forgotten_within_ten_minutes(rt: HostRuntime) -> Result<(), Fa
 }
 
 #[test]
-fn a_far_price_is_forgotten_with_the_last_deal(rt: HostRuntime) -> Result<(), Fail> {
-    play(
+fn a_far_price_is_forgotten_with_the_last_deal(rt: HostRuntime) {
+    follow(
         &rt,
         &[
             Trade(0, 1, 600_000),
@@ -327,8 +341,8 @@ fn a_far_price_is_forgotten_with_the_last_deal(rt: HostRuntime) -> Result<(), Fa
 }
 
 #[test]
-fn prices_of_deals_out_of_order_stay_known(rt: HostRuntime) -> Result<(), Fail> {
-    play(
+fn prices_of_deals_out_of_order_stay_known(rt: HostRuntime) {
+    follow(
         &rt,
         &[
             Trade(100_000_000_000, 1, 500_000),
@@ -342,22 +356,31 @@ fn prices_of_deals_out_of_order_stay_known(rt: HostRuntime) -> Result<(), Fail> 
     )
 }
 
-#[test]
-fn an_advance_of_the_next_day_takes_no_time_for_each_of_50_000_trades(
-    rt: HostRuntime,
-) -> Result<(), Fail> {
-    let mut window = Window::new(rt.alloc())?;
-    call(&mut window, Trade(600_000_000_000, 1, 500_000))?;
+/// A trade, a new day, and 50,000 trades of it a nanosecond apart. Whether there is memory for them.
+fn fill(window: &mut Window) -> bool {
+    let mut is_right = trade(window, 600_000_000_000, 1, 500_000);
     window.restart();
     for number in 0..50_000_u32 {
-        call(&mut window, Trade(u64::from(number), number, 500_000))?;
+        is_right &= trade(window, u64::from(number), number, 500_000);
     }
-    let start = Instant::now(&rt)?;
+    is_right
+}
+
+/// 50,000 times come, a nanosecond apart.
+fn advance_all(window: &mut Window) {
     for tick in 0..50_000_u64 {
-        call(&mut window, Advance(tick + 60_000_000_000))?;
+        window.advance(after(tick + 60_000_000_000));
     }
+}
+
+#[test]
+fn an_advance_of_the_next_day_takes_no_time_for_each_of_50_000_trades(rt: HostRuntime) {
+    let mut window = Window::new(rt.alloc()).unwrap();
+    assert!(&rt; fill(&mut window));
+    let start = Instant::now(&rt).expect(&rt, "the time");
+    advance_all(&mut window);
+    let taken = start.elapsed(&rt).expect(&rt, "the time");
     // A look at each trade at each advance would be 2,500,000,000 looks.
-    assert!(rt; start.elapsed(&rt)? < Duration::from_secs(5));
-    assert!(rt; answers(&window, Mean(Some(500_000)))?);
-    Ok(())
+    assert!(&rt; taken < Duration::from_secs(5));
+    assert!(&rt; window.mean() == Some(price(500_000)));
 }

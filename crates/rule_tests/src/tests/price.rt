@@ -1,10 +1,10 @@
 //! Prices, their ranges and their rounding.
 
 use super::script::{Step, check};
+use super::values::{index, price};
 use Arithmetic::{Fell, Mean, Moved, RoundCent};
 use Number::{OfIndex, OfLeverage, OfPrice};
 use price_core::{Index, Leverage, OutOfRange, Price, fell, mean, moved_one_percent, round_cent};
-use std::process::Abort;
 
 /// A number, and whether it stands in the range of a type.
 #[derive(Clone, Copy)]
@@ -14,21 +14,34 @@ enum Number {
     OfLeverage(u8, bool),
 }
 
+/// Whether there is a price of a number, which it then has.
+fn is_price(units: u64, stands: bool) -> bool {
+    match Price::new(units) {
+        Ok(price) => stands && price.units() == units,
+        Err(OutOfRange) => !stands,
+    }
+}
+
+fn is_index(hundredths: u32, stands: bool) -> bool {
+    match Index::new(hundredths) {
+        Ok(index) => stands && index.hundredths() == hundredths,
+        Err(OutOfRange) => !stands,
+    }
+}
+
+fn is_leverage(tenths: u8, stands: bool) -> bool {
+    match Leverage::new(tenths) {
+        Ok(leverage) => stands && leverage.tenths() == tenths,
+        Err(OutOfRange) => !stands,
+    }
+}
+
 impl Step<()> for Number {
-    fn holds<R: Abort>(&self, _: &R, _: &mut ()) -> bool {
+    fn holds(&self, _: &mut ()) -> bool {
         match *self {
-            OfPrice(units, stands) => match Price::new(units) {
-                Ok(price) => stands && price.units() == units,
-                Err(OutOfRange) => !stands,
-            },
-            OfIndex(hundredths, stands) => match Index::new(hundredths) {
-                Ok(index) => stands && index.hundredths() == hundredths,
-                Err(OutOfRange) => !stands,
-            },
-            OfLeverage(tenths, stands) => match Leverage::new(tenths) {
-                Ok(leverage) => stands && leverage.tenths() == tenths,
-                Err(OutOfRange) => !stands,
-            },
+            OfPrice(units, stands) => is_price(units, stands),
+            OfIndex(hundredths, stands) => is_index(hundredths, stands),
+            OfLeverage(tenths, stands) => is_leverage(tenths, stands),
         }
     }
 }
@@ -46,30 +59,24 @@ enum Arithmetic {
     Fell(u32, u32, bool),
 }
 
-fn price<R: Abort>(rt: &R, units: u64) -> Price {
-    Price::new(units).expect(rt, "a price")
+fn is_mean(sum: u128, n: u64, want: u64) -> bool {
+    let has_mean = 0 < n && u128::from(n) <= sum && sum <= 99_999_999_999 * u128::from(n);
+    has_mean && mean(sum, n).units() == want
 }
 
-fn index<R: Abort>(rt: &R, hundredths: u32) -> Index {
-    Index::new(hundredths).expect(rt, "an index value")
+fn is_rounded(num: u128, den: u128, want: u128) -> bool {
+    let is_small = 0 < den && den <= 1_000_000 && num < 1 << 100;
+    is_small && round_cent(num, den) == want
 }
 
 impl Step<()> for Arithmetic {
-    fn holds<R: Abort>(&self, rt: &R, _: &mut ()) -> bool {
+    fn holds(&self, _: &mut ()) -> bool {
         match *self {
-            Mean(sum, n, want) => {
-                let has_mean = 0 < n
-                    && u128::from(n) <= sum
-                    && sum <= 99_999_999_999 * u128::from(n);
-                has_mean && mean(sum, n).units() == want
-            }
-            Moved(units, want) => moved_one_percent(price(rt, units), price(rt, 500_000)) == want,
-            RoundCent(num, den, want) => {
-                let is_small = 0 < den && den <= 1_000_000 && num < 1 << 100;
-                is_small && round_cent(num, den) == want
-            }
+            Mean(sum, n, want) => is_mean(sum, n, want),
+            Moved(units, want) => moved_one_percent(price(units), price(500_000)) == want,
+            RoundCent(num, den, want) => is_rounded(num, den, want),
             Fell(value, percent, want) => {
-                percent <= 100 && fell(index(rt, value), index(rt, 500_000), percent) == want
+                percent <= 100 && fell(index(value), index(500_000), percent) == want
             }
         }
     }

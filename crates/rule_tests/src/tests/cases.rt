@@ -34,9 +34,10 @@ fn is_table<const N: usize>(keys: u32, rows: [Case; N]) -> bool
     Cases::new(keys, rows).is_some()
 }
 
-#[test]
-fn the_one_row_of_a_key_answers(rt: HostRuntime) {
-    for (key, want) in [
+/// Whether each key has its one answer.
+fn all_answer() -> bool {
+    let mut is_right = true;
+    for (key, want) in &[
         (0, 2),
         (1, 2),
         (2, 3),
@@ -46,15 +47,33 @@ fn the_one_row_of_a_key_answers(rt: HostRuntime) {
         (6, 1),
         (7, 1),
     ] {
-        assert!(rt; key < 8 && EIGHT.pick(key) == want, "of {key}");
+        is_right &= *key < 8 && EIGHT.pick(*key) == *want;
+    }
+    is_right
+}
+
+#[test]
+fn the_one_row_of_a_key_answers(rt: HostRuntime) {
+    assert!(&rt; all_answer());
+}
+
+/// Whether the rows of the eight keys are a table.
+fn is_eight() -> bool {
+    Cases::new(8, EIGHT.rows) == Some(EIGHT)
+}
+
+/// Whether one row for 4096 keys is a table, and answers at the last one.
+fn is_one_row() -> bool {
+    match Cases::new(4096, cases! { 0 0 => 5; }) {
+        Some(every) => every.pick(4095) == 5,
+        None => false,
     }
 }
 
 #[test]
 fn rows_that_cover_each_key_once_are_a_table(rt: HostRuntime) {
-    let is_eight = Cases::new(8, EIGHT.rows) == Some(EIGHT);
-    let every = Cases::new(4096, cases! { 0 0 => 5; }).expect(&rt, "a table");
-    assert!(rt; is_eight && every.pick(4095) == 5);
+    assert!(&rt; is_eight());
+    assert!(&rt; is_one_row());
 }
 
 #[test]

@@ -1,12 +1,12 @@
 //! Dates, moments and the sessions of a day.
 
 use super::script::{Step, check, play};
-use Row::{Age, IsAfter, OfDate, OfMoment, Text};
+use super::values::{day, moment};
+use Row::{Age, IsAfter, OfDate, OfMoment};
 use session_core::{
-    BadDate, BadMoment, Close, Date, Day, Moment, Profile, age, breaker_open, close_moment,
-    date_text, in_session, last_10, last_25,
+    BadDate, BadMoment, Close, Date, Day, Moment, age, breaker_open, close_moment, date_text,
+    in_session, last_10, last_25,
 };
-use std::process::Abort;
 
 /// A year, a month and a day of the month.
 type Civil = (u16, u8, u8);
@@ -18,35 +18,43 @@ enum Row {
     OfDate(Civil, Option<BadDate>),
     /// Whether the first date comes after the second.
     IsAfter(Civil, Civil, bool),
-    Text(Civil, [u8; 10]),
     /// Whether there is such a moment.
     OfMoment(u64, bool),
     /// How much later the first time is than the second.
     Age(u64, u64, u64),
 }
 
-fn date<R: Abort>(rt: &R, (year, month, day): Civil) -> Date {
-    Date::of(year, month, day).expect(rt, "a date")
+/// Whether the first date comes after the second, where there are both.
+fn is_after(first: Civil, second: Civil, want: bool) -> bool {
+    match (date(first), date(second)) {
+        (Ok(first), Ok(second)) => first.is_after(second) == want,
+        _ => false,
+    }
 }
 
-fn moment<R: Abort>(rt: &R, nanos: u64) -> Moment {
-    Moment::new(nanos).expect(rt, "a moment")
+fn date((year, month, day): Civil) -> Result<Date, BadDate> {
+    Date::of(year, month, day)
+}
+
+fn is_moment(nanos: u64, stands: bool) -> bool {
+    match Moment::new(nanos) {
+        Ok(moment) => stands && moment.nanos() == nanos,
+        Err(BadMoment) => !stands,
+    }
+}
+
+fn is_age(now: u64, then: u64, want: u64) -> bool {
+    let (now, then) = (moment(now), moment(then));
+    then.nanos() <= now.nanos() && age(now, then) == want
 }
 
 impl Step<()> for Row {
-    fn holds<R: Abort>(&self, rt: &R, _: &mut ()) -> bool {
+    fn holds(&self, _: &mut ()) -> bool {
         match *self {
-            OfDate((year, month, day), bad) => Date::of(year, month, day).err() == bad,
-            IsAfter(first, second, want) => date(rt, first).is_after(date(rt, second)) == want,
-            Text(civil, want) => date_text(date(rt, civil)) == want,
-            OfMoment(nanos, stands) => match Moment::new(nanos) {
-                Ok(moment) => stands && moment.nanos() == nanos,
-                Err(BadMoment) => !stands,
-            },
-            Age(now, then, want) => {
-                let (now, then) = (moment(rt, now), moment(rt, then));
-                then.nanos() <= now.nanos() && age(now, then) == want
-            }
+            OfDate(civil, bad) => date(civil).err() == bad,
+            IsAfter(first, second, want) => is_after(first, second, want),
+            OfMoment(nanos, stands) => is_moment(nanos, stands),
+            Age(now, then, want) => is_age(now, then, want),
         }
     }
 }
@@ -67,9 +75,9 @@ enum Part {
 struct At(u64, Part, bool);
 
 impl Step<Day> for At {
-    fn holds<R: Abort>(&self, rt: &R, day: &mut Day) -> bool {
+    fn holds(&self, day: &mut Day) -> bool {
         let At(nanos, part, want) = *self;
-        let t = moment(rt, nanos);
+        let t = moment(nanos);
         let is_in = match part {
             Part::Close => close_moment(day) == t,
             Part::Session => in_session(t, day),
@@ -118,15 +126,18 @@ fn dates_are_ordered_by_time(rt: HostRuntime) {
     );
 }
 
+/// Whether a date is written so.
+fn is_written(civil: Civil, want: &[u8]) -> bool {
+    match date(civil) {
+        Ok(date) => date_text(date).as_slice() == want,
+        Err(_) => false,
+    }
+}
+
 #[test]
 fn a_date_is_written_with_its_zeros(rt: HostRuntime) {
-    check(
-        &rt,
-        &[
-            Text((2024, 6, 3), *b"2024-06-03"),
-            Text((2099, 12, 31), *b"2099-12-31"),
-        ],
-    );
+    assert!(&rt; is_written((2024, 6, 3), b"2024-06-03"));
+    assert!(&rt; is_written((2099, 12, 31), b"2099-12-31"));
 }
 
 #[test]
@@ -140,15 +151,6 @@ fn moments_stand_in_the_day(rt: HostRuntime) {
             Age(9, 7, 2),
         ],
     );
-}
-
-/// 2024-06-03.
-fn day<R: Abort>(rt: &R, close: Close) -> Day {
-    Day {
-        date: date(rt, (2024, 6, 3)),
-        close,
-        profile: Profile::Since18,
-    }
 }
 
 const AT_9_29_59: u64 = 34_199_000_000_000;
@@ -175,7 +177,7 @@ const AT_16_00: u64 = 57_600_000_000_000;
 fn the_session_is_from_its_opening_to_before_the_close(rt: HostRuntime) {
     play(
         &rt,
-        &mut day(&rt, Close::Regular),
+        &mut day(Close::Regular),
         &[
             At(AT_16_00, Part::Close, true),
             At(AT_9_30 - 1, Part::Session, false),
@@ -193,7 +195,7 @@ fn the_session_is_from_its_opening_to_before_the_close(rt: HostRuntime) {
     );
     play(
         &rt,
-        &mut day(&rt, Close::Early),
+        &mut day(Close::Early),
         &[
             At(AT_13_00, Part::Close, true),
             At(AT_9_30 - 1, Part::Session, false),
