@@ -6,7 +6,6 @@ use Entry::{Clock, Day, Listing};
 use Step::{Admits, Fill, Holds, IsToday, Refuses};
 use market_core::Admission;
 use std::process::Abort;
-use std::test::Fail;
 use wire_in::Refusal;
 
 /// What an admission is asked, or what it has to answer.
@@ -22,13 +21,21 @@ enum Step {
 }
 
 /// Whether the verdict on a record is this one. The record is admitted where there is none.
-fn tried(admission: &mut Admission, entry: Entry, want: Option<Refusal>) -> Result<bool, Fail> {
+fn tried(admission: &mut Admission, entry: Entry, want: Option<Refusal>) -> bool {
     let x = record(entry);
-    let verdict = admission.verdict(&x);
-    if verdict.is_none() {
-        admission.admit(&x)?;
+    match admission.verdict(&x) {
+        None => want.is_none() && admission.admit(&x).is_ok(),
+        verdict => verdict == want,
     }
-    Ok(verdict == want)
+}
+
+/// Whether the first names are admitted, up to the most that there can be.
+fn fills(admission: &mut Admission) -> bool {
+    let mut is_right = true;
+    for number in 0..16_384 {
+        is_right &= tried(admission, Listing(18_000, number), None);
+    }
+    is_right
 }
 
 fn today(admission: &Admission) -> Option<u8> {
@@ -36,36 +43,26 @@ fn today(admission: &Admission) -> Option<u8> {
     Some(day.date.day())
 }
 
-/// Whether the first names are admitted, up to the most that there can be.
-fn fills(admission: &mut Admission) -> Result<bool, Fail> {
-    let mut admitted = true;
-    for number in 0..16_384 {
-        admitted &= tried(admission, Listing(18_000, number), None)?;
-    }
-    Ok(admitted)
-}
-
 impl Script<Step> for Admission {
-    fn answers(&mut self, step: Step) -> Result<bool, Fail> {
-        match step {
+    fn answers(&mut self, step: &Step) -> bool {
+        match *step {
             Admits(entry) => tried(self, entry, None),
             Refuses(entry, refusal) => tried(self, entry, Some(refusal)),
             Fill => fills(self),
-            Holds { records, names } => Ok(self.count() == records && self.names() == names),
-            IsToday(want) => Ok(today(self) == want),
+            Holds { records, names } => self.count() == records && self.names() == names,
+            IsToday(want) => today(self) == want,
         }
     }
 }
 
 /// Takes the steps from a new admission of so many records on.
-fn follow<R: Abort + AllocGlobal>(rt: &R, capacity: u64, steps: &[Step]) -> Result<(), Fail> {
-    play(rt, Admission::new(rt.alloc(), capacity)?, steps)
+fn follow<R: Abort + AllocGlobal>(rt: &R, capacity: u64, steps: &[Step]) {
+    let mut admission = Admission::new(rt.alloc(), capacity).expect(rt, "memory");
+    play(rt, &mut admission, steps)
 }
 
 #[test]
-fn an_admission_tells_how_many_records_and_names_it_holds_and_the_day(
-    rt: HostRuntime,
-) -> Result<(), Fail> {
+fn an_admission_tells_how_many_records_and_names_it_holds_and_the_day(rt: HostRuntime) {
     follow(
         &rt,
         100,
@@ -91,12 +88,12 @@ fn an_admission_tells_how_many_records_and_names_it_holds_and_the_day(
 }
 
 #[test]
-fn before_any_day_a_full_journal_is_not_told(rt: HostRuntime) -> Result<(), Fail> {
+fn before_any_day_a_full_journal_is_not_told(rt: HostRuntime) {
     follow(&rt, 0, &[Refuses(Clock(36_000), Refusal::NoDay)])
 }
 
 #[test]
-fn the_directory_takes_16_384_names(rt: HostRuntime) -> Result<(), Fail> {
+fn the_directory_takes_16_384_names(rt: HostRuntime) {
     follow(
         &rt,
         16_386,

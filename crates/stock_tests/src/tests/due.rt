@@ -9,7 +9,6 @@ use Step::{
 };
 use session_core::Phase;
 use std::process::Abort;
-use std::test::Fail;
 use wire_in::{NoticeKind, Record};
 
 /// What happens to ABC, or what it has to answer. Times are seconds of the day, and prices are in ten-thousandths of a dollar.
@@ -35,64 +34,55 @@ enum Step {
     NeverDue,
 }
 
-/// The record of a step that brings one.
-fn record(step: Step) -> Option<Record> {
-    Some(match step {
-        Day(number) => new_day(number),
-        Listing => listing(14_400, 0),
-        Clock(seconds) => clock(at(seconds)),
-        Opening(seconds) => trade(at(seconds), 1, 500_000, 1),
-        Trade(seconds, number, units) => trade(at(seconds), number, units, 0),
-        Quote(seconds, bid, offer) => Record::Quote {
-            moment: at(seconds),
-            symbol: 0,
-            bid: Some(price(bid)),
-            offer: Some(price(offer)),
-            bid_size: 1,
-            offer_size: 1,
-        },
-        Halt(seconds) => Record::Notice {
-            moment: at(seconds),
-            symbol: 0,
-            kind: NoticeKind::Halt,
-        },
-        _ => return None,
-    })
+fn quote(seconds: u64, bid: u64, offer: u64) -> Record {
+    Record::Quote {
+        moment: at(seconds),
+        symbol: 0,
+        bid: Some(price(bid)),
+        offer: Some(price(offer)),
+        bid_size: 1,
+        offer_size: 1,
+    }
 }
 
-/// Whether ABC answers what is wanted.
-fn is_as_wanted(scene: &Scene, step: Step) -> bool {
-    match step {
-        IsListed(want) => scene.symbol.is_listed() == want,
-        InPhase(want) => scene.symbol.phase() == want,
-        DueAt(seconds) => scene.due() == Some(seconds.wrapping_mul(1_000_000_000)),
-        NeverDue => scene.due() == Some(u64::MAX),
-        _ => true,
+fn halt(seconds: u64) -> Record {
+    Record::Notice {
+        moment: at(seconds),
+        symbol: 0,
+        kind: NoticeKind::Halt,
     }
 }
 
 impl Script<Step> for Scene {
-    fn answers(&mut self, step: Step) -> Result<bool, Fail> {
-        match step {
-            StopMarket => self.market.stopped = true,
-            Begin => self.begin()?,
-            _ => {
-                if let Some(x) = record(step) {
-                    self.take(&x)?;
-                }
+    fn answers(&mut self, step: &Step) -> bool {
+        match *step {
+            StopMarket => {
+                self.market.stopped = true;
+                true
             }
+            Begin => self.begin(),
+            Day(number) => self.take(&new_day(number)),
+            Listing => self.take(&listing(14_400, 0)),
+            Clock(seconds) => self.take(&clock(at(seconds))),
+            Opening(seconds) => self.take(&trade(at(seconds), 1, 500_000, 1)),
+            Trade(seconds, number, units) => self.take(&trade(at(seconds), number, units, 0)),
+            Quote(seconds, bid, offer) => self.take(&quote(seconds, bid, offer)),
+            Halt(seconds) => self.take(&halt(seconds)),
+            IsListed(want) => self.symbol.is_listed() == want,
+            InPhase(want) => self.symbol.phase() == want,
+            DueAt(seconds) => self.is_due(seconds.wrapping_mul(1_000_000_000)),
+            NeverDue => self.is_due(u64::MAX),
         }
-        Ok(is_as_wanted(self, step))
     }
 }
 
 /// Takes the steps from a new scene on.
-fn follow<R: Abort + AllocGlobal>(rt: &R, steps: &[Step]) -> Result<(), Fail> {
-    play(rt, Scene::new(rt.alloc())?, steps)
+fn follow<R: Abort + AllocGlobal>(rt: &R, steps: &[Step]) {
+    play(rt, &mut Scene::new(rt), steps)
 }
 
 #[test]
-fn a_symbol_is_listed_from_its_listing_to_the_end_of_the_day(rt: HostRuntime) -> Result<(), Fail> {
+fn a_symbol_is_listed_from_its_listing_to_the_end_of_the_day(rt: HostRuntime) {
     follow(
         &rt,
         &[
@@ -110,7 +100,7 @@ fn a_symbol_is_listed_from_its_listing_to_the_end_of_the_day(rt: HostRuntime) ->
 }
 
 #[test]
-fn an_unlisted_or_closed_symbol_is_due_at_no_tick(rt: HostRuntime) -> Result<(), Fail> {
+fn an_unlisted_or_closed_symbol_is_due_at_no_tick(rt: HostRuntime) {
     follow(
         &rt,
         &[
@@ -125,14 +115,12 @@ fn an_unlisted_or_closed_symbol_is_due_at_no_tick(rt: HostRuntime) -> Result<(),
 }
 
 #[test]
-fn a_shut_symbol_is_due_at_the_open(rt: HostRuntime) -> Result<(), Fail> {
+fn a_shut_symbol_is_due_at_the_open(rt: HostRuntime) {
     follow(&rt, &[Day(3), Listing, DueAt(34_200)])
 }
 
 #[test]
-fn a_symbol_without_trades_is_due_where_percentages_may_change(
-    rt: HostRuntime,
-) -> Result<(), Fail> {
+fn a_symbol_without_trades_is_due_where_percentages_may_change(rt: HostRuntime) {
     follow(
         &rt,
         &[
@@ -149,7 +137,7 @@ fn a_symbol_without_trades_is_due_where_percentages_may_change(
 }
 
 #[test]
-fn a_symbol_is_due_where_a_mean_may_come(rt: HostRuntime) -> Result<(), Fail> {
+fn a_symbol_is_due_where_a_mean_may_come(rt: HostRuntime) {
     follow(
         &rt,
         &[
@@ -177,9 +165,7 @@ fn a_symbol_is_due_where_a_mean_may_come(rt: HostRuntime) -> Result<(), Fail> {
 }
 
 #[test]
-fn a_symbol_whose_trades_are_near_its_reference_price_is_due_at_no_end_of_a_trade(
-    rt: HostRuntime,
-) -> Result<(), Fail> {
+fn a_symbol_whose_trades_are_near_its_reference_price_is_due_at_no_end_of_a_trade(rt: HostRuntime) {
     follow(
         &rt,
         &[
@@ -200,9 +186,7 @@ fn a_symbol_whose_trades_are_near_its_reference_price_is_due_at_no_end_of_a_trad
 }
 
 #[test]
-fn a_limit_state_is_due_after_15_seconds_and_a_pause_after_five_minutes(
-    rt: HostRuntime,
-) -> Result<(), Fail> {
+fn a_limit_state_is_due_after_15_seconds_and_a_pause_after_five_minutes(rt: HostRuntime) {
     follow(
         &rt,
         &[
@@ -222,7 +206,7 @@ fn a_limit_state_is_due_after_15_seconds_and_a_pause_after_five_minutes(
 }
 
 #[test]
-fn a_halted_or_stopped_symbol_is_due_at_the_close(rt: HostRuntime) -> Result<(), Fail> {
+fn a_halted_or_stopped_symbol_is_due_at_the_close(rt: HostRuntime) {
     follow(
         &rt,
         &[
@@ -238,7 +222,7 @@ fn a_halted_or_stopped_symbol_is_due_at_the_close(rt: HostRuntime) -> Result<(),
 }
 
 #[test]
-fn a_tick_that_is_passed_over_leaves_the_due_as_it_was(rt: HostRuntime) -> Result<(), Fail> {
+fn a_tick_that_is_passed_over_leaves_the_due_as_it_was(rt: HostRuntime) {
     follow(
         &rt,
         &[
@@ -253,7 +237,7 @@ fn a_tick_that_is_passed_over_leaves_the_due_as_it_was(rt: HostRuntime) -> Resul
 }
 
 #[test]
-fn a_tick_at_which_an_old_trade_leaves_finds_the_next_due(rt: HostRuntime) -> Result<(), Fail> {
+fn a_tick_at_which_an_old_trade_leaves_finds_the_next_due(rt: HostRuntime) {
     follow(
         &rt,
         &[
@@ -271,7 +255,7 @@ fn a_tick_at_which_an_old_trade_leaves_finds_the_next_due(rt: HostRuntime) -> Re
 }
 
 #[test]
-fn a_trade_that_leaves_and_keeps_the_mean_near_wakes_no_stock(rt: HostRuntime) -> Result<(), Fail> {
+fn a_trade_that_leaves_and_keeps_the_mean_near_wakes_no_stock(rt: HostRuntime) {
     follow(
         &rt,
         &[

@@ -2,7 +2,7 @@
 
 use super::{at, clock, day, listing, new_day};
 use std::alloc::Global;
-use std::test::Fail;
+use std::process::Abort;
 use symbol_core::{MarketView, Messages, Symbol};
 use wire_in::Record;
 
@@ -17,39 +17,40 @@ pub struct Scene {
 
 impl Scene {
     /// ABC is new, in a market without a halt.
-    pub fn new(alloc: Global) -> Result<Scene, Fail> {
-        Ok(Scene {
+    pub fn new<R: Abort + AllocGlobal>(rt: &R) -> Scene {
+        let alloc = rt.alloc();
+        let out = Messages::new(alloc).expect(rt, "memory");
+        Scene {
             alloc,
-            symbol: Symbol::new(alloc, 0)?,
+            symbol: Symbol::new(alloc, 0).unwrap(),
             market: MarketView {
                 day: day(3),
                 stopped: false,
             },
-            out: Messages::new(alloc)?,
-        })
+            out,
+        }
     }
 
-    /// It passes over what may be passed over, as a section does.
-    pub fn take(&mut self, x: &Record) -> Result<(), Fail> {
+    /// It passes over what may be passed over, as a section does. Whether there is memory for it.
+    pub fn take(&mut self, x: &Record) -> bool {
         if self.symbol.pass_quote(x, &self.market) {
             self.out.clear();
-            return Ok(());
+            return true;
         }
-        Ok(self.symbol.evaluate(x, &self.market, &mut self.out)?)
+        self.symbol.evaluate(x, &self.market, &mut self.out).is_ok()
     }
 
-    /// ABC is new again, 3 June begins, ABC is listed, and trading begins at 09:30:00.
-    pub fn begin(&mut self) -> Result<(), Fail> {
-        self.symbol = Symbol::new(self.alloc, 0)?;
-        for x in [new_day(3), listing(14_400, 0), clock(at(34_200))] {
-            self.take(&x)?;
-        }
-        Ok(())
+    /// ABC is new again, 3 June begins, ABC is listed, and trading begins at 09:30:00. Whether there is memory for it.
+    pub fn begin(&mut self) -> bool {
+        self.symbol = Symbol::new(self.alloc, 0).unwrap();
+        self.take(&new_day(3)) && self.take(&listing(14_400, 0)) && self.take(&clock(at(34_200)))
     }
 
-    /// Until when ticks bring nothing, in nanoseconds of the day.
-    pub fn due(&self) -> Option<u64> {
-        let due = self.symbol.due()?;
-        Some(due.until)
+    /// Whether ticks bring nothing until then, in nanoseconds of the day.
+    pub fn is_due(&self, nanos: u64) -> bool {
+        match self.symbol.due() {
+            Some(due) => due.until == nanos,
+            None => false,
+        }
     }
 }
