@@ -10,7 +10,7 @@ use crate::board::{Board, ReaderSeat, WriterSeat};
 use crate::shown::{Edge, Shown};
 use price_core::{Cause, Price, Side};
 use session_core::Phase;
-use std::test::Fail;
+use std::process::Abort;
 use std::thread::{Threads, join};
 use wire_out::{Message, ShortKind};
 
@@ -106,14 +106,14 @@ fn ask_twice<R: Threads + Sync>(
 }
 
 /// Two readers ask while the writer publishes, and then the board is closed. It answers whether both saw what they should.
-fn ask_beside_a_writer<R: Threads + Sync>(
+fn ask_beside_a_writer<R: Threads + Sync + Abort>(
     rt: &R,
     board: Board,
     writer: WriterSeat,
     first: ReaderSeat,
     second: ReaderSeat,
     mut row: Vec<ReaderSeat>,
-) -> Result<bool, Fail>
+) -> bool
     requires writer { IsWriterOf board writer × (entries_of writer ≡ []) }
     requires first { IsReaderOf board first }
     requires second { IsReaderOf board second }
@@ -133,28 +133,29 @@ fn ask_beside_a_writer<R: Threads + Sync>(
         { ask_twice(rt, shared, first, second, 10_000) },
     );
     let is_right = first.0 && second.0;
-    row.push(first.1)?;
-    row.push(second.1)?;
+    let Ok(()) = row.push(first.1) else {
+        panic!(rt; "there is no memory")
+    };
+    let Ok(()) = row.push(second.1) else {
+        panic!(rt; "there is no memory")
+    };
     board.close(writer, row);
-    Ok(is_right)
+    is_right
 }
 
 #[test]
-fn two_readers_beside_a_writer_see_versions_rise_and_pairs_match(
-    rt: HostRuntime,
-) -> Result<(), Fail> {
+fn two_readers_beside_a_writer_see_versions_rise_and_pairs_match(rt: HostRuntime) {
     let Ok((board, writer, mut seats)) = Board::new(rt.alloc(), 1, 2) else {
         panic!(rt; "there is no memory")
     };
     let second = seats.pop().unwrap();
     let first = seats.pop().unwrap();
-    let is_right = ask_beside_a_writer(&rt, board, writer, first, second, seats)?;
+    let is_right = ask_beside_a_writer(&rt, board, writer, first, second, seats);
     assert!(rt; is_right);
-    Ok(())
 }
 
 #[test]
-fn a_reader_that_met_a_note_sees_what_was_published_before_it(rt: HostRuntime) -> Result<(), Fail> {
+fn a_reader_that_met_a_note_sees_what_was_published_before_it(rt: HostRuntime) {
     let Ok((board, mut writer, mut seats)) = Board::new(rt.alloc(), 1, 1) else {
         panic!(rt; "there is no memory")
     };
@@ -187,9 +188,10 @@ fn a_reader_that_met_a_note_sees_what_was_published_before_it(rt: HostRuntime) -
             price: Some(Price::of(525_000))
         }
     );
-    seats.push(reader)?;
+    let Ok(()) = seats.push(reader) else {
+        panic!(rt; "there is no memory")
+    };
     board.close(writer, seats);
-    Ok(())
 }
 
 /// The state that is shown of a symbol without a straddle state.
@@ -288,8 +290,10 @@ fn ask_each(
 }
 
 #[test]
-fn each_of_64_readers_is_shown_the_last_of_16384_symbols(rt: HostRuntime) -> Result<(), Fail> {
-    let asked = Vec::with_capacity(rt.alloc(), 64)?;
+fn each_of_64_readers_is_shown_the_last_of_16384_symbols(rt: HostRuntime) {
+    let Ok(asked) = Vec::with_capacity(rt.alloc(), 64) else {
+        panic!(rt; "there is no memory")
+    };
     let Ok((board, mut writer, seats)) = Board::new(rt.alloc(), 16_384, 64) else {
         panic!(rt; "there is no memory")
     };
@@ -297,5 +301,4 @@ fn each_of_64_readers_is_shown_the_last_of_16384_symbols(rt: HostRuntime) -> Res
     let (trading, asked) = ask_each(&board, seats, asked);
     board.close(writer, asked);
     assert!(rt; trading == 64);
-    Ok(())
 }
