@@ -24,15 +24,19 @@ impl Draw {
         }
     }
 
+    fn step(&mut self) {
+        self.state = self
+            .state
+            .wrapping_mul(6_364_136_223_846_793_005)
+            .wrapping_add(1_442_695_040_888_963_407);
+    }
+
     /// A number below n.
     fn below(&mut self, n: u64) -> u64
         requires { 0 < n }
         ensures { result < n }
     {
-        self.state = self
-            .state
-            .wrapping_mul(6_364_136_223_846_793_005)
-            .wrapping_add(1_442_695_040_888_963_407);
+        self.step();
         (self.state >> 33) % n
     }
 
@@ -115,6 +119,14 @@ impl Draw {
         }
     }
 
+    fn cancel(&mut self, moment: Moment) -> Record {
+        Record::Cancel {
+            moment,
+            symbol: self.symbol(),
+            number: self.below(4) as u32,
+        }
+    }
+
     fn notice(&mut self, moment: Moment) -> Record {
         let kind = match self.below(4) {
             0 => NoticeKind::OpenQuote,
@@ -150,15 +162,17 @@ impl Draw {
         }
         self.seconds = self.seconds.min(86_000) + 15 * self.below(7);
         let moment = self.moment();
-        match self.below(16) {
+        let kind = self.below(16);
+        self.record_at(moment, kind)
+    }
+
+    /// A record of one of sixteen kinds, some of which are the same.
+    fn record_at(&mut self, moment: Moment, kind: u64) -> Record {
+        match kind {
             0..=2 => self.listing(moment),
             3..=5 => self.trade(moment),
             6..=8 => self.quote(moment),
-            9 => Record::Cancel {
-                moment,
-                symbol: self.symbol(),
-                number: self.below(4) as u32,
-            },
+            9 => self.cancel(moment),
             10 => self.notice(moment),
             11 => self.indication(moment),
             12 => Record::IndexTick {

@@ -1,60 +1,62 @@
 //! Drawn days, evaluated in both ways.
 
+use super::agrees;
 use super::draw::Draw;
-use super::expect_agreement;
 use market_core::Admission;
 use std::alloc::Global;
-use std::process::Abort;
-use std::test::Fail;
-use wire_in::{Record, Refusal};
+use wire_in::Record;
 
-/// A hundred records that are drawn with a seed.
-fn drawn(alloc: Global, seed: u64) -> Result<Vec<Record>, Fail> {
+/// Adds a hundred records that are drawn with a seed. Whether there is memory for them.
+fn draw(seed: u64, xs: &mut Vec<Record>) -> bool {
     let mut draw = Draw::new(seed);
-    let mut xs = Vec::new(alloc);
+    let mut is_right = true;
     for _ in 0..100 {
         let x = draw.record();
-        xs.extend_from_slice(&[x])?;
+        is_right &= xs.extend_from_slice(&[x]).is_ok();
     }
-    Ok(xs)
+    is_right
 }
 
-/// The verdict on a record, which is admitted where there is none.
-fn tried(admission: &mut Admission, x: &Record) -> Result<Option<Refusal>, Fail> {
-    let verdict = admission.verdict(x);
-    if verdict.is_none() {
-        admission.admit(x)?;
+/// Admits a record on which there is no verdict, and adds it. Whether there is memory for it.
+fn take(admission: &mut Admission, x: &Record, taken: &mut Vec<Record>) -> bool {
+    match admission.verdict(x) {
+        None => admission.admit(x).is_ok() && taken.push(*x).is_ok(),
+        Some(_) => true,
     }
-    Ok(verdict)
 }
 
-/// Those of these records that are admitted.
-fn admitted(alloc: Global, admission: &mut Admission, xs: &[Record]) -> Result<Vec<Record>, Fail> {
-    let mut taken = Vec::new(alloc);
+/// Adds those of these records that are admitted. Whether there is memory for them.
+fn take_all(admission: &mut Admission, xs: &[Record], taken: &mut Vec<Record>) -> bool {
+    let mut is_right = true;
     for x in xs {
-        if tried(admission, x)?.is_none() {
-            taken.push(*x)?;
-        }
+        is_right &= take(admission, x, taken);
     }
-    Ok(taken)
+    is_right
 }
 
-/// Those of these records that are admitted from the first one on.
-fn admissible(alloc: Global, xs: &[Record]) -> Result<Vec<Record>, Fail> {
-    let mut admission = Admission::new(alloc, u64::MAX)?;
-    admitted(alloc, &mut admission, xs)
+/// Adds those of these records that are admitted from the first one on. Whether there is memory for them.
+fn admit(alloc: Global, xs: &[Record], taken: &mut Vec<Record>) -> bool {
+    match Admission::new(alloc, u64::MAX) {
+        Ok(mut admission) => take_all(&mut admission, xs, taken),
+        Err(_) => false,
+    }
 }
 
-fn agree<R: Abort + AllocGlobal>(rt: &R, seed: u64) -> Result<(), Fail> {
-    let records = drawn(rt.alloc(), seed)?;
-    let xs = admissible(rt.alloc(), &records)?;
-    expect_agreement(rt, &xs, 0)
+/// Adds those of a hundred drawn records that are admissible. Whether there is memory for them.
+fn draw_admissible(alloc: Global, seed: u64, taken: &mut Vec<Record>) -> bool {
+    let mut drawn = Vec::new(alloc);
+    draw(seed, &mut drawn) && admit(alloc, &drawn, taken)
+}
+
+/// Whether both ways agree over the records of a seed.
+fn agree(alloc: Global, seed: u64) -> bool {
+    let mut xs = Vec::new(alloc);
+    draw_admissible(alloc, seed, &mut xs) && agrees(alloc, &xs, 0)
 }
 
 #[test]
-fn a_market_gives_the_messages_that_the_list_gives(rt: HostRuntime) -> Result<(), Fail> {
+fn a_market_gives_the_messages_that_the_list_gives(rt: HostRuntime) {
     for seed in 1..9 {
-        agree(&rt, seed)?;
+        assert!(&rt; agree(rt.alloc(), seed));
     }
-    Ok(())
 }

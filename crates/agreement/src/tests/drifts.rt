@@ -1,11 +1,10 @@
 //! Prices that drift by more than one per cent, while old trades leave the mean.
 
-use super::expect_agreement;
+use super::agrees;
 use Stretch::{Clocks, Trades};
 use price_core::Tier;
 use session_core::Moment;
-use std::process::Abort;
-use std::test::Fail;
+use std::alloc::Global;
 use test_days::lines::{Line, clock, day, listing, trade};
 use test_days::records_of;
 
@@ -40,48 +39,62 @@ impl Drift {
         trade(self.moment(), number, units, u16::from(number == 0))
     }
 
-    fn add(&mut self, stretch: Stretch, lines: &mut Vec<Line>) -> Result<(), Fail> {
-        let (Trades { count, .. } | Clocks { count }) = stretch;
-        for _ in 0..count {
-            let line = match stretch {
-                Trades { rise, .. } => self.trade(rise),
-                Clocks { .. } => clock(self.moment()),
-            };
-            lines.extend_from_slice(&[line])?;
+    /// The next line of a stretch.
+    fn line(&mut self, stretch: Stretch) -> Line {
+        match stretch {
+            Trades { rise, .. } => self.trade(rise),
+            Clocks { .. } => clock(self.moment()),
         }
-        Ok(())
+    }
+
+    /// Adds the lines of a stretch. Whether there is memory for them.
+    fn add(&mut self, stretch: Stretch, lines: &mut Vec<Line>) -> bool {
+        let (Trades { count, .. } | Clocks { count }) = stretch;
+        let mut is_right = true;
+        for _ in 0..count {
+            let line = self.line(stretch);
+            is_right &= lines.extend_from_slice(&[line]).is_ok();
+        }
+        is_right
     }
 }
 
-/// A day on which ABC is listed, with these stretches from 09:30:00 on.
-fn add_day(stretches: &[Stretch], lines: &mut Vec<Line>) -> Result<(), Fail> {
-    lines.extend_from_slice(&[day(3), listing(Tier::One, 10, 500_000)])?;
+/// Adds stretches from 09:30:00 on. Whether there is memory for them.
+fn add_all(stretches: &[Stretch], lines: &mut Vec<Line>) -> bool {
     let mut drift = Drift {
         seconds: 34_200,
         number: 0,
         units: 500_000,
     };
+    let mut is_right = true;
     for stretch in stretches {
-        drift.add(*stretch, lines)?;
+        is_right &= drift.add(*stretch, lines);
     }
-    Ok(())
+    is_right
 }
 
-/// The market gives the messages that the list gives, and moves the bands so many times at least.
-fn agree<R: Abort + AllocGlobal>(
-    rt: &R,
-    stretches: &[Stretch],
-    least_moves: usize,
-) -> Result<(), Fail> {
-    let mut lines = Vec::new(rt.alloc());
-    add_day(stretches, &mut lines)?;
-    expect_agreement(rt, &records_of(rt.alloc(), &lines)?, least_moves)
+/// Adds a day on which ABC is listed, with these stretches. Whether there is memory for it.
+fn add_day(stretches: &[Stretch], lines: &mut Vec<Line>) -> bool {
+    let head = [day(3), listing(Tier::One, 10, 500_000)];
+    lines.extend_from_slice(&head).is_ok() && add_all(stretches, lines)
+}
+
+/// Whether the market gives the messages that the list gives of these lines, and moves the bands so many times at least.
+fn agrees_on(alloc: Global, lines: &[Line], least_moves: usize) -> bool {
+    match records_of(alloc, lines) {
+        Ok(xs) => agrees(alloc, &xs, least_moves),
+        Err(_) => false,
+    }
+}
+
+/// The same of a day with these stretches.
+fn agree(alloc: Global, stretches: &[Stretch], least_moves: usize) -> bool {
+    let mut lines = Vec::new(alloc);
+    add_day(stretches, &mut lines) && agrees_on(alloc, &lines, least_moves)
 }
 
 #[test]
-fn slow_drifts_whose_old_trades_leave_at_ticks_move_the_bands_where_the_list_does(
-    rt: HostRuntime,
-) -> Result<(), Fail> {
+fn slow_drifts_whose_old_trades_leave_at_ticks_move_the_bands_where_the_list_does(rt: HostRuntime) {
     let slow = Trades {
         count: 10,
         rise: 400,
@@ -90,16 +103,17 @@ fn slow_drifts_whose_old_trades_leave_at_ticks_move_the_bands_where_the_list_doe
     let stretches = [
         slow, ticks, slow, ticks, slow, ticks, slow, ticks, slow, ticks,
     ];
-    agree(&rt, &stretches, 3)
+    assert!(&rt; agree(rt.alloc(), &stretches, 3));
 }
 
 #[test]
-fn a_far_trade_moves_the_bands_where_those_before_it_leave(rt: HostRuntime) -> Result<(), Fail> {
+fn a_far_trade_moves_the_bands_where_those_before_it_leave(rt: HostRuntime) {
     let near = Trades { count: 8, rise: 0 };
     let jump = Trades {
         count: 2,
         rise: 6_000,
     };
     let alone = Clocks { count: 20 };
-    agree(&rt, &[near, jump, alone, near, alone], 1)
+    let stretches = [near, jump, alone, near, alone];
+    assert!(&rt; agree(rt.alloc(), &stretches, 1));
 }
