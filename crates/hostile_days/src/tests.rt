@@ -17,9 +17,7 @@ use price_core::{Cause, Unmatched};
 use replay_core::{ReplayOptions, replay};
 use sent::told;
 use session_core::Phase;
-use std::alloc::Global;
 use std::process::Abort;
-use std::test::Fail;
 use std::thread::Threads;
 use test_days::lines::{Line, at, band, clock, collar, indication, release, state};
 use test_days::{Session, paused_day};
@@ -77,31 +75,33 @@ const REPLAY: Way = Way {
 };
 
 /// ABC is listed, opens, is paused, and opens again by an auction.
-fn reopened_lines(alloc: Global) -> Result<Vec<Line>, Fail> {
-    Ok(paused_day(
-        alloc,
-        &[
-            indication(at(10, 3, 0), 440_000, Unmatched::Nothing),
-            clock(at(10, 5, 15)),
-            collar(1, 427_400, 525_000),
-            clock(at(10, 10, 15)),
-            release(440_000),
-            state(Phase::Trading),
-            band(Cause::First, 440_000, 418_000, 462_000),
-        ],
-    )?)
+fn reopened_lines<R: Abort + AllocGlobal>(rt: &R) -> Vec<Line> {
+    let lines = [
+        indication(at(10, 3, 0), 440_000, Unmatched::Nothing),
+        clock(at(10, 5, 15)),
+        collar(1, 427_400, 525_000),
+        clock(at(10, 10, 15)),
+        release(440_000),
+        state(Phase::Trading),
+        band(Cause::First, 440_000, 418_000, 462_000),
+    ];
+    paused_day(rt.alloc(), &lines).expect(rt, "memory")
 }
 
 /// A day of ten records and ten messages, of these lines.
-fn reopened_day(alloc: Global) -> Result<Session, Fail> {
-    Ok(Session::of(alloc, &reopened_lines(alloc)?)?)
+fn reopened_day<R: Abort + AllocGlobal>(rt: &R) -> Session {
+    Session::of(rt.alloc(), &reopened_lines(rt)).expect(rt, "a session")
+}
+
+fn copied<R: Abort + AllocGlobal>(rt: &R, bytes: &[u8]) -> Vec<u8> {
+    bytes.to_vec(rt.alloc()).expect(rt, "memory")
 }
 
 /// An empty journal that takes so many records.
-fn fresh(alloc: Global, limit: u64) -> Result<Vec<u8>, Fail> {
-    let mut host = MemoryHost::new(alloc, b"", b"")?;
-    format(&mut host, limit.clamp(1, 2_000_000_000))?;
-    Ok(host.disk().to_vec(alloc)?)
+fn fresh<R: Abort + AllocGlobal>(rt: &R, limit: u64) -> Vec<u8> {
+    let mut host = MemoryHost::new(rt.alloc(), b"", b"").expect(rt, "memory");
+    format(&mut host, limit.clamp(1, 2_000_000_000)).expect(rt, "a journal");
+    copied(rt, host.disk())
 }
 
 /// Runs a command over what is left of a host's input.
@@ -125,27 +125,30 @@ fn run<Rt: AllocGlobal + Threads + Sync>(rt: &Rt, way: Way, host: &mut MemoryHos
     }
 }
 
+fn fail<R: Abort>(rt: &R, host: &mut MemoryHost, call: Call, nth: u64) {
+    host.fail(call, nth.max(1)).expect(rt, "memory");
+}
+
 /// Asks a host to fail so.
-fn befall(host: &mut MemoryHost, trouble: Trouble) -> Result<(), Fail> {
+fn befall<R: Abort>(rt: &R, host: &mut MemoryHost, trouble: Trouble) {
     match trouble {
         Trouble::Nothing => {}
-        Trouble::Fails(call, nth) => host.fail(call, nth.max(1))?,
+        Trouble::Fails(call, nth) => fail(rt, host, call, nth),
         Trouble::FailsAtFirst => {
-            host.fail(Call::Read, 1)?;
-            host.fail(Call::Write, 1)?;
-            host.fail(Call::Send, 1)?;
+            fail(rt, host, Call::Read, 1);
+            fail(rt, host, Call::Write, 1);
+            fail(rt, host, Call::Send, 1);
         }
         Trouble::Stops(nth) => host.stop_at(nth.max(1)),
     }
-    Ok(())
 }
 
 /// A host over an input and a disk, for a command that is run so.
-fn host_of(alloc: Global, way: Way, input: &[u8], disk: &[u8]) -> Result<MemoryHost, Fail> {
-    let mut host = MemoryHost::new(alloc, input, disk)?;
+fn host_of<R: Abort + AllocGlobal>(rt: &R, way: Way, input: &[u8], disk: &[u8]) -> MemoryHost {
+    let mut host = MemoryHost::new(rt.alloc(), input, disk).expect(rt, "memory");
     host.pieces(way.read.max(1), way.send.max(1));
-    befall(&mut host, way.trouble)?;
-    Ok(host)
+    befall(rt, &mut host, way.trouble);
+    host
 }
 
 /// The host after a command over an input and a disk, which ends as is wanted.
@@ -155,10 +158,11 @@ fn ran<Rt: Abort + AllocGlobal + Threads + Sync>(
     input: &[u8],
     disk: &[u8],
     want: Status,
-) -> Result<MemoryHost, Fail> {
-    let mut host = host_of(rt.alloc(), way, input, disk)?;
-    assert!(rt; run(rt, way, &mut host) == want);
-    Ok(host)
+) -> MemoryHost {
+    let mut host = host_of(rt, way, input, disk);
+    let status = run(rt, way, &mut host);
+    assert!(rt; status == want);
+    host
 }
 
 /// A command over an input and a disk ends so, and has sent these bytes.
@@ -169,14 +173,13 @@ fn expect<Rt: Abort + AllocGlobal + Threads + Sync>(
     disk: &[u8],
     want: Status,
     sent: &[u8],
-) -> Result<(), Fail> {
-    let host = ran(rt, way, input, disk, want)?;
+) {
+    let host = ran(rt, way, input, disk, want);
     assert!(rt; host.sent() == sent);
-    Ok(())
 }
 
 /// How many records a disk holds, as a session with no input tells.
-fn held_by<Rt: Abort + AllocGlobal + Threads + Sync>(rt: &Rt, disk: &[u8]) -> Result<u64, Fail> {
-    let host = ran(rt, SERVE, b"", disk, Status::Done)?;
-    Ok(told(host.sent()).held.ok_or("no greeting")?)
+fn held_by<Rt: Abort + AllocGlobal + Threads + Sync>(rt: &Rt, disk: &[u8]) -> u64 {
+    let host = ran(rt, SERVE, b"", disk, Status::Done);
+    told(host.sent()).held.expect(rt, "a greeting")
 }

@@ -1,11 +1,10 @@
 //! A small journal with each of its bytes changed, cut at each length, and with bytes behind it.
 
 use super::sent::{body_of, first_frame, messages, told};
-use super::{REPLAY, SERVE, Trouble, Way, expect, fresh, host_of, ran, reopened_day, run};
+use super::{REPLAY, SERVE, Trouble, Way, copied, expect, fresh, host_of, ran, reopened_day, run};
 use host_core::Status;
-use memory_host::Call;
+use memory_host::{Call, MemoryHost};
 use std::process::Abort;
-use std::test::Fail;
 use std::thread::Threads;
 use wire_in::decode;
 
@@ -60,26 +59,24 @@ fn batch_of(bytes: &[u8]) -> Option<(&[u8], &[u8])> {
 }
 
 /// Whether each of these frames may follow those before it.
-fn may_follow<Rt: AllocGlobal + Threads + Sync>(rt: &Rt, frames: &[u8]) -> Result<bool, Fail> {
-    let mut host = host_of(rt.alloc(), REPLAY, frames, b"")?;
+fn may_follow<Rt: Abort + AllocGlobal + Threads + Sync>(rt: &Rt, frames: &[u8]) -> bool {
+    let mut host = host_of(rt, REPLAY, frames, b"");
     let status = run(rt, REPLAY, &mut host);
-    Ok(status == Status::Done && told(host.sent()).refused == 0)
+    status == Status::Done && told(host.sent()).refused == 0
 }
 
 /// Puts the frames of the next batch behind those before, and gives the bytes behind the batch; none where it isn't whole,
 /// is one too many or may not follow.
-fn next_batch<'a, Rt: AllocGlobal + Threads + Sync>(
+fn next_batch<'a, Rt: Abort + AllocGlobal + Threads + Sync>(
     rt: &Rt,
     bytes: &'a [u8],
     limit: u64,
     held: &mut Vec<u8>,
-) -> Result<Option<&'a [u8]>, Fail> {
-    let Some((frames, after)) = batch_of(bytes) else {
-        return Ok(None);
-    };
-    held.extend_from_slice(frames)?;
-    let is_held = records_in(held).unwrap_or(0) <= limit && may_follow(rt, held)?;
-    Ok(is_held.then_some(after))
+) -> Option<&'a [u8]> {
+    let (frames, after) = batch_of(bytes)?;
+    held.extend_from_slice(frames).expect(rt, "memory");
+    let is_held = records_in(held).unwrap_or(0) <= limit && may_follow(rt, held);
+    is_held.then_some(after)
 }
 
 /// What the bytes behind a gate say of its block: whether it is a base, and how many bytes it has.
@@ -118,29 +115,34 @@ fn broken_at(file: &[u8], limit: u64) -> Option<usize> {
 
 /// How a session over a file ends, by the layout of a journal. Where it is done, the frames of the records are put behind those
 /// that are held.
-fn status_of<Rt: AllocGlobal + Threads + Sync>(
+fn status_of<Rt: Abort + AllocGlobal + Threads + Sync>(
     rt: &Rt,
     file: &[u8],
     held: &mut Vec<u8>,
-) -> Result<Status, Fail> {
+) -> Status {
     let Some(limit) = limit_of(file) else {
-        return Ok(Status::NoJournal);
+        return Status::NoJournal;
     };
     if let Some(at) = broken_at(file, limit) {
-        return Ok(Status::Damaged { at: at as u64 });
+        return Status::Damaged { at: at as u64 };
     }
     let mut rest = file.get(16..).unwrap_or(&[]);
     for _ in 0..file.len() {
         if rest.first() == Some(&0) {
-            return Ok(Status::Done);
+            return Status::Done;
         }
-        let Some(after) = next_batch(rt, rest, limit, held)? else {
+        let Some(after) = next_batch(rt, rest, limit, held) else {
             let at = file.len().saturating_sub(rest.len()) as u64;
-            return Ok(Status::Damaged { at });
+            return Status::Damaged { at };
         };
         rest = after;
     }
-    Ok(Status::NoJournal)
+    Status::NoJournal
+}
+
+/// Whether a host has sent nothing and has this file as its disk.
+fn is_untouched(host: &MemoryHost, file: &[u8]) -> bool {
+    host.sent().is_empty() && host.disk() == file
 }
 
 /// A session of so many workers over a file that it can't serve ends so, and has read no input, sent nothing and written nothing.
@@ -149,15 +151,19 @@ fn expect_unserved<Rt: Abort + AllocGlobal + Threads + Sync>(
     workers: u32,
     file: &[u8],
     want: Status,
-) -> Result<(), Fail> {
+) {
     let way = Way {
         workers,
         trouble: Trouble::FailsAtFirst,
         ..SERVE
     };
-    let host = ran(rt, way, b"\x01\x0a", file, want)?;
-    assert!(rt; host.sent().is_empty() && host.disk() == file);
-    Ok(())
+    let host = ran(rt, way, b"\x01\x0a", file, want);
+    assert!(rt; is_untouched(&host, file));
+}
+
+/// Whether a host tells of as many records as the frames say, and has this file as its disk.
+fn is_served(host: &MemoryHost, file: &[u8], frames: &[u8]) -> bool {
+    told(host.sent()).held == records_in(frames) && host.disk() == file
 }
 
 /// A session of so many workers over a file gives the messages of the records that it holds, and tells how many there are.
@@ -166,33 +172,29 @@ fn expect_served<Rt: Abort + AllocGlobal + Threads + Sync>(
     workers: u32,
     file: &[u8],
     frames: &[u8],
-) -> Result<(), Fail> {
+) {
     let way = Way {
         workers,
         from: Some(1),
         trouble: Trouble::Fails(Call::Write, 1),
         ..SERVE
     };
-    let host = ran(rt, way, b"", file, Status::Done)?;
-    assert!(rt; told(host.sent()).held == records_in(frames) && host.disk() == file);
-    let given = messages(rt.alloc(), host.sent())?;
-    expect(rt, REPLAY, frames, b"", Status::Done, &given)
+    let host = ran(rt, way, b"", file, Status::Done);
+    assert!(rt; is_served(&host, file, frames));
+    let given = messages(rt, host.sent());
+    expect(rt, REPLAY, frames, b"", Status::Done, &given);
 }
 
 /// A session of so many workers takes a file for what it is. Answers how it ends.
-fn taken<Rt: Abort + AllocGlobal + Threads + Sync>(
-    rt: &Rt,
-    workers: u32,
-    file: &[u8],
-) -> Result<Status, Fail> {
+fn taken<Rt: Abort + AllocGlobal + Threads + Sync>(rt: &Rt, workers: u32, file: &[u8]) -> Status {
     let mut held = Vec::new(rt.alloc());
-    let status = status_of(rt, file, &mut held)?;
+    let status = status_of(rt, file, &mut held);
     if status == Status::Done {
-        expect_served(rt, workers, file, &held)?;
+        expect_served(rt, workers, file, &held);
     } else {
-        expect_unserved(rt, workers, file, status)?;
+        expect_unserved(rt, workers, file, status);
     }
-    Ok(status)
+    status
 }
 
 /// How many files are no journal, are damaged, and are served.
@@ -222,16 +224,16 @@ impl Tally {
 }
 
 /// A journal for twelve records that holds ten, in some batches.
-fn small<Rt: Abort + AllocGlobal + Threads + Sync>(rt: &Rt) -> Result<Vec<u8>, Fail> {
-    let day = reopened_day(rt.alloc())?;
-    let empty = fresh(rt.alloc(), 12)?;
+fn small<Rt: Abort + AllocGlobal + Threads + Sync>(rt: &Rt) -> Vec<u8> {
+    let day = reopened_day(rt);
+    let empty = fresh(rt, 12);
     let way = Way {
         read: 70,
         send: 4_096,
         ..SERVE
     };
-    let host = ran(rt, way, &day.input, &empty, Status::Done)?;
-    Ok(host.disk().to_vec(rt.alloc())?)
+    let host = ran(rt, way, &day.input, &empty, Status::Done);
+    copied(rt, host.disk())
 }
 
 /// Changes a bit of a file, of which each byte has eight; once more, and it is as before.
@@ -241,33 +243,38 @@ fn flip(file: &mut [u8], bit: usize) {
     }
 }
 
-#[test]
-fn a_journal_with_any_byte_changed_is_told_as_damaged_or_served_as_what_it_holds(
-    rt: HostRuntime,
-) -> Result<(), Fail> {
-    let mut file = small(&rt)?;
+/// Takes a file with each of its bits changed.
+fn tally_of_changes<Rt: Abort + AllocGlobal + Threads + Sync>(rt: &Rt, file: &mut [u8]) -> Tally {
     let mut tally = NONE;
     for bit in 0..file.len().saturating_mul(8) {
         let workers = if bit % 8 == 0 { 2 } else { 1 };
-        flip(&mut file, bit);
-        tally.count(taken(&rt, workers, &file)?);
-        flip(&mut file, bit);
+        flip(file, bit);
+        tally.count(taken(rt, workers, file));
+        flip(file, bit);
     }
-    assert!(rt; tally.missing > 64 && tally.damaged > 600 && tally.served > 600);
-    Ok(())
+    tally
 }
 
 #[test]
-fn a_journal_that_is_cut_at_any_length_is_told_at_its_last_gate(
-    rt: HostRuntime,
-) -> Result<(), Fail> {
-    let whole = small(&rt)?;
+fn a_journal_with_any_byte_changed_is_told_as_damaged_or_served_as_what_it_holds(rt: HostRuntime) {
+    let mut file = small(&rt);
+    let tally = tally_of_changes(&rt, &mut file);
+    assert!(rt; tally.missing > 64 && tally.damaged > 600 && tally.served > 600);
+}
+
+/// Takes a file that is cut at each length.
+fn tally_of_cuts<Rt: Abort + AllocGlobal + Threads + Sync>(rt: &Rt, file: &[u8]) -> Tally {
     let mut tally = NONE;
-    for len in 0..whole.len() {
-        tally.count(taken(&rt, 2, &whole[..len])?);
+    for len in 0..file.len() {
+        tally.count(taken(rt, 2, &file[..len]));
     }
+    tally
+}
+
+#[test]
+fn a_journal_that_is_cut_at_any_length_is_told_at_its_last_gate(rt: HostRuntime) {
+    let tally = tally_of_cuts(&rt, &small(&rt));
     assert!(rt; tally.missing == 17 && tally.served == 0);
-    Ok(())
 }
 
 /// A file with bytes behind it is served as one that holds these frames.
@@ -276,23 +283,26 @@ fn expect_behind<Rt: Abort + AllocGlobal + Threads + Sync>(
     file: &[u8],
     tail: &[u8],
     held: &[u8],
-) -> Result<(), Fail> {
-    let longer = [file, tail].concat(rt.alloc())?;
-    expect_served(rt, 2, &longer, held)
+) {
+    let longer = [file, tail].concat(rt.alloc()).expect(rt, "memory");
+    expect_served(rt, 2, &longer, held);
+}
+
+/// The frames of the records that a file holds, which is a whole journal.
+fn held_in<Rt: Abort + AllocGlobal + Threads + Sync>(rt: &Rt, file: &[u8]) -> Vec<u8> {
+    let mut held = Vec::new(rt.alloc());
+    let status = status_of(rt, file, &mut held);
+    assert!(rt; status == Status::Done);
+    held
 }
 
 #[test]
-fn bytes_behind_the_last_gate_mean_nothing(rt: HostRuntime) -> Result<(), Fail> {
-    let whole = small(&rt)?;
-    let mut held = Vec::new(rt.alloc());
-    assert!(rt; status_of(&rt, &whole, &mut held)? == Status::Done);
-    for tail in [
-        b"\0".as_slice(),
-        b"\x01",
-        b"\x01\0\0\0\x0a\x09\x07\0\0\x1f\x1a\xce\xd9\xf0\0\0",
-        b"\xff\xff\xff\xff\xff\xff\xff\xff\xff",
-    ] {
-        expect_behind(&rt, &whole, tail, &held)?;
-    }
-    Ok(())
+fn bytes_behind_the_last_gate_mean_nothing(rt: HostRuntime) {
+    let whole = small(&rt);
+    let held = held_in(&rt, &whole);
+    expect_behind(&rt, &whole, b"\0", &held);
+    expect_behind(&rt, &whole, b"\x01", &held);
+    let batch = b"\x01\0\0\0\x0a\x09\x07\0\0\x1f\x1a\xce\xd9\xf0\0\0";
+    expect_behind(&rt, &whole, batch, &held);
+    expect_behind(&rt, &whole, &[0xff; 9], &held);
 }

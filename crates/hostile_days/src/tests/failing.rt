@@ -5,7 +5,6 @@ use super::{SERVE, Trouble, Way, expect, fresh, held_by, host_of, ran, reopened_
 use host_core::Status;
 use memory_host::{Call, MemoryHost};
 use std::process::Abort;
-use std::test::Fail;
 use std::thread::Threads;
 use test_days::Session;
 use wire_out::{Frame, get_frame};
@@ -72,14 +71,13 @@ fn expect_rest<Rt: Abort + AllocGlobal + Threads + Sync>(
     whole: &Session,
     batch: u32,
     host: &MemoryHost,
-) -> Result<(), Fail> {
-    let held = held_by(rt, host.disk())?;
+) {
+    let held = held_by(rt, host.disk());
     assert!(rt; told(host.sent()).acknowledged <= held);
     let way = Way { batch, ..SERVE };
     let rest = behind(&whole.input, held);
-    let next = ran(rt, way, rest, host.disk(), Status::Done)?;
+    let next = ran(rt, way, rest, host.disk(), Status::Done);
     assert!(rt; behind(next.sent(), 1) == behind_records(&whole.served, held));
-    Ok(())
 }
 
 /// Whether a session in which such a call is to fail ends so after what it has sent of the whole.
@@ -98,13 +96,13 @@ fn failed_at<Rt: Abort + AllocGlobal + Threads + Sync>(
     way: Way,
     call: Call,
     nth: u64,
-) -> Result<bool, Fail> {
+) -> bool {
     let trouble = Trouble::Fails(call, nth);
-    let mut host = host_of(rt.alloc(), Way { trouble, ..way }, &whole.input, empty)?;
+    let mut host = host_of(rt, Way { trouble, ..way }, &whole.input, empty);
     let status = run(rt, way, &mut host);
     assert!(rt; is_answered(&whole.served, host.sent(), call, status));
-    expect_rest(rt, whole, way.batch, &host)?;
-    Ok(status != Status::Done)
+    expect_rest(rt, whole, way.batch, &host);
+    status != Status::Done
 }
 
 /// How many calls of a kind fail before a session is undisturbed.
@@ -114,13 +112,13 @@ fn failed_in_turn<Rt: Abort + AllocGlobal + Threads + Sync>(
     empty: &[u8],
     way: Way,
     call: Call,
-) -> Result<u64, Fail> {
+) -> u64 {
     for nth in 1..1_000u64 {
-        if !failed_at(rt, whole, empty, way, call, nth)? {
-            return Ok(nth - 1);
+        if !failed_at(rt, whole, empty, way, call, nth) {
+            return nth - 1;
         }
     }
-    Ok(1_000)
+    1_000
 }
 
 /// Each call of each kind of a session that is run so fails in turn.
@@ -129,46 +127,49 @@ fn fail_in_turn<Rt: Abort + AllocGlobal + Threads + Sync>(
     whole: &Session,
     empty: &[u8],
     way: Way,
-) -> Result<(), Fail> {
+) {
     for (call, least) in CALLS {
-        let failed = failed_in_turn(rt, whole, empty, way, call)?;
+        let failed = failed_in_turn(rt, whole, empty, way, call);
         assert!(rt; failed >= least && failed < 1_000);
     }
-    Ok(())
 }
 
 #[test]
-fn each_failing_call_has_its_status_and_the_next_session_gives_the_rest(
-    rt: HostRuntime,
-) -> Result<(), Fail> {
-    let whole = reopened_day(rt.alloc())?;
-    let empty = fresh(rt.alloc(), 100)?;
+fn each_failing_call_has_its_status_and_the_next_session_gives_the_rest(rt: HostRuntime) {
+    let whole = reopened_day(&rt);
+    let empty = fresh(&rt, 100);
     for way in WAYS {
-        fail_in_turn(&rt, &whole, &empty, way)?;
+        fail_in_turn(&rt, &whole, &empty, way);
     }
-    Ok(())
+}
+
+/// A session whose second read fails has answered all, by batches of so many frames.
+fn expect_answered<Rt: Abort + AllocGlobal + Threads + Sync>(
+    rt: &Rt,
+    whole: &Session,
+    empty: &[u8],
+    batch: u32,
+) {
+    let way = Way {
+        batch,
+        trouble: Trouble::Fails(Call::Read, 2),
+        ..SERVE
+    };
+    expect(
+        rt,
+        way,
+        &whole.input,
+        empty,
+        Status::ReadFault,
+        &whole.served,
+    );
 }
 
 #[test]
-fn all_that_one_read_gave_is_answered_before_the_next_read_fails(
-    rt: HostRuntime,
-) -> Result<(), Fail> {
-    let whole = reopened_day(rt.alloc())?;
-    let empty = fresh(rt.alloc(), 100)?;
-    for batch in [1, 2, 64] {
-        let way = Way {
-            batch,
-            trouble: Trouble::Fails(Call::Read, 2),
-            ..SERVE
-        };
-        expect(
-            &rt,
-            way,
-            &whole.input,
-            &empty,
-            Status::ReadFault,
-            &whole.served,
-        )?;
-    }
-    Ok(())
+fn all_that_one_read_gave_is_answered_before_the_next_read_fails(rt: HostRuntime) {
+    let whole = reopened_day(&rt);
+    let empty = fresh(&rt, 100);
+    expect_answered(&rt, &whole, &empty, 1);
+    expect_answered(&rt, &whole, &empty, 2);
+    expect_answered(&rt, &whole, &empty, 64);
 }

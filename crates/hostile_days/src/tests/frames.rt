@@ -1,12 +1,11 @@
 //! Bodies that say no record, as `decode` reads them and as both commands answer them.
 
 use super::sent::told;
-use super::{REPLAY, SERVE, Way, expect, fresh, ran};
+use super::{REPLAY, SERVE, Way, copied, expect, fresh, ran};
 use Kind::{Cancel, Clock, Day, IndexTick, Indication, Listing, Notice, Quote, Trade};
 use host_core::Status;
-use std::alloc::Global;
+use memory_host::MemoryHost;
 use std::process::Abort;
-use std::test::Fail;
 use std::thread::Threads;
 use wire_in::{Refusal, decode};
 use wire_out::{Frame, put_frame};
@@ -86,51 +85,68 @@ struct Refusals {
     count: u64,
 }
 
-/// A body with other bytes at an offset.
-fn overwritten(alloc: Global, body: &[u8], at: usize, bytes: &[u8]) -> Result<Vec<u8>, Fail> {
-    let mut all = Vec::from_slice(alloc, body)?;
+fn overwrite(body: &mut [u8], at: usize, bytes: &[u8]) {
     for (i, byte) in bytes.iter().enumerate() {
-        if let Some(to) = all.get_mut(at.wrapping_add(i)) {
+        if let Some(to) = body.get_mut(at.wrapping_add(i)) {
             *to = *byte;
         }
     }
-    Ok(all)
+}
+
+/// A body with other bytes at an offset.
+fn overwritten<R: Abort + AllocGlobal>(rt: &R, body: &[u8], at: usize, bytes: &[u8]) -> Vec<u8> {
+    let mut all = copied(rt, body);
+    overwrite(&mut all, at, bytes);
+    all
+}
+
+fn joined<R: Abort + AllocGlobal>(rt: &R, body: &[u8], more: &[u8]) -> Vec<u8> {
+    [body, more].concat(rt.alloc()).expect(rt, "memory")
+}
+
+/// A body is refused so, which stands behind so many frames.
+fn expect_refused<R: Abort>(rt: &R, count: u64, body: &[u8], refusal: Refusal) {
+    let body = &body[..body.len().min(255)];
+    assert!(rt; decode(body) == Err(refusal), "frame {count}");
 }
 
 impl Refusals {
     /// No frame, and the greeting of an empty journal.
-    fn new(alloc: Global) -> Result<Refusals, Fail> {
+    fn new<R: Abort + AllocGlobal>(rt: &R) -> Refusals {
         let mut refusals = Refusals {
-            input: Vec::new(alloc),
-            sent: Vec::new(alloc),
+            input: Vec::new(rt.alloc()),
+            sent: Vec::new(rt.alloc()),
             count: 0,
         };
-        refusals.send(&Frame::Hello {
+        let hello = Frame::Hello {
             inputs: 0,
             messages: 0,
-        })?;
-        Ok(refusals)
+        };
+        refusals.send(rt, &hello);
+        refusals
     }
 
-    fn send(&mut self, frame: &Frame) -> Result<(), Fail> {
+    fn send<R: Abort>(&mut self, rt: &R, frame: &Frame) {
         let mut cell = [0; 64];
         let len = put_frame(frame, &mut cell);
-        self.sent.extend_from_slice(&cell[..len])?;
-        Ok(())
+        self.sent
+            .extend_from_slice(&cell[..len])
+            .expect(rt, "memory");
     }
 
     /// A frame of this body, which is refused so.
-    fn add<R: Abort>(&mut self, rt: &R, body: &[u8], refusal: Refusal) -> Result<(), Fail> {
+    fn add<R: Abort>(&mut self, rt: &R, body: &[u8], refusal: Refusal) {
         let body = &body[..body.len().min(255)];
-        assert!(rt; decode(body) == Err(refusal), "frame {}", self.count);
-        self.input.push(body.len() as u8)?;
-        self.input.extend_from_slice(body)?;
+        expect_refused(rt, self.count, body, refusal);
+        self.input.push(body.len() as u8).expect(rt, "memory");
+        self.input.extend_from_slice(body).expect(rt, "memory");
         self.count = self.count.saturating_add(1);
-        self.send(&Frame::Refused {
+        let refused = Frame::Refused {
             frame_number: self.count,
             code: refusal.code(),
             field: refusal.field(),
-        })
+        };
+        self.send(rt, &refused);
     }
 
     /// A frame of a body that has other bytes at an offset.
@@ -141,9 +157,9 @@ impl Refusals {
         at: usize,
         bytes: &[u8],
         refusal: Refusal,
-    ) -> Result<(), Fail> {
-        let changed = overwritten(rt.alloc(), body, at, bytes)?;
-        self.add(rt, &changed, refusal)
+    ) {
+        let changed = overwritten(rt, body, at, bytes);
+        self.add(rt, &changed, refusal);
     }
 
     /// A frame of that kind whose bytes at an offset say a value outside the range of their field.
@@ -155,58 +171,55 @@ impl Refusals {
         width: usize,
         value: u64,
         field: u8,
-    ) -> Result<(), Fail> {
+    ) {
         let bytes = value.to_be_bytes();
         let last = &bytes[8 - width.min(8)..];
-        self.change(rt, body_of(kind), at, last, Refusal::BadField(field))
+        self.change(rt, body_of(kind), at, last, Refusal::BadField(field));
     }
 
     /// Frames of a body that is a byte shorter, of its type alone, and of a body that is a byte longer.
-    fn resize<R: Abort + AllocGlobal>(&mut self, rt: &R, body: &[u8]) -> Result<(), Fail> {
+    fn resize<R: Abort + AllocGlobal>(&mut self, rt: &R, body: &[u8]) {
         let shorter = &body[..body.len().saturating_sub(1)];
-        self.add(rt, shorter, Refusal::BadLength)?;
-        self.add(rt, &body[..body.len().min(1)], Refusal::BadLength)?;
-        let longer = [body, b"\0".as_slice()].concat(rt.alloc())?;
-        self.add(rt, &longer, Refusal::BadLength)
+        self.add(rt, shorter, Refusal::BadLength);
+        self.add(rt, &body[..body.len().min(1)], Refusal::BadLength);
+        self.add(rt, &joined(rt, body, b"\0"), Refusal::BadLength);
     }
 
     /// Frames of several lengths of a type that is none.
-    fn misname<R: Abort + AllocGlobal>(&mut self, rt: &R, kind: u8) -> Result<(), Fail> {
+    fn misname<R: Abort + AllocGlobal>(&mut self, rt: &R, kind: u8) {
         for len in [1, 9, 19, 35, 255usize] {
-            self.change(rt, &ZEROS[..len.min(255)], 0, &[kind], Refusal::UnknownType)?;
+            self.change(rt, &ZEROS[..len.min(255)], 0, &[kind], Refusal::UnknownType);
         }
-        Ok(())
     }
 
     /// A frame of a body whose bytes are ones from an offset on, so that each field there with a range is outside of it; and
     /// such frames with a bad length, which comes before a bad field, and with an unknown type, which comes before both.
-    fn spoil<R: Abort + AllocGlobal>(
-        &mut self,
-        rt: &R,
-        body: &[u8],
-        at: usize,
-        field: u8,
-    ) -> Result<(), Fail> {
+    fn spoil<R: Abort + AllocGlobal>(&mut self, rt: &R, body: &[u8], at: usize, field: u8) {
         let rest = &ONES[..body.len().saturating_sub(at).min(64)];
-        self.change(rt, body, at, rest, Refusal::BadField(field))?;
-        let longer = [body, rest].concat(rt.alloc())?;
-        self.add(rt, &longer, Refusal::BadLength)?;
-        self.change(rt, &longer, 0, b"\0", Refusal::UnknownType)
+        self.change(rt, body, at, rest, Refusal::BadField(field));
+        let longer = joined(rt, body, rest);
+        self.add(rt, &longer, Refusal::BadLength);
+        self.change(rt, &longer, 0, b"\0", Refusal::UnknownType);
     }
 
     /// A replay answers the stream so, in pieces of a size.
-    fn expect_replayed<Rt: Abort + AllocGlobal + Threads + Sync>(
-        &self,
-        rt: &Rt,
-        read: u32,
-    ) -> Result<(), Fail> {
+    fn expect_replayed<Rt: Abort + AllocGlobal + Threads + Sync>(&self, rt: &Rt, read: u32) {
         let way = Way {
             read,
             send: 64,
             ..REPLAY
         };
         let answers = self.sent.get(18..).unwrap_or(&[]);
-        expect(rt, way, &self.input, b"", Status::Done, answers)
+        expect(rt, way, &self.input, b"", Status::Done, answers);
+    }
+
+    /// Whether a host has sent the refusals behind the greeting of an empty journal, which it still has.
+    fn are_sent(&self, host: &MemoryHost, empty: &[u8]) -> bool {
+        let sent = told(host.sent());
+        sent.held == Some(0)
+            && sent.refused == self.count
+            && host.sent() == self.sent.as_slice()
+            && host.disk() == empty
     }
 
     /// A session answers the stream so, in pieces of a size, and an empty journal stays as it is.
@@ -215,63 +228,59 @@ impl Refusals {
         rt: &Rt,
         read: u32,
         empty: &[u8],
-    ) -> Result<(), Fail> {
+    ) {
         let way = Way {
             read,
             send: 64,
             ..SERVE
         };
-        let host = ran(rt, way, &self.input, empty, Status::Done)?;
-        let sent = told(host.sent());
-        let is_told = sent.held == Some(0) && sent.refused == self.count;
-        assert!(rt; is_told && host.sent() == self.sent.as_slice() && host.disk() == empty);
-        Ok(())
+        let host = ran(rt, way, &self.input, empty, Status::Done);
+        assert!(rt; self.are_sent(&host, empty));
     }
 
     /// Both commands answer the stream so, in pieces of each size.
-    fn expect<Rt: Abort + AllocGlobal + Threads + Sync>(&self, rt: &Rt) -> Result<(), Fail> {
-        let empty = fresh(rt.alloc(), 9)?;
+    fn expect<Rt: Abort + AllocGlobal + Threads + Sync>(&self, rt: &Rt) {
+        let empty = fresh(rt, 9);
         for read in [1, 7, 300, 65_536] {
-            self.expect_replayed(rt, read)?;
-            self.expect_served(rt, read, &empty)?;
+            self.expect_replayed(rt, read);
+            self.expect_served(rt, read, &empty);
         }
-        Ok(())
     }
+}
+
+fn is_record(body: &[u8]) -> bool {
+    decode(&body[..body.len().min(255)]).is_ok()
 }
 
 /// Frames of bodies of each type that are a byte shorter or longer.
-fn resize_all<R: Abort + AllocGlobal>(rt: &R, refusals: &mut Refusals) -> Result<(), Fail> {
-    refusals.add(rt, &[], Refusal::BadLength)?;
+fn resize_all<R: Abort + AllocGlobal>(rt: &R, refusals: &mut Refusals) {
+    refusals.add(rt, &[], Refusal::BadLength);
     for kind in KINDS {
         let body = body_of(kind);
-        assert!(rt; decode(&body[..body.len().min(255)]).is_ok());
-        refusals.resize(rt, body)?;
+        assert!(rt; is_record(body));
+        refusals.resize(rt, body);
     }
-    Ok(())
 }
 
 #[test]
-fn a_body_of_each_type_that_is_a_byte_shorter_or_longer_has_a_bad_length(
-    rt: HostRuntime,
-) -> Result<(), Fail> {
-    let mut refusals = Refusals::new(rt.alloc())?;
-    resize_all(&rt, &mut refusals)?;
-    refusals.expect(&rt)
+fn a_body_of_each_type_that_is_a_byte_shorter_or_longer_has_a_bad_length(rt: HostRuntime) {
+    let mut refusals = Refusals::new(&rt);
+    resize_all(&rt, &mut refusals);
+    refusals.expect(&rt);
 }
 
 /// Frames of types that are none.
-fn misname_all<R: Abort + AllocGlobal>(rt: &R, refusals: &mut Refusals) -> Result<(), Fail> {
+fn misname_all<R: Abort + AllocGlobal>(rt: &R, refusals: &mut Refusals) {
     for kind in [0, 10, 17, 129, 255u8] {
-        refusals.misname(rt, kind)?;
+        refusals.misname(rt, kind);
     }
-    Ok(())
 }
 
 #[test]
-fn a_type_that_is_none_is_refused_at_any_length(rt: HostRuntime) -> Result<(), Fail> {
-    let mut refusals = Refusals::new(rt.alloc())?;
-    misname_all(&rt, &mut refusals)?;
-    refusals.expect(&rt)
+fn a_type_that_is_none_is_refused_at_any_length(rt: HostRuntime) {
+    let mut refusals = Refusals::new(&rt);
+    misname_all(&rt, &mut refusals);
+    refusals.expect(&rt);
 }
 
 /// Kinds, offsets, how many bytes say a value there, values outside the range, and the fields.
@@ -314,30 +323,26 @@ const OUTSIDE: [(Kind, usize, usize, u64, u8); 35] = [
 ];
 
 /// Frames of moments behind the last one of a day.
-fn write_late<R: Abort + AllocGlobal>(rt: &R, refusals: &mut Refusals) -> Result<(), Fail> {
+fn write_late<R: Abort + AllocGlobal>(rt: &R, refusals: &mut Refusals) {
     for kind in KINDS {
-        refusals.write(rt, kind, 1, 8, LATE, 1)?;
-        refusals.write(rt, kind, 1, 8, u64::MAX, 1)?;
+        refusals.write(rt, kind, 1, 8, LATE, 1);
+        refusals.write(rt, kind, 1, 8, u64::MAX, 1);
     }
-    Ok(())
 }
 
 /// Frames of other values outside the ranges of their fields.
-fn write_outside<R: Abort + AllocGlobal>(rt: &R, refusals: &mut Refusals) -> Result<(), Fail> {
+fn write_outside<R: Abort + AllocGlobal>(rt: &R, refusals: &mut Refusals) {
     for (kind, at, width, value, field) in OUTSIDE {
-        refusals.write(rt, kind, at, width, value, field)?;
+        refusals.write(rt, kind, at, width, value, field);
     }
-    Ok(())
 }
 
 #[test]
-fn a_value_outside_the_range_of_its_field_is_told_with_the_field(
-    rt: HostRuntime,
-) -> Result<(), Fail> {
-    let mut refusals = Refusals::new(rt.alloc())?;
-    write_late(&rt, &mut refusals)?;
-    write_outside(&rt, &mut refusals)?;
-    refusals.expect(&rt)
+fn a_value_outside_the_range_of_its_field_is_told_with_the_field(rt: HostRuntime) {
+    let mut refusals = Refusals::new(&rt);
+    write_late(&rt, &mut refusals);
+    write_outside(&rt, &mut refusals);
+    refusals.expect(&rt);
 }
 
 /// Kinds, the first byte of a field with a range, and the field.
@@ -371,16 +376,15 @@ const FIRST_FAULTS: [(Kind, usize, u8); 26] = [
 ];
 
 /// Frames of bodies with several faults.
-fn spoil_all<R: Abort + AllocGlobal>(rt: &R, refusals: &mut Refusals) -> Result<(), Fail> {
+fn spoil_all<R: Abort + AllocGlobal>(rt: &R, refusals: &mut Refusals) {
     for (kind, at, field) in FIRST_FAULTS {
-        refusals.spoil(rt, body_of(kind), at, field)?;
+        refusals.spoil(rt, body_of(kind), at, field);
     }
-    Ok(())
 }
 
 #[test]
-fn of_several_faults_the_first_is_told(rt: HostRuntime) -> Result<(), Fail> {
-    let mut refusals = Refusals::new(rt.alloc())?;
-    spoil_all(&rt, &mut refusals)?;
-    refusals.expect(&rt)
+fn of_several_faults_the_first_is_told(rt: HostRuntime) {
+    let mut refusals = Refusals::new(&rt);
+    spoil_all(&rt, &mut refusals);
+    refusals.expect(&rt);
 }

@@ -1,7 +1,6 @@
 //! What a stream of frames says.
 
-use std::alloc::Global;
-use std::test::Fail;
+use std::process::Abort;
 use wire_out::{Frame, get_frame};
 
 /// The first frame of a stream and the bytes behind it, where a whole one is there.
@@ -59,17 +58,22 @@ pub fn told(stream: &[u8]) -> Sent {
     sent
 }
 
+/// Whether a frame is a numbered message.
+fn is_message(frame: &[u8]) -> bool {
+    matches!(get_frame(body_of(frame)), Ok(Frame::Numbered { .. }))
+}
+
 /// The frames of the numbered messages of a stream.
-pub fn messages(alloc: Global, stream: &[u8]) -> Result<Vec<u8>, Fail> {
-    let mut messages = Vec::new(alloc);
+pub fn messages<R: Abort + AllocGlobal>(rt: &R, stream: &[u8]) -> Vec<u8> {
+    let mut messages = Vec::new(rt.alloc());
     let mut rest = stream;
     for _ in 0..stream.len() {
         if let Some((frame, after)) = first_frame(rest) {
-            if matches!(get_frame(body_of(frame)), Ok(Frame::Numbered { .. })) {
-                messages.extend_from_slice(frame)?;
+            if is_message(frame) {
+                messages.extend_from_slice(frame).expect(rt, "memory");
             }
             rest = after;
         }
     }
-    Ok(messages)
+    messages
 }

@@ -6,9 +6,7 @@ use super::{
 };
 use host_core::Status;
 use memory_host::{Call, MemoryHost, Pick};
-use std::alloc::Global;
 use std::process::Abort;
-use std::test::Fail;
 use std::thread::Threads;
 use test_days::Session;
 use test_days::lines::{at, clock};
@@ -34,6 +32,12 @@ const WAYS: [Way; 4] = [
     Way { read: 60, ..WHOLE },
 ];
 
+/// A session has sent the messages of the day.
+fn expect_messages<R: Abort + AllocGlobal>(rt: &R, day: &Session, sent: &[u8]) {
+    let is_same = messages(rt, sent) == day.replayed;
+    assert!(rt; is_same);
+}
+
 /// A disk holds so many records at least, and a session over it that is handed the rest of the day, by so many workers, gives the
 /// messages of the whole day.
 pub fn expect_rest<Rt: Abort + AllocGlobal + Threads + Sync>(
@@ -42,17 +46,17 @@ pub fn expect_rest<Rt: Abort + AllocGlobal + Threads + Sync>(
     disk: &[u8],
     workers: u32,
     least: u64,
-) -> Result<(), Fail> {
-    let held = held_by(rt, disk)?;
+) {
+    let held = held_by(rt, disk);
+    assert!(rt; held >= least);
     let way = Way {
         workers,
         from: Some(1),
         ..SERVE
     };
-    let next = ran(rt, way, behind(&day.input, held), disk, Status::Done)?;
-    assert!(rt; held >= least && told(next.sent()).held == Some(held));
-    assert!(rt; messages(rt.alloc(), next.sent())? == day.replayed);
-    Ok(())
+    let next = ran(rt, way, behind(&day.input, held), disk, Status::Done);
+    assert!(rt; told(next.sent()).held == Some(held));
+    expect_messages(rt, day, next.sent());
 }
 
 /// Whatever a stop leaves of a session's disk holds each record that was acknowledged, and the rest follows.
@@ -62,10 +66,15 @@ fn expect_recovery<Rt: Abort + AllocGlobal + Threads + Sync>(
     host: &MemoryHost,
     workers: u32,
     pick: Pick,
-) -> Result<(), Fail> {
-    let left = host.crash(pick, b"")?;
+) {
+    let left = host.crash(pick, b"").expect(rt, "memory");
     let least = told(host.sent()).acknowledged;
-    expect_rest(rt, day, left.disk(), workers, least)
+    expect_rest(rt, day, left.disk(), workers, least);
+}
+
+/// Whether a session has sent a prefix of the answers.
+fn is_begun<R: Abort + AllocGlobal>(rt: &R, day: &Session, sent: &[u8]) -> bool {
+    day.served.starts_with(sent) && day.replayed.starts_with(&messages(rt, sent))
 }
 
 /// A session that was stopped has sent a prefix of the answers, and whatever it leaves is gone on from.
@@ -74,14 +83,15 @@ fn expect_stop<Rt: Abort + AllocGlobal + Threads + Sync>(
     day: &Session,
     host: &MemoryHost,
     workers: u32,
-) -> Result<(), Fail> {
-    let sent = messages(rt.alloc(), host.sent())?;
-    let is_prefix = day.served.starts_with(host.sent()) && day.replayed.starts_with(&sent);
-    assert!(rt; is_prefix, "stopped at {}", host.calls());
+) {
+    assert!(rt;
+        is_begun(rt, day, host.sent()),
+        "stopped at {}",
+        host.calls()
+    );
     for pick in PICKS {
-        expect_recovery(rt, day, host, workers, pick)?;
+        expect_recovery(rt, day, host, workers, pick);
     }
-    Ok(())
 }
 
 /// Serves the day up to a stop, and starts again over what it leaves. Answers whether the session was stopped.
@@ -91,12 +101,12 @@ fn stopped_at<Rt: Abort + AllocGlobal + Threads + Sync>(
     empty: &[u8],
     way: Way,
     nth: u64,
-) -> Result<bool, Fail> {
+) -> bool {
     let trouble = Trouble::Stops(nth);
-    let mut host = host_of(rt.alloc(), Way { trouble, ..way }, &day.input, empty)?;
+    let mut host = host_of(rt, Way { trouble, ..way }, &day.input, empty);
     let status = run(rt, way, &mut host);
-    expect_stop(rt, day, &host, way.workers)?;
-    Ok(status != Status::Done)
+    expect_stop(rt, day, &host, way.workers);
+    status != Status::Done
 }
 
 /// The first call from which on a stop doesn't disturb the session.
@@ -105,26 +115,27 @@ fn stopped_everywhere<Rt: Abort + AllocGlobal + Threads + Sync>(
     day: &Session,
     empty: &[u8],
     way: Way,
-) -> Result<u64, Fail> {
+) -> u64 {
     for nth in 1..1_000u64 {
-        if !stopped_at(rt, day, empty, way, nth)? {
-            return Ok(nth);
+        if !stopped_at(rt, day, empty, way, nth) {
+            return nth;
         }
     }
-    Ok(1_000)
+    1_000
+}
+
+/// A stop at any call disturbs a session that is run in each of these ways, which makes more calls than 60.
+fn expect_stops<Rt: Abort + AllocGlobal + Threads + Sync>(rt: &Rt, day: &Session, empty: &[u8]) {
+    for way in WAYS {
+        let calls = stopped_everywhere(rt, day, empty, way);
+        assert!(rt; calls > 60 && calls < 1_000);
+    }
 }
 
 #[test]
-fn whatever_a_stop_leaves_the_next_session_gives_the_messages_of_the_day(
-    rt: HostRuntime,
-) -> Result<(), Fail> {
-    let day = reopened_day(rt.alloc())?;
-    let empty = fresh(rt.alloc(), 100)?;
-    for way in WAYS {
-        let calls = stopped_everywhere(&rt, &day, &empty, way)?;
-        assert!(rt; calls > 60 && calls < 1_000);
-    }
-    Ok(())
+fn whatever_a_stop_leaves_the_next_session_gives_the_messages_of_the_day(rt: HostRuntime) {
+    let day = reopened_day(&rt);
+    expect_stops(&rt, &day, &fresh(&rt, 100));
 }
 
 /// Serves what is left of a host's input, up to its nth call from here on where one is told. Answers what the session tells.
@@ -143,17 +154,21 @@ fn goes_on<Rt: AllocGlobal + Threads + Sync>(
     told(host.sent().get(len..).unwrap_or(&[]))
 }
 
-/// Whatever a stop leaves holds so many records at least.
-fn expect_held<Rt: Abort + AllocGlobal + Threads + Sync>(
+/// How many records what a stop may leave of a host holds.
+fn left_in<Rt: Abort + AllocGlobal + Threads + Sync>(
     rt: &Rt,
     host: &MemoryHost,
-    least: u64,
-) -> Result<(), Fail> {
+    pick: Pick,
+) -> u64 {
+    let left = host.crash(pick, b"").expect(rt, "memory");
+    held_by(rt, left.disk())
+}
+
+/// Whatever a stop leaves holds so many records at least.
+fn expect_held<Rt: Abort + AllocGlobal + Threads + Sync>(rt: &Rt, host: &MemoryHost, least: u64) {
     for pick in PICKS {
-        let left = host.crash(pick, b"")?;
-        assert!(rt; held_by(rt, left.disk())? >= least);
+        assert!(rt; left_in(rt, host, pick) >= least);
     }
-    Ok(())
 }
 
 /// A second session goes on over a host behind one that was disturbed, up to a stop where one is told. Answers whether the first
@@ -163,15 +178,15 @@ fn goes_on_behind<Rt: Abort + AllocGlobal + Threads + Sync>(
     way: Way,
     host: &mut MemoryHost,
     stop: Option<u64>,
-) -> Result<bool, Fail> {
+) -> bool {
     let first = run(rt, way, host);
     let before = told(host.sent()).acknowledged;
     let after = goes_on(rt, way, host, stop);
     let is_greeted = first == Status::Done || stop.is_some() || after.held.is_some();
     let is_answer = first == Status::Done || first == Status::DiskFault;
     assert!(rt; is_answer && is_greeted && after.held.unwrap_or(u64::MAX) >= before);
-    expect_held(rt, host, before.max(after.acknowledged))?;
-    Ok(first != Status::Done)
+    expect_held(rt, host, before.max(after.acknowledged));
+    first != Status::Done
 }
 
 /// A sync fails, and a second session goes on over the same host, up to a stop where one is told. Answers whether the first
@@ -183,9 +198,9 @@ fn goes_on_with_writes_pending<Rt: Abort + AllocGlobal + Threads + Sync>(
     way: Way,
     sync: u64,
     stop: Option<u64>,
-) -> Result<bool, Fail> {
+) -> bool {
     let trouble = Trouble::Fails(Call::Sync, sync);
-    let mut host = host_of(rt.alloc(), Way { trouble, ..way }, &day.input, empty)?;
+    let mut host = host_of(rt, Way { trouble, ..way }, &day.input, empty);
     goes_on_behind(rt, way, &mut host, stop)
 }
 
@@ -197,59 +212,68 @@ fn failed_syncs<Rt: Abort + AllocGlobal + Threads + Sync>(
     way: Way,
     end: u64,
     stop: Option<u64>,
-) -> Result<u64, Fail> {
+) -> u64 {
     let mut failed = 0u64;
     for sync in 1..end {
-        let is_failed = goes_on_with_writes_pending(rt, day, empty, way, sync, stop)?;
+        let is_failed = goes_on_with_writes_pending(rt, day, empty, way, sync, stop);
         failed = failed.saturating_add(u64::from(is_failed));
     }
-    Ok(failed)
+    failed
 }
 
-#[test]
-fn a_session_after_a_failed_sync_counts_each_acknowledged_record(
-    rt: HostRuntime,
-) -> Result<(), Fail> {
-    let day = reopened_day(rt.alloc())?;
-    let empty = fresh(rt.alloc(), 100)?;
+/// Of the syncs of a session that is run in each of these ways some end it where they fail.
+fn expect_failed_syncs<Rt: Abort + AllocGlobal + Threads + Sync>(
+    rt: &Rt,
+    day: &Session,
+    empty: &[u8],
+) {
     for way in WAYS {
-        let failed = failed_syncs(&rt, &day, &empty, way, 30, None)?;
+        let failed = failed_syncs(rt, day, empty, way, 30, None);
         assert!(rt; failed >= 3 && failed < 29);
     }
-    Ok(())
 }
 
 #[test]
-fn a_stop_with_writes_pending_loses_no_acknowledged_record(rt: HostRuntime) -> Result<(), Fail> {
-    let day = reopened_day(rt.alloc())?;
-    let empty = fresh(rt.alloc(), 100)?;
+fn a_session_after_a_failed_sync_counts_each_acknowledged_record(rt: HostRuntime) {
+    let day = reopened_day(&rt);
+    expect_failed_syncs(&rt, &day, &fresh(&rt, 100));
+}
+
+/// A sync fails, and the next session is stopped, at each of its first calls.
+fn expect_second_stops<Rt: Abort + AllocGlobal + Threads + Sync>(
+    rt: &Rt,
+    day: &Session,
+    empty: &[u8],
+) {
     for way in WAYS {
         for stop in 1..40u64 {
-            failed_syncs(&rt, &day, &empty, way, 6, Some(stop))?;
+            failed_syncs(rt, day, empty, way, 6, Some(stop));
         }
     }
-    Ok(())
+}
+
+#[test]
+fn a_stop_with_writes_pending_loses_no_acknowledged_record(rt: HostRuntime) {
+    let day = reopened_day(&rt);
+    expect_second_stops(&rt, &day, &fresh(&rt, 100));
 }
 
 /// A day of 64 records: the reopened day, and clocks behind it.
-fn day_of_64(alloc: Global) -> Result<Session, Fail> {
-    let mut lines = reopened_lines(alloc)?;
+fn day_of_64<R: Abort + AllocGlobal>(rt: &R) -> Session {
+    let mut lines = reopened_lines(rt);
     for second in 0..54u8 {
-        lines.extend_from_slice(&[clock(at(10, 11, second))])?;
+        let next = [clock(at(10, 11, second))];
+        lines.extend_from_slice(&next).expect(rt, "memory");
     }
-    Ok(Session::of(alloc, &lines)?)
+    Session::of(rt.alloc(), &lines).expect(rt, "a session")
 }
 
 /// Whatever a session leaves has all of 64 records or none.
-fn expect_all_or_none<Rt: Abort + AllocGlobal + Threads + Sync>(
-    rt: &Rt,
-    host: &MemoryHost,
-) -> Result<(), Fail> {
+fn expect_all_or_none<Rt: Abort + AllocGlobal + Threads + Sync>(rt: &Rt, host: &MemoryHost) {
     for pick in PICKS {
-        let held = held_by(rt, host.crash(pick, b"")?.disk())?;
+        let held = left_in(rt, host, pick);
         assert!(rt; held == 0 || held == 64, "{held} are held");
     }
-    Ok(())
 }
 
 /// Serves the day up to a stop, which leaves all of its records or none. Answers whether the session was stopped.
@@ -258,15 +282,15 @@ fn leaves_all_or_none<Rt: Abort + AllocGlobal + Threads + Sync>(
     day: &Session,
     empty: &[u8],
     nth: u64,
-) -> Result<bool, Fail> {
+) -> bool {
     let way = Way {
         trouble: Trouble::Stops(nth),
         ..SERVE
     };
-    let mut host = host_of(rt.alloc(), way, &day.input, empty)?;
+    let mut host = host_of(rt, way, &day.input, empty);
     let status = run(rt, way, &mut host);
-    expect_all_or_none(rt, &host)?;
-    Ok(status != Status::Done)
+    expect_all_or_none(rt, &host);
+    status != Status::Done
 }
 
 /// Stops the day at each of its calls: how many of them disturb it.
@@ -274,22 +298,21 @@ fn stopped_in_turn<Rt: Abort + AllocGlobal + Threads + Sync>(
     rt: &Rt,
     day: &Session,
     empty: &[u8],
-) -> Result<u64, Fail> {
+) -> u64 {
     let mut calls = 0u64;
     for nth in 1..100u64 {
-        let is_stopped = leaves_all_or_none(rt, day, empty, nth)?;
+        let is_stopped = leaves_all_or_none(rt, day, empty, nth);
         calls = calls.saturating_add(u64::from(is_stopped));
-        stopped_at(rt, day, empty, SERVE, nth)?;
+        stopped_at(rt, day, empty, SERVE, nth);
     }
-    Ok(calls)
+    calls
 }
 
 #[test]
-fn a_stop_leaves_all_of_a_batch_of_64_records_or_none(rt: HostRuntime) -> Result<(), Fail> {
-    let day = day_of_64(rt.alloc())?;
-    let empty = fresh(rt.alloc(), 100)?;
-    expect(&rt, SERVE, &day.input, &empty, Status::Done, &day.served)?;
-    let calls = stopped_in_turn(&rt, &day, &empty)?;
+fn a_stop_leaves_all_of_a_batch_of_64_records_or_none(rt: HostRuntime) {
+    let day = day_of_64(&rt);
+    let empty = fresh(&rt, 100);
+    expect(&rt, SERVE, &day.input, &empty, Status::Done, &day.served);
+    let calls = stopped_in_turn(&rt, &day, &empty);
     assert!(rt; calls > 8 && calls < 99);
-    Ok(())
 }
