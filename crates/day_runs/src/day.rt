@@ -9,7 +9,7 @@ use text_core::read_record;
 use wire_in::encode;
 
 /// What is read on a worked day, and what a session sends for it.
-#[derive(Debug, Drop)]
+#[derive(Drop)]
 pub struct Day {
     /// How many records the journal takes; none where nothing is said of it.
     pub limit: Option<u64>,

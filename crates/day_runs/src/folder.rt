@@ -1,14 +1,15 @@
 //! The days of a folder.
 
 use crate::day::Day;
+use crate::files::read_file;
 use crate::stated;
-use crate::tally::{tell_difference, tell_tally};
+use crate::tally::{tell_difference, tell_error};
 use crate::text::DayError;
-use crate::way::{Outcome, Way, days};
+use crate::way::{Way, days};
 use std::alloc::Global;
+use std::io;
 use std::rt::Files;
 use std::thread::Threads;
-use std::{fs, io};
 
 /// The sizes of batches in which every day is served by one worker.
 const BATCHES: [u32; 4] = [1, 2, 63, 64];
@@ -27,45 +28,59 @@ const PLAIN_MAX: usize = 400;
 
 /// Reads the two files of a day.
 fn read<Rt: Files + AllocGlobal>(rt: &Rt, name: &str) -> Result<Day, DayError> {
-    let alloc = rt.alloc();
-    let lines = format!(in alloc; "{name}.lines")?;
-    let served = format!(in alloc; "{name}.served.lines")?;
-    let lines = fs::read_to_string(rt, lines.as_str())?;
-    Day::of(alloc, &lines, fs::read_to_string(rt, served.as_str())?)
+    let lines = read_file(rt, ".", name, ".lines")?;
+    Day::of(
+        rt.alloc(),
+        &lines,
+        read_file(rt, ".", name, ".served.lines")?,
+    )
 }
 
 /// Tells of the first line in which a way sends something else than is stated, or of another end. Answers whether neither comes.
-fn compare<Rt: Print>(
+fn tell_way<Rt: Print>(
     rt: &Rt,
-    alloc: Global,
-    name: &str,
-    way: Way,
-    outcome: &Outcome,
+    title: &str,
+    stated: &str,
+    sent: &str,
+    ends_as_stated: bool,
 ) -> io::Result<bool> {
-    let title = format!(in alloc; "{name}: {way}")?;
-    if !tell_difference(rt, &title, &outcome.stated, &outcome.sent)? {
+    if !tell_difference(rt, title, stated, sent)? {
         return Ok(false);
     }
-    if !outcome.ends_as_stated {
+    if !ends_as_stated {
         println!(rt; "{title}: ends otherwise")?;
     }
-    Ok(outcome.ends_as_stated)
+    Ok(ends_as_stated)
+}
+
+/// Runs a day in a way, and tells of a difference to what is stated. Answers whether there is none.
+fn compare<Rt: Print + Threads + Sync>(
+    rt: &Rt,
+    alloc: Global,
+    title: &str,
+    day: &Day,
+    way: Way,
+    stated: &str,
+) -> io::Result<bool> {
+    let mut sent = String::new(alloc);
+    match way.run(rt, alloc, day, &mut sent) {
+        Ok(ends_as_stated) => tell_way(rt, title, stated, &sent, ends_as_stated),
+        Err(error) => tell_error(rt, title, &error),
+    }
 }
 
 /// Runs a day in a way, and tells of a difference. Answers whether there is none.
 fn try_way<Rt: Print + Threads + Sync>(
     rt: &Rt,
     alloc: Global,
-    name: &str,
+    title: &str,
     day: &Day,
     way: Way,
 ) -> io::Result<bool> {
-    match way.run(rt, alloc, day) {
-        Ok(outcome) => compare(rt, alloc, name, way, &outcome),
-        Err(error) => {
-            println!(rt; "{name}: {way}: {error}")?;
-            Ok(false)
-        }
+    let mut stated = String::new(alloc);
+    match way.state(alloc, day, &mut stated) {
+        Ok(()) => compare(rt, alloc, title, day, way, &stated),
+        Err(error) => tell_error(rt, title, &error),
     }
 }
 
@@ -122,44 +137,41 @@ fn ways_of(alloc: Global, day: &Day) -> Result<Vec<Way>, DayError> {
 }
 
 /// Runs a day in one way after the other, up to the first that differs. Answers whether none does.
-fn try_day<Rt: Files + Print + AllocGlobal + Threads + Sync>(
+fn try_each<Rt: Print + Threads + Sync>(
     rt: &Rt,
+    alloc: Global,
     name: &str,
+    day: &Day,
+    ways: &[Way],
 ) -> io::Result<bool> {
-    let alloc = rt.alloc();
-    let found = read(rt, name).and_then(|day| Ok((ways_of(alloc, &day)?, day)));
-    let (ways, day) = match found {
-        Ok(found) => found,
-        Err(error) => {
-            println!(rt; "{name}: {error}")?;
-            return Ok(false);
-        }
-    };
-    for way in &ways {
-        if !try_way(rt, alloc, name, &day, *way)? {
+    for way in ways {
+        let title = format!(in alloc; "{name}: {way}")?;
+        if !try_way(rt, alloc, &title, day, *way)? {
             return Ok(false);
         }
     }
     Ok(true)
 }
 
-/// Runs each day of the folder that the program runs in, tells of each difference, and then how many days there are, or that
-/// they agree. Answers whether there is a day, and none differs.
-pub fn agree<Rt: Files + Print + AllocGlobal + Threads + Sync + Clone + Drop>(
+/// Runs a day in each way. Answers whether none differs.
+fn try_ways<Rt: Print + AllocGlobal + Threads + Sync>(
     rt: &Rt,
+    name: &str,
+    day: &Day,
 ) -> io::Result<bool> {
-    let alloc = rt.alloc();
-    let (mut days, mut differ) = (0usize, 0usize);
-    for entry in fs::read_dir(rt, ".")? {
-        let entry = entry?;
-        let Some(name) = entry.file_name().strip_suffix(".served.lines") else {
-            continue;
-        };
-        let name = String::from_str(alloc, name)?;
-        days = days.saturating_add(1);
-        if !try_day(rt, name.as_str())? {
-            differ = differ.saturating_add(1);
-        }
+    match ways_of(rt.alloc(), day) {
+        Ok(ways) => try_each(rt, rt.alloc(), name, day, &ways),
+        Err(error) => tell_error(rt, name, &error),
     }
-    tell_tally(rt, "day", days, differ)
+}
+
+/// Reads a day, runs it in each way, and tells of a difference. Answers whether there is none.
+pub fn try_day<Rt: Files + Print + AllocGlobal + Threads + Sync>(
+    rt: &Rt,
+    name: &str,
+) -> io::Result<bool> {
+    match read(rt, name) {
+        Ok(day) => try_ways(rt, name, &day),
+        Err(error) => tell_error(rt, name, &error),
+    }
 }

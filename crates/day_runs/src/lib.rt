@@ -2,7 +2,9 @@
 //! what a command answers are compared in the same way.
 #![tactic(auto)]
 
+mod compared;
 mod day;
+mod files;
 mod folder;
 mod published;
 mod replies;
@@ -15,5 +17,5 @@ mod tally;
 mod text;
 mod way;
 
-pub use folder::agree;
-pub use said::{Command, files_agree};
+pub use compared::{agree, files_agree};
+pub use said::Command;

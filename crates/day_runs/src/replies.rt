@@ -1,31 +1,35 @@
 //! The replies of a standby as lines.
 
-use crate::published::printed;
-use crate::text::DayError;
+use crate::published::add_printed;
+use crate::text::{DayError, push_line};
 use standby_core::get_have;
 use std::alloc::Global;
 
-/// The line of a frame that a standby sent.
-fn line_of(alloc: Global, frame: &[u8]) -> Result<String, DayError> {
+/// Puts the line of a Have behind a text.
+fn add_have(alloc: Global, text: &mut String, count: u64) -> Result<(), DayError> {
+    let line = format!(in alloc; "have {count}")?;
+    Ok(push_line(text, &line)?)
+}
+
+/// Puts the line of a frame that a standby sent behind a text.
+fn add_reply(alloc: Global, text: &mut String, frame: &[u8]) -> Result<(), DayError> {
     match get_have(frame.get(1..).unwrap_or(&[])) {
-        Ok(count) => Ok(format!(in alloc; "have {count}\n")?),
-        Err(_) => printed(alloc, frame),
+        Ok(count) => add_have(alloc, text, count),
+        Err(_) => add_printed(alloc, text, frame),
     }
 }
 
-/// A line for each frame that a standby sent, of which each has a byte at least.
-pub fn reply_lines(alloc: Global, sent: &[u8]) -> Result<String, DayError> {
-    let mut text = String::new(alloc);
+/// Puts a line for each frame that a standby sent behind a text, of which each has a byte at least.
+pub fn add_replies(alloc: Global, text: &mut String, sent: &[u8]) -> Result<(), DayError> {
     let mut rest = sent;
     for _ in 0..sent.len() {
         let Some(len) = rest.first() else {
-            return Ok(text);
+            return Ok(());
         };
         let whole = usize::from(*len).saturating_add(1).min(rest.len());
         let (frame, later) = rest.split_at(whole);
-        let line = line_of(alloc, frame)?;
-        text.push_str(&line)?;
+        add_reply(alloc, text, frame)?;
         rest = later;
     }
-    Ok(text)
+    Ok(())
 }

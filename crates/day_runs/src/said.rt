@@ -1,22 +1,23 @@
 //! Files that say what a command answers.
 
 use crate::day::Day;
-use crate::published::{packed, text_of};
-use crate::replies::reply_lines;
-use crate::tally::{tell_difference, tell_tally};
-use crate::text::DayError;
-use crate::way::journal;
+use crate::files::read_file;
+use crate::published::{add_text, packed};
+use crate::replies::add_replies;
+use crate::tally::{tell_difference, tell_error};
+use crate::text::{DayError, push_line};
+use crate::way::over_journal;
 use command_core::{run, tell};
 use host_core::{Status, Stream};
 use memory_host::MemoryHost;
 use std::alloc::Global;
+use std::io;
 use std::rt::Files;
 use std::thread::Threads;
-use std::{fs, io};
 use yard_core::OpenGate;
 
 /// A command that reads an input, and maybe an empty journal.
-#[derive(Clone, Copy, Debug)]
+#[derive(Clone, Copy)]
 pub enum Command {
     /// Of `audits/NAME.published.lines`, whose frames it reads, `audits/NAME.audit` says what it answers.
     Audit,
@@ -24,20 +25,6 @@ pub enum Command {
     Cross,
     /// Of the Parts in `standbys/NAME.lines`, which an empty journal takes, `standbys/NAME.replies` says what it replies.
     Standby,
-}
-
-/// What a command reads.
-#[derive(Debug, Drop)]
-struct Read {
-    input: Vec<u8>,
-    disk: Vec<u8>,
-}
-
-/// What a file says that a command answers, and what it answers.
-#[derive(Debug, Drop)]
-struct Said {
-    stated: String,
-    given: String,
 }
 
 impl Command {
@@ -51,7 +38,7 @@ impl Command {
     }
 
     /// What each of its files says, in a word.
-    fn kind(self) -> &'static str {
+    pub fn kind(self) -> &'static str {
         match self {
             Command::Audit => "audit",
             Command::Cross => "auction",
@@ -60,7 +47,7 @@ impl Command {
     }
 
     /// The folder that has its files.
-    fn folder(self) -> &'static str {
+    pub fn folder(self) -> &'static str {
         match self {
             Command::Audit => "audits",
             Command::Cross => "crosses",
@@ -69,7 +56,7 @@ impl Command {
     }
 
     /// How the name of a file ends that says what it answers.
-    fn ending(self) -> &'static str {
+    pub fn ending(self) -> &'static str {
         match self {
             Command::Audit => ".audit",
             Command::Cross => ".cross",
@@ -85,106 +72,92 @@ impl Command {
         }
     }
 
-    /// What it reads of a file.
-    fn read(self, alloc: Global, text: &str) -> Result<Read, DayError> {
+    /// A host over what it reads of a file.
+    fn host(self, alloc: Global, text: &str) -> Result<MemoryHost, DayError> {
         match self {
-            Command::Audit => Ok(Read {
-                input: packed(alloc, text)?,
-                disk: Vec::new(alloc),
-            }),
-            Command::Cross => Ok(Read {
-                input: Vec::from_slice(alloc, text.as_bytes())?,
-                disk: Vec::new(alloc),
-            }),
+            Command::Audit => packed(alloc, text),
+            Command::Cross => Ok(MemoryHost::new(alloc, text.as_bytes(), b"")?),
             Command::Standby => {
                 let day = Day::of(alloc, text, String::new(alloc))?;
-                Ok(Read {
-                    disk: journal(alloc, day.limit)?,
-                    input: day.input,
-                })
+                over_journal(alloc, &day.input, day.limit)
             }
         }
     }
 
-    /// The lines of what it sent.
-    fn lines(self, alloc: Global, sent: &[u8]) -> Result<String, DayError> {
+    /// Puts the lines of what it sent behind a text.
+    fn add_sent(self, alloc: Global, text: &mut String, sent: &[u8]) -> Result<(), DayError> {
         match self {
-            Command::Audit | Command::Cross => text_of(alloc, sent),
-            Command::Standby => reply_lines(alloc, sent),
+            Command::Audit | Command::Cross => add_text(text, sent),
+            Command::Standby => add_replies(alloc, text, sent),
         }
     }
 }
 
-/// What a command sends for what it reads, and behind it the line on standard error and the exit code of another end than Done.
+/// Puts the line on standard error of an end behind a text.
+fn add_told(alloc: Global, text: &mut String, status: Status) -> Result<(), DayError> {
+    let mut told = Vec::new(alloc);
+    tell(&mut Stream::new(&mut told), status)?;
+    add_text(text, &told)
+}
+
+/// Puts the exit code of an end behind a text.
+fn add_code(alloc: Global, text: &mut String, status: Status) -> Result<(), DayError> {
+    let line = format!(in alloc; "exit {}", status.code())?;
+    Ok(push_line(text, &line)?)
+}
+
+/// Puts behind a text what a command sends for what a host reads, and then the line on standard error and the exit code of another
+/// end than Done.
 fn answer<Rt: Threads + Sync>(
     rt: &Rt,
     alloc: Global,
     command: Command,
-    read: &Read,
-) -> Result<String, DayError> {
-    let mut host = MemoryHost::new(alloc, &read.input, &read.disk)?;
-    let status = run(rt, alloc, &command.words(), &mut host, &OpenGate);
-    let sent = command.lines(alloc, host.sent())?;
+    host: &mut MemoryHost,
+    text: &mut String,
+) -> Result<(), DayError> {
+    let status = run(rt, alloc, &command.words(), host, &OpenGate);
+    command.add_sent(alloc, text, host.sent())?;
     if status == Status::Done {
-        return Ok(sent);
+        return Ok(());
     }
-    let mut told = Vec::new(alloc);
-    tell(&mut Stream::new(&mut told), status)?;
-    let told = text_of(alloc, &told)?;
-    Ok(format!(in alloc; "{sent}{told}exit {}\n", status.code())?)
+    add_told(alloc, text, status)?;
+    add_code(alloc, text, status)
 }
 
-/// What a file says that a command answers of another file, and what it answers.
-fn said_of<Rt: Files + AllocGlobal + Threads + Sync>(
+/// Puts behind a text what a command answers of a file.
+fn answer_file<Rt: Files + AllocGlobal + Threads + Sync>(
     rt: &Rt,
     command: Command,
     name: &str,
-) -> Result<Said, DayError> {
-    let alloc = rt.alloc();
-    let folder = command.folder();
-    let input = format!(in alloc; "{folder}/{name}{}", command.input_ending())?;
-    let stated = format!(in alloc; "{folder}/{name}{}", command.ending())?;
-    let input = fs::read_to_string(rt, input.as_str())?;
-    let read = command.read(alloc, &input)?;
-    Ok(Said {
-        stated: fs::read_to_string(rt, stated.as_str())?,
-        given: answer(rt, alloc, command, &read)?,
-    })
+    text: &mut String,
+) -> Result<(), DayError> {
+    let input = read_file(rt, command.folder(), name, command.input_ending())?;
+    let mut host = command.host(rt.alloc(), &input)?;
+    answer(rt, rt.alloc(), command, &mut host, text)
+}
+
+/// Compares what a command answers with what a file says. Answers whether it is the same.
+fn compare<Rt: Files + Print + AllocGlobal + Threads + Sync>(
+    rt: &Rt,
+    command: Command,
+    name: &str,
+    stated: &str,
+) -> io::Result<bool> {
+    let mut given = String::new(rt.alloc());
+    match answer_file(rt, command, name, &mut given) {
+        Ok(()) => tell_difference(rt, name, stated, &given),
+        Err(error) => tell_error(rt, name, &error),
+    }
 }
 
 /// Tells of the first line in which a command answers something else than a file says. Answers whether there is none.
-fn try_file<Rt: Files + Print + AllocGlobal + Threads + Sync>(
+pub fn try_file<Rt: Files + Print + AllocGlobal + Threads + Sync>(
     rt: &Rt,
     command: Command,
     name: &str,
 ) -> io::Result<bool> {
-    match said_of(rt, command, name) {
-        Ok(said) => tell_difference(rt, name, &said.stated, &said.given),
-        Err(error) => {
-            println!(rt; "{name}: {error}")?;
-            Ok(false)
-        }
+    match read_file(rt, command.folder(), name, command.ending()) {
+        Ok(stated) => compare(rt, command, name, &stated),
+        Err(error) => tell_error(rt, name, &error),
     }
-}
-
-/// Compares what a command answers with each file that says so, in its folder of the one that the program runs in. It tells of
-/// each difference, and then how many there are, or that the files agree. Answers whether there is a file, and none differs.
-pub fn files_agree<Rt: Files + Print + AllocGlobal + Threads + Sync + Clone + Drop>(
-    rt: &Rt,
-    command: Command,
-) -> io::Result<bool> {
-    let alloc = rt.alloc();
-    let (mut files, mut differ) = (0usize, 0usize);
-    for entry in fs::read_dir(rt, command.folder())? {
-        let entry = entry?;
-        let Some(name) = entry.file_name().strip_suffix(command.ending()) else {
-            continue;
-        };
-        let name = String::from_str(alloc, name)?;
-        files = files.saturating_add(1);
-        if !try_file(rt, command, name.as_str())? {
-            differ = differ.saturating_add(1);
-        }
-    }
-    tell_tally(rt, command.kind(), files, differ)
 }

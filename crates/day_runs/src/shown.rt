@@ -1,10 +1,10 @@
 //! Where each symbol stands at the end of a day, as the day's published lines say.
 
-use crate::text::{DayError, is_message};
+use crate::text::{DayError, is_message, push_line};
 use std::alloc::Global;
 
 /// The words of what a symbol shows.
-#[derive(Clone, Copy, Debug)]
+#[derive(Clone, Copy)]
 struct Place<'a> {
     phase: &'a str,
     straddle: &'a str,
@@ -63,6 +63,9 @@ impl<'a> Place<'a> {
 
 /// The kind, the symbol and the further words of a message's line.
 fn parts_of(line: &str) -> Option<(&str, usize, &str)> {
+    if !is_message(line) {
+        return None;
+    }
     let (_, rest) = line.split_once(' ')?;
     let (_, rest) = rest.split_once(' ')?;
     let (kind, rest) = rest.split_once(' ')?;
@@ -73,7 +76,7 @@ fn parts_of(line: &str) -> Option<(&str, usize, &str)> {
 /// What each symbol shows behind these lines, in order of ids.
 fn places<'a>(alloc: Global, served: &'a str) -> Result<Vec<Place<'a>>, DayError> {
     let mut places = Vec::new(alloc);
-    for line in served.lines().filter(|line| is_message(line)) {
+    for line in served.lines() {
         let Some((kind, symbol, words)) = parts_of(line) else {
             continue;
         };
@@ -87,15 +90,24 @@ fn places<'a>(alloc: Global, served: &'a str) -> Result<Vec<Place<'a>>, DayError
     Ok(places)
 }
 
-/// The lines of a board behind the messages of a day.
-pub fn board_lines(alloc: Global, served: &str) -> Result<String, DayError> {
-    let mut text = String::new(alloc);
+/// Puts the line of what a symbol shows behind a text.
+fn add_place(
+    alloc: Global,
+    text: &mut String,
+    symbol: usize,
+    place: &Place<'_>,
+) -> Result<(), DayError> {
+    let line = format!(in alloc;
+        "{symbol} {} {} {} {} {}",
+        place.phase, place.straddle, place.restriction, place.lower, place.upper
+    )?;
+    Ok(push_line(text, &line)?)
+}
+
+/// Puts the lines of a board behind the messages of a day behind a text.
+pub fn add_board(alloc: Global, text: &mut String, served: &str) -> Result<(), DayError> {
     for (symbol, place) in places(alloc, served)?.iter().enumerate() {
-        let line = format!(in alloc;
-            "{symbol} {} {} {} {} {}\n",
-            place.phase, place.straddle, place.restriction, place.lower, place.upper
-        )?;
-        text.push_str(&line)?;
+        add_place(alloc, text, symbol, place)?;
     }
-    Ok(text)
+    Ok(())
 }

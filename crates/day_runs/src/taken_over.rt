@@ -1,10 +1,9 @@
 //! A day that goes on over a second journal.
 
 use crate::day::Day;
-use crate::published::printed;
-use crate::stated::cut_behind;
+use crate::published::add_printed;
 use crate::text::DayError;
-use crate::way::{Outcome, bytes_of, journal};
+use crate::way::{over_journal, split_behind};
 use command_core::run;
 use host_core::Status;
 use memory_host::MemoryHost;
@@ -12,44 +11,52 @@ use std::alloc::Global;
 use std::thread::Threads;
 use yard_core::OpenGate;
 
-/// How a run ended, what it sent, and the disk that it left.
-#[derive(Drop)]
-struct Run {
-    end: Status,
-    sent: Vec<u8>,
-    disk: Vec<u8>,
+/// Does a command. Answers whether it ends well.
+fn does<Rt: Threads + Sync>(rt: &Rt, alloc: Global, words: &[&str], host: &mut MemoryHost) -> bool {
+    run(rt, alloc, words, host, &OpenGate) == Status::Done
 }
 
-/// Does a command over an input and a disk.
-fn done<Rt: Threads + Sync>(
+/// Whether a standby takes what a host reads to a good end, and its journal then has the bytes of the first one.
+fn takes_over<Rt: Threads + Sync>(
     rt: &Rt,
     alloc: Global,
-    words: &[&str],
-    input: &[u8],
+    host: &mut MemoryHost,
+    first: &[u8],
+) -> bool {
+    does(rt, alloc, &["standby"], host) && host.disk() == first
+}
+
+/// Serves frames over a journal from message 1 on. Answers whether that ends well.
+fn serve_on<Rt: Threads + Sync>(
+    rt: &Rt,
+    alloc: Global,
+    frames: &[u8],
     disk: &[u8],
-) -> Result<Run, DayError> {
-    let mut host = MemoryHost::new(alloc, input, disk)?;
-    let end = run(rt, alloc, words, &mut host, &OpenGate);
-    Ok(Run {
-        end,
-        sent: Vec::from_slice(alloc, host.sent())?,
-        disk: Vec::from_slice(alloc, host.disk())?,
-    })
+    sent: &mut String,
+) -> Result<bool, DayError> {
+    let mut host = MemoryHost::new(alloc, frames, disk)?;
+    let is_done = does(rt, alloc, &["serve", "--from", "1"], &mut host);
+    add_printed(alloc, sent, host.sent())?;
+    Ok(is_done)
 }
 
-/// Ships a journal to a second one, which is made anew. It answers the run of the standby, none where its disk isn't that of the first.
-fn second_of<Rt: Threads + Sync>(
+/// Ships a first journal to a second one, which is made anew, and serves frames over that from message 1 on. Answers whether all
+/// that ends well; no frame is served where the second one hasn't the bytes of the first.
+fn go_on<Rt: Threads + Sync>(
     rt: &Rt,
     alloc: Global,
-    first: &Run,
-) -> Result<Option<Run>, DayError> {
-    let shipped = done(rt, alloc, &["ship"], b"", &first.disk)?;
-    let made = journal(alloc, None)?;
-    let second = done(rt, alloc, &["standby"], &shipped.sent, &made)?;
-    let is_same = shipped.end == Status::Done
-        && second.end == Status::Done
-        && second.disk == first.disk;
-    Ok(is_same.then_some(second))
+    first: &[u8],
+    frames: &[u8],
+    sent: &mut String,
+) -> Result<bool, DayError> {
+    let mut ships = MemoryHost::new(alloc, b"", first)?;
+    let is_shipped = does(rt, alloc, &["ship"], &mut ships);
+    let mut second = over_journal(alloc, ships.sent(), None)?;
+    if takes_over(rt, alloc, &mut second, first) && is_shipped {
+        serve_on(rt, alloc, frames, second.disk(), sent)
+    } else {
+        Ok(false)
+    }
 }
 
 /// Serves the first frames of a day, ships the journal to a second one, and serves the others over that, from message 1 on.
@@ -58,27 +65,11 @@ pub fn serve_second<Rt: Threads + Sync>(
     alloc: Global,
     day: &Day,
     frames: usize,
-) -> Result<Outcome, DayError> {
-    let bytes = bytes_of(&day.input, frames);
-    let made = journal(alloc, None)?;
-    let before = day.input.get(..bytes).unwrap_or(&[]);
-    let first = done(rt, alloc, &["serve"], before, &made)?;
-    let cut = cut_behind(alloc, &day.served, frames)?;
-    let stated = format!(in alloc; "{}{}", cut.first, cut.then)?;
-    let lines = printed(alloc, &first.sent)?;
-    let Some(second) = second_of(rt, alloc, &first)? else {
-        return Ok(Outcome {
-            ends_as_stated: false,
-            stated,
-            sent: lines,
-        });
-    };
-    let behind = day.input.get(bytes..).unwrap_or(&[]);
-    let then = done(rt, alloc, &["serve", "--from", "1"], behind, &second.disk)?;
-    let then_lines = printed(alloc, &then.sent)?;
-    Ok(Outcome {
-        ends_as_stated: first.end == Status::Done && then.end == Status::Done,
-        stated,
-        sent: format!(in alloc; "{lines}{then_lines}")?,
-    })
+    sent: &mut String,
+) -> Result<bool, DayError> {
+    let (before, behind) = split_behind(&day.input, frames);
+    let mut first = over_journal(alloc, before, None)?;
+    let is_done = does(rt, alloc, &["serve"], &mut first);
+    add_printed(alloc, sent, first.sent())?;
+    Ok(go_on(rt, alloc, first.disk(), behind, sent)? && is_done)
 }

@@ -1,6 +1,6 @@
 //! What is told of things that were compared.
 
-use crate::text::first_difference;
+use crate::text::{DayError, first_difference};
 use std::io;
 
 /// Tells of the first line in which a text that was sent differs from the one that is stated. Answers whether there is none.
@@ -13,9 +13,18 @@ pub fn tell_difference<Rt: Print>(
     let Some(found) = first_difference(stated, sent) else {
         return Ok(true);
     };
-    println!(rt; "{name}: line {}", found.line)?;
-    println!(rt; "  stated: {}", found.stated.unwrap_or("nothing"))?;
-    println!(rt; "  sent:   {}", found.sent.unwrap_or("nothing"))?;
+    let stated = found.stated.unwrap_or("nothing");
+    let sent = found.sent.unwrap_or("nothing");
+    println!(rt;
+        "{name}: line {}\n  stated: {stated}\n  sent:   {sent}",
+        found.line
+    )?;
+    Ok(false)
+}
+
+/// Tells why something can't be compared.
+pub fn tell_error<Rt: Print>(rt: &Rt, name: &str, error: &DayError) -> io::Result<bool> {
+    println!(rt; "{name}: {error}")?;
     Ok(false)
 }
 

@@ -65,13 +65,18 @@ pub fn is_refusal(line: &str) -> bool {
     line.starts_with("refused ")
 }
 
+/// Whether a line answers a frame.
+pub fn is_answer(line: &str) -> bool {
+    is_ack(line) || is_refusal(line)
+}
+
 /// Whether a line is a numbered message.
 pub fn is_message(line: &str) -> bool {
-    !is_greeting(line) && !is_ack(line) && !is_refusal(line)
+    !is_greeting(line) && !is_answer(line)
 }
 
 /// The first line in which two texts differ.
-#[derive(Clone, Copy, Debug)]
+#[derive(Clone, Copy)]
 pub struct Difference<'a> {
     /// Its number, from 1 on.
     pub line: usize,
