@@ -1,9 +1,10 @@
 //! A journal that begins with a base: what stands before it is counted, and neither read nor sent again.
 
 use super::bytes::{ACK_3, DAY, VALUES};
-use super::{WORKERS, runs};
+use super::{WORKERS, joined, left_by, runs};
 use host_core::Status;
-use std::test::Fail;
+use std::process::Abort;
+use std::thread::Threads;
 
 /// A journal of the second version that takes 5 records, and a batch whose frame says none.
 const FIRST: &[u8] =
@@ -22,25 +23,24 @@ const BREAKER: &[u8] = b"\x16\x18\0\0\0\0\0\0\0\x0a\0\0\x20\xbd\xe7\x36\x40\0\x0
 
 const ACK_4: &[u8] = b"\x09\x82\0\0\0\0\0\0\0\x04";
 
-#[test]
-fn what_stands_before_a_base_is_counted_and_not_read(rt: HostRuntime) -> Result<(), Fail> {
-    let disk = [FIRST, BASE, DAY, b"\0\0\0\0\0"].concat(rt.alloc())?;
-    let answers = [HELLO_2, ACK_3, BREAKER, ACK_4].concat(rt.alloc())?;
-    let again = [BREAKER, HELLO_4].concat(rt.alloc())?;
-    let text = b"inputs 4\nmessages 10\nlimit 5\nday 2024-06-03\nnames 0\n";
-    let kept = runs(&rt, &["serve"], &disk, VALUES, &answers, Status::Done)?;
-    runs(&rt, &["status"], &kept, b"", text, Status::Done)?;
+/// What is told of the journal at the end.
+const TOLD: &[u8] = b"inputs 4\nmessages 10\nlimit 5\nday 2024-06-03\nnames 0\n";
+
+/// Sessions over a journal are sent this, whether they ask from the message 10 on or for all, and by each number of workers.
+fn expect_again<Rt: Abort + AllocGlobal + Threads + Sync>(rt: &Rt, disk: &[u8], sent: &[u8]) {
     for workers in WORKERS {
         let words = ["serve", "--from", "10", "--workers", workers];
-        runs(&rt, &words, &kept, b"", &again, Status::Done)?;
+        runs(rt, &words, disk, b"", sent, Status::Done);
     }
-    runs(
-        &rt,
-        &["serve", "--from", "1"],
-        &kept,
-        b"",
-        &again,
-        Status::Done,
-    )?;
-    Ok(())
+    let words = ["serve", "--from", "1"];
+    runs(rt, &words, disk, b"", sent, Status::Done);
+}
+
+#[test]
+fn what_stands_before_a_base_is_counted_and_not_read(rt: HostRuntime) {
+    let disk = joined(&rt, &[FIRST, BASE, DAY, b"\0\0\0\0\0"]);
+    let answers = joined(&rt, &[HELLO_2, ACK_3, BREAKER, ACK_4]);
+    let kept = left_by(&rt, &["serve"], &disk, VALUES, &answers, Status::Done);
+    runs(&rt, &["status"], &kept, b"", TOLD, Status::Done);
+    expect_again(&rt, &kept, &joined(&rt, &[BREAKER, HELLO_4]));
 }

@@ -1,15 +1,17 @@
 //! A generated day, sent as frames and summed up.
 
 use super::morning::sent_by;
-use super::{run, runs};
+use super::{joined, runs};
 use host_core::Status;
-use memory_host::MemoryHost;
-use std::alloc::Global;
-use std::test::Fail;
+use std::process::Abort;
+
+/// What is printed of a day of two symbols without records.
+const PRINTED: &str = "day 04:00:00.000000000 2024-06-03 regular since18 5000.00\n\
+    listing 04:00:00.000000000 S00000 tier1 10 20.0000\n\
+    listing 04:00:00.000000000 S00001 tier2 10 20.0100\n";
 
 #[test]
-fn a_generated_day_is_sent_and_printed(rt: HostRuntime) -> Result<(), Fail> {
-    let mut host = MemoryHost::new(rt.alloc(), b"unread", b"")?;
+fn a_generated_day_is_sent_and_printed(rt: HostRuntime) {
     let words = [
         "generate",
         "--records",
@@ -19,28 +21,19 @@ fn a_generated_day_is_sent_and_printed(rt: HostRuntime) -> Result<(), Fail> {
         "--seed",
         "0",
     ];
-    let end = run(&rt, rt.alloc(), &words, &mut host);
-    assert!(rt; end == Status::Done);
-    let lines = "day 04:00:00.000000000 2024-06-03 regular since18 5000.00\n\
-        listing 04:00:00.000000000 S00000 tier1 10 20.0000\n\
-        listing 04:00:00.000000000 S00001 tier2 10 20.0100\n";
+    let frames = sent_by(&rt, &words, b"", b"unread");
     let print = ["print", "--kind", "records"];
-    runs(
-        &rt,
-        &print,
-        b"",
-        host.sent(),
-        lines.as_bytes(),
-        Status::Done,
-    )?;
-    Ok(())
+    let lines = PRINTED.as_bytes();
+    runs(&rt, &print, b"", &frames, lines, Status::Done);
 }
 
+/// The sums of a day of two symbols and six records.
+const SUMS: &str =
+    "records 9\nrefused 0\nmessages 4\nlisted 2\nstate 2\nband 0\nstraddle 0\ncollar 0\n\
+    release 0\nshort 0\nbreaker 0\nmarketresume 0\n";
+
 #[test]
-fn a_generated_day_is_summed_up(rt: HostRuntime) -> Result<(), Fail> {
-    let lines =
-        "records 9\nrefused 0\nmessages 4\nlisted 2\nstate 2\nband 0\nstraddle 0\ncollar 0\n\
-        release 0\nshort 0\nbreaker 0\nmarketresume 0\n";
+fn a_generated_day_is_summed_up(rt: HostRuntime) {
     for workers in ["1", "2", "64"] {
         let words = [
             "generate",
@@ -52,9 +45,8 @@ fn a_generated_day_is_summed_up(rt: HostRuntime) -> Result<(), Fail> {
             workers,
             "--summary",
         ];
-        runs(&rt, &words, b"", b"", lines.as_bytes(), Status::Done)?;
+        runs(&rt, &words, b"", b"", SUMS.as_bytes(), Status::Done);
     }
-    Ok(())
 }
 
 /// The words of a summary for the types of messages, in the order of the types from 0x11 on.
@@ -107,27 +99,32 @@ pub(super) fn messages_of(sent: &[u8]) -> u32 {
     all
 }
 
-/// What a summary says of messages that were sent.
-fn summed_up(alloc: Global, sent: &[u8]) -> Result<String, Fail> {
-    let of_type = counts_of(sent);
-    let mut lines = String::new(alloc);
-    for place in 0..9usize {
-        let (word, count) = (WORDS[place], of_type[place]);
-        lines.push_str(format!(in alloc; "{word} {count}\n")?.as_str())?;
-    }
-    let all = messages_of(sent);
-    Ok(format!(in alloc; "messages {all}\n{lines}")?)
+/// A line of a summary.
+fn line<R: Abort + AllocGlobal>(rt: &R, word: &str, count: u32) -> String {
+    format!(in rt.alloc(); "{word} {count}\n").expect(rt, "memory for a line")
 }
 
+/// What a summary says of messages that were sent.
+fn summed_up<R: Abort + AllocGlobal>(rt: &R, sent: &[u8]) -> String {
+    let of_type = counts_of(sent);
+    let mut lines = line(rt, "messages", messages_of(sent));
+    for place in 0..9usize {
+        let sum = line(rt, WORDS[place], of_type[place]);
+        lines.push_str(&sum).expect(rt, "memory for lines");
+    }
+    lines
+}
+
+/// How a summary of a day of 20 symbols and 20,000 records begins.
+const COUNTED: &[u8] = b"records 20021\nrefused 0\n";
+
 #[test]
-fn a_replay_of_a_generated_day_gives_the_messages_that_its_summary_counts(
-    rt: HostRuntime,
-) -> Result<(), Fail> {
+fn a_replay_of_a_generated_day_gives_the_messages_that_its_summary_counts(rt: HostRuntime) {
     let day = ["generate", "--symbols", "20", "--records", "20000"];
-    let frames = sent_by(&rt, &day, b"", b"")?;
-    let replayed = sent_by(&rt, &["replay"], b"", &frames)?;
-    let lines = summed_up(rt.alloc(), &replayed)?;
-    let wanted = [b"records 20021\nrefused 0\n".as_slice(), lines.as_bytes()].concat(rt.alloc())?;
+    let frames = sent_by(&rt, &day, b"", b"");
+    let replayed = sent_by(&rt, &["replay"], b"", &frames);
+    let lines = summed_up(&rt, &replayed);
+    let wanted = joined(&rt, &[COUNTED, lines.as_bytes()]);
     let summary = [
         "generate",
         "--symbols",
@@ -136,6 +133,5 @@ fn a_replay_of_a_generated_day_gives_the_messages_that_its_summary_counts(
         "20000",
         "--summary",
     ];
-    assert!(rt; sent_by(&rt, &summary, b"", b"")? == wanted);
-    Ok(())
+    runs(&rt, &summary, b"", b"", &wanted, Status::Done);
 }

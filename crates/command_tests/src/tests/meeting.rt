@@ -1,17 +1,16 @@
 //! Two workers are at work at once.
 
-use super::{fresh, run, runs};
+use super::morning::sent_by;
+use super::{fresh, host, joined, left_by, put, session, session_over};
 use host_core::Status;
 use memory_host::MemoryHost;
 use session_core::Level;
-use std::alloc::Global;
 use std::process::Abort;
 use std::sync::atomic::AtomicBool;
 use std::sync::atomic::Ordering::SeqCst;
-use std::test::Fail;
 use std::thread::Threads;
 use test_days::Session;
-use test_days::lines::{Line, at, breaker, clock, day, tick};
+use test_days::lines::{at, breaker, clock, day, tick};
 use yard_core::Gate;
 
 /// Two pieces, each of which raises its own flag at the gate and looks for the other's.
@@ -35,19 +34,20 @@ impl Gate for Meeting {
 }
 
 /// The day of the fall with 4,000 clocks before it. Behind two short pieces, so many records are worked by threads.
-fn long_fall(alloc: Global) -> Result<Vec<Line>, Fail> {
+fn long_fall<R: Abort + AllocGlobal>(rt: &R) -> Session {
     let t = at(10, 0, 0);
-    let mut lines = Vec::new(alloc);
-    lines.extend_from_slice(&[day(3)])?;
+    let mut lines = Vec::new(rt.alloc());
+    put(rt, &mut lines, &[day(3)]);
     for _clock in 0..4_000u32 {
-        lines.extend_from_slice(&[clock(at(9, 30, 0))])?;
+        put(rt, &mut lines, &[clock(at(9, 30, 0))]);
     }
-    lines.extend_from_slice(&[
+    let values = [
         tick(t, 465_001),
         tick(t, 465_000),
         breaker(Level::One, 465_000),
-    ])?;
-    Ok(lines)
+    ];
+    put(rt, &mut lines, &values);
+    session(rt, &lines)
 }
 
 impl Meeting {
@@ -58,6 +58,22 @@ impl Meeting {
             met: [AtomicBool::new(false), AtomicBool::new(false)],
         }
     }
+
+    /// Whether each piece has seen the other.
+    fn has_met(&self) -> bool {
+        self.met[0].load(SeqCst) && self.met[1].load(SeqCst)
+    }
+}
+
+/// Whether the words are done over a host by two workers that meet.
+fn has_met<Rt: AllocGlobal + Threads + Sync>(
+    rt: &Rt,
+    words: &[&str],
+    host: &mut MemoryHost,
+) -> bool {
+    let gate = Meeting::new();
+    let end = command_core::run(rt, rt.alloc(), words, host, &gate);
+    end == Status::Done && gate.has_met()
 }
 
 /// Does what the words say by two workers that look for each other, and compares what is sent.
@@ -67,63 +83,60 @@ fn meets<Rt: Abort + AllocGlobal + Threads + Sync>(
     disk: &[u8],
     input: &[u8],
     sent: &[u8],
-) -> Result<(), Fail> {
-    let gate = Meeting::new();
-    let mut host = MemoryHost::new(rt.alloc(), input, disk)?;
-    let end = command_core::run(rt, rt.alloc(), words, &mut host, &gate);
-    let have_met = gate.met[0].load(SeqCst) && gate.met[1].load(SeqCst);
-    let is_sent = host.sent() == sent;
-    assert!(rt; end == Status::Done && is_sent && have_met, "of {words:?}");
-    Ok(())
+) {
+    let mut host = host(rt, input, disk);
+    let has_met = has_met(rt, words, &mut host);
+    assert!(rt; has_met && host.sent() == sent);
 }
 
 #[test]
-fn two_pieces_of_a_replay_meet(rt: HostRuntime) -> Result<(), Fail> {
-    let session = Session::of(rt.alloc(), &long_fall(rt.alloc())?)?;
+fn two_pieces_of_a_replay_meet(rt: HostRuntime) {
+    let day = long_fall(&rt);
     let words = ["replay", "--workers", "2"];
-    meets(&rt, &words, b"", &session.input, &session.replayed)
+    meets(&rt, &words, b"", &day.input, &day.replayed);
 }
 
 /// What a session that asks for all messages again is sent over a journal of the long fall.
-fn again(alloc: Global, breaker: &[u8]) -> Result<Vec<u8>, Fail> {
-    let hello = Session::over(alloc, 4_003, 1, &[])?.served;
-    Ok([breaker, hello.as_slice()].concat(alloc)?)
+fn again<R: Abort + AllocGlobal>(rt: &R, breaker: &[u8]) -> Vec<u8> {
+    let hello = session_over(rt, 4_003, 1, &[]);
+    joined(rt, &[breaker, hello.served.as_slice()])
 }
 
-/// Two pieces meet where a session starts over the journal of another.
-fn meets_behind<Rt: Abort + AllocGlobal + Threads + Sync>(
-    rt: &Rt,
-    session: &Session,
-) -> Result<(), Fail> {
-    let (input, served) = (&session.input, &session.served);
-    let disk = runs(rt, &["serve"], &fresh(rt)?, input, served, Status::Done)?;
-    let sent = again(rt.alloc(), &session.replayed)?;
+#[test]
+fn two_pieces_of_a_journal_meet_where_a_session_starts(rt: HostRuntime) {
+    let day = long_fall(&rt);
+    let (input, served) = (day.input.as_slice(), day.served.as_slice());
+    let empty = fresh(&rt);
+    let disk = left_by(&rt, &["serve"], &empty, input, served, Status::Done);
     let words = ["serve", "--workers", "2", "--from", "1"];
-    meets(rt, &words, &disk, b"", &sent)
+    meets(&rt, &words, &disk, b"", &again(&rt, &day.replayed));
 }
 
-#[test]
-fn two_pieces_of_a_journal_meet_where_a_session_starts(rt: HostRuntime) -> Result<(), Fail> {
-    let session = Session::of(rt.alloc(), &long_fall(rt.alloc())?)?;
-    meets_behind(&rt, &session)
-}
+/// The words of a summary by one worker and by two.
+const BY_ONE: &[&str] = &[
+    "generate",
+    "--summary",
+    "--symbols",
+    "20",
+    "--records",
+    "20000",
+    "--workers",
+    "1",
+];
+
+const BY_TWO: &[&str] = &[
+    "generate",
+    "--summary",
+    "--symbols",
+    "20",
+    "--records",
+    "20000",
+    "--workers",
+    "2",
+];
 
 #[test]
-fn two_pieces_of_a_summary_meet(rt: HostRuntime) -> Result<(), Fail> {
-    let words = [
-        "generate",
-        "--summary",
-        "--symbols",
-        "20",
-        "--records",
-        "20000",
-        "--workers",
-        "1",
-    ];
-    let mut alone = MemoryHost::new(rt.alloc(), b"", b"")?;
-    let end = run(&rt, rt.alloc(), &words, &mut alone);
-    assert!(rt; end == Status::Done);
-    let mut by_two = words;
-    by_two[7] = "2";
-    meets(&rt, &by_two, b"", b"", alone.sent())
+fn two_pieces_of_a_summary_meet(rt: HostRuntime) {
+    let alone = sent_by(&rt, BY_ONE, b"", b"");
+    meets(&rt, BY_TWO, b"", b"", &alone);
 }

@@ -1,73 +1,84 @@
 //! A morning of many stocks.
 
-use super::{fresh, run};
+use super::{copied, fresh, host, put, run, runs, session};
 use host_core::Status;
-use memory_host::MemoryHost;
 use price_core::Tier;
 use session_core::Moment;
-use std::alloc::Global;
 use std::process::Abort;
-use std::test::Fail;
 use std::thread::Threads;
-use test_days::Session;
 use test_days::lines::{Line, at, clock, day, listing_of, name_of, quote_of, tick, trade_of};
 
 /// How many stocks are listed.
 const STOCKS: u16 = 500;
 
 /// The moment that many seconds after 09:30:00.
-fn after_open(seconds: u64) -> Result<Moment, Fail> {
+fn after_open<R: Abort>(rt: &R, seconds: u64) -> Moment {
     let nanos = seconds.min(20_000) * 1_000_000_000 + 34_200_000_000_000;
-    Ok(Moment::new(nanos)?)
+    Moment::new(nanos).expect(rt, "a moment")
 }
 
 /// What comes for a stock in its second: a quote and a trade.
-fn put_stock(lines: &mut Vec<Line>, symbol: u16, t: Moment) -> Result<(), Fail> {
+fn put_stock<R: Abort>(rt: &R, lines: &mut Vec<Line>, symbol: u16, t: Moment) {
     let of_stock = [
         quote_of(symbol, t, 499_900, 500_100),
         trade_of(symbol, t, 2, 500_500, 0),
     ];
-    Ok(lines.extend_from_slice(&of_stock)?)
+    put(rt, lines, &of_stock);
+}
+
+/// What comes in a second but its clock and a stock's lines: a limit state and a breaker.
+fn put_event<R: Abort>(rt: &R, lines: &mut Vec<Line>, second: u64, t: Moment) {
+    match second {
+        600 => put(rt, lines, &[quote_of(7, t, 474_900, 475_000)]),
+        640 => put(rt, lines, &[tick(t, 465_000)]),
+        _ => {}
+    }
 }
 
 /// What comes in each second from 09:30:01 on: a clock, one stock after the other, a limit state and a breaker.
-fn put_seconds(lines: &mut Vec<Line>) -> Result<(), Fail> {
+fn put_seconds<R: Abort>(rt: &R, lines: &mut Vec<Line>) {
     for second in 1..=9_000u64 {
-        let t = after_open(second)?;
-        lines.extend_from_slice(&[clock(t)])?;
+        let t = after_open(rt, second);
+        put(rt, lines, &[clock(t)]);
         if second <= u64::from(STOCKS) {
-            put_stock(lines, (second - 1) as u16, t)?;
+            put_stock(rt, lines, (second - 1) as u16, t);
         }
-        match second {
-            600 => lines.extend_from_slice(&[quote_of(7, t, 474_900, 475_000)])?,
-            640 => lines.extend_from_slice(&[tick(t, 465_000)])?,
-            _ => {}
-        }
+        put_event(rt, lines, second, t);
     }
-    Ok(())
+}
+
+/// The listing of each stock at 04:00:00.
+fn put_listings<R: Abort>(rt: &R, lines: &mut Vec<Line>) {
+    let early = at(4, 0, 0);
+    for symbol in 0..STOCKS {
+        let listing = listing_of(early, name_of(symbol), Tier::One, 10, 500_000);
+        put(rt, lines, &[listing]);
+    }
+}
+
+/// The opening trade of each stock at 09:30:00.
+fn put_openings<R: Abort>(rt: &R, lines: &mut Vec<Line>) {
+    let open = at(9, 30, 0);
+    for symbol in 0..STOCKS {
+        put(rt, lines, &[trade_of(symbol, open, 1, 500_000, 1)]);
+    }
 }
 
 /// 500 listings and opening trades, a quote and a trade in each, a clock each second from 09:30:00 to 12:00:00, with a limit
 /// state and a breaker. What they give isn't told.
-fn morning(alloc: Global) -> Result<Vec<Line>, Fail> {
-    let (early, open) = (at(4, 0, 0), at(9, 30, 0));
-    let mut lines = Vec::new(alloc);
-    lines.extend_from_slice(&[day(3)])?;
-    let mut trades = Vec::new(alloc);
-    trades.extend_from_slice(&[clock(open)])?;
-    for symbol in 0..STOCKS {
-        let listing = listing_of(early, name_of(symbol), Tier::One, 10, 500_000);
-        lines.extend_from_slice(&[listing])?;
-        trades.extend_from_slice(&[trade_of(symbol, open, 1, 500_000, 1)])?;
-    }
-    lines.extend_from_slice(&trades)?;
-    put_seconds(&mut lines)?;
-    Ok(lines)
+fn morning<R: Abort + AllocGlobal>(rt: &R) -> Vec<Line> {
+    let mut lines = Vec::new(rt.alloc());
+    put(rt, &mut lines, &[day(3)]);
+    put_listings(rt, &mut lines);
+    put(rt, &mut lines, &[clock(at(9, 30, 0))]);
+    put_openings(rt, &mut lines);
+    put_seconds(rt, &mut lines);
+    lines
 }
 
 /// The frames of a session but its greeting and its Acks.
-fn without_acks(alloc: Global, sent: &[u8]) -> Result<Vec<u8>, Fail> {
-    let mut kept = Vec::new(alloc);
+fn without_acks<R: Abort + AllocGlobal>(rt: &R, sent: &[u8]) -> Vec<u8> {
+    let mut kept = Vec::new(rt.alloc());
     let mut left = 0u8;
     let mut keeps = None;
     for byte in sent {
@@ -77,44 +88,38 @@ fn without_acks(alloc: Global, sent: &[u8]) -> Result<Vec<u8>, Fail> {
             continue;
         }
         if keeps.is_none() && *byte < 0x81 {
-            kept.push(left)?;
+            kept.push(left).expect(rt, "memory for frames");
         }
         keeps = keeps.or(Some(*byte < 0x81));
         if keeps == Some(true) {
-            kept.push(*byte)?;
+            kept.push(*byte).expect(rt, "memory for frames");
         }
         left -= 1;
     }
-    Ok(kept)
+    kept
 }
 
-/// What the words make a program send for an input over a disk.
+/// What the words make a program send for an input over a disk, to a good end.
 pub fn sent_by<Rt: Abort + AllocGlobal + Threads + Sync>(
     rt: &Rt,
     words: &[&str],
     disk: &[u8],
     input: &[u8],
-) -> Result<Vec<u8>, Fail> {
-    let mut host = MemoryHost::new(rt.alloc(), input, disk)?;
-    let end = run(rt, rt.alloc(), words, &mut host);
+) -> Vec<u8> {
+    let mut host = host(rt, input, disk);
+    let end = run(rt, words, &mut host);
     assert!(rt; end == Status::Done);
-    Ok(host.sent().to_vec(rt.alloc())?)
+    copied(rt, host.sent())
 }
 
 /// What is served is what is replayed, with a greeting and an Ack of ten bytes for each record.
-fn expect_same<R: Abort + AllocGlobal>(
-    rt: &R,
-    replayed: &[u8],
-    served: &[u8],
-    records: usize,
-) -> Result<(), Fail> {
-    let is_same = without_acks(rt.alloc(), served)?.as_slice() == replayed;
+fn expect_same<R: Abort + AllocGlobal>(rt: &R, replayed: &[u8], served: &[u8], records: usize) {
+    let is_same = without_acks(rt, served).as_slice() == replayed;
     let acks = records.saturating_mul(10).saturating_add(18);
     let is_acknowledged = served.len() == replayed.len().saturating_add(acks);
     // Each stock is listed, opens with bands, is stopped and goes on, one is paused, and one breaker is declared and ends.
     let messages = 500 * (28 + 21 + 45 + 21 + 21) + 21 + 21 + 38 + 23 + 18;
     assert!(rt; is_same && is_acknowledged && replayed.len() == messages);
-    Ok(())
 }
 
 /// A replay and a session by so many workers send this.
@@ -124,31 +129,25 @@ fn expect_by<Rt: Abort + AllocGlobal + Threads + Sync>(
     input: &[u8],
     replayed: &[u8],
     served: &[u8],
-) -> Result<(), Fail> {
-    let disk = fresh(rt)?;
-    let by = sent_by(rt, &["replay", "--workers", workers], b"", input)?;
-    assert!(rt; by.as_slice() == replayed, "replayed by {workers}");
-    let by = sent_by(rt, &["serve", "--workers", workers], &disk, input)?;
-    assert!(rt; by.as_slice() == served, "served by {workers}");
-    Ok(())
+) {
+    let words = ["replay", "--workers", workers];
+    runs(rt, &words, b"", input, replayed, Status::Done);
+    let words = ["serve", "--workers", workers];
+    runs(rt, &words, &fresh(rt), input, served, Status::Done);
 }
 
 /// An input of so many records is served as it is replayed, by one worker, by two and by 64.
-fn expect_morning<Rt: Abort + AllocGlobal + Threads + Sync>(
-    rt: &Rt,
-    input: &[u8],
-    records: usize,
-) -> Result<(), Fail> {
-    let replayed = sent_by(rt, &["replay"], b"", input)?;
-    let served = sent_by(rt, &["serve"], &fresh(rt)?, input)?;
-    expect_same(rt, &replayed, &served, records)?;
-    expect_by(rt, "2", input, &replayed, &served)?;
-    expect_by(rt, "64", input, &replayed, &served)
+fn expect_morning<Rt: Abort + AllocGlobal + Threads + Sync>(rt: &Rt, input: &[u8], records: usize) {
+    let replayed = sent_by(rt, &["replay"], b"", input);
+    let served = sent_by(rt, &["serve"], &fresh(rt), input);
+    expect_same(rt, &replayed, &served, records);
+    expect_by(rt, "2", input, &replayed, &served);
+    expect_by(rt, "64", input, &replayed, &served);
 }
 
 #[test]
-fn a_morning_of_500_stocks_is_served_as_it_is_replayed(rt: HostRuntime) -> Result<(), Fail> {
-    let lines = morning(rt.alloc())?;
-    let session = Session::of(rt.alloc(), &lines)?;
-    expect_morning(&rt, &session.input, lines.len())
+fn a_morning_of_500_stocks_is_served_as_it_is_replayed(rt: HostRuntime) {
+    let lines = morning(&rt);
+    let day = session(&rt, &lines);
+    expect_morning(&rt, &day.input, lines.len());
 }

@@ -1,14 +1,12 @@
 //! The program started over readers, writers and a real file.
 
-use super::{again, fall};
+use super::{again, fall, session, session_over};
 use command_core::{host_of, perform};
-use host_core::{Held, Status, Stream, SystemFiles};
-use std::alloc::Global;
+use host_core::{Held, Host, Status, Stream, SystemFiles};
 use std::io::{self, Read, Write};
 use std::os::unix::fs::FileExt;
 use std::process::Abort;
 use std::rt::Files;
-use std::test::Fail;
 use std::thread::Threads;
 use test_days::Session;
 use yard_core::OpenGate;
@@ -39,6 +37,15 @@ impl Write for Closed {
     }
 }
 
+/// Does what words say over a host.
+fn performs<Rt: AllocGlobal + Threads + Sync, H: Host + Drop>(
+    rt: &Rt,
+    args: &[&str],
+    mut host: H,
+) -> Status {
+    perform(rt, rt.alloc(), args, &mut host, &OpenGate)
+}
+
 /// Does what words say over streams and a real file.
 fn start<Rt: AllocGlobal + Files + Threads + Sync, R: Read + Drop, W: Write + Drop>(
     rt: &Rt,
@@ -50,8 +57,7 @@ where
     Rt::File: FileExt + Held,
 {
     let (input, output) = (Stream::new(input), Stream::new(output));
-    let mut host = host_of(args, input, output, SystemFiles::new(rt));
-    perform(rt, rt.alloc(), args, &mut host, &OpenGate)
+    performs(rt, args, host_of(args, input, output, SystemFiles::new(rt)))
 }
 
 /// Starts the program over an input, compares how it ends, and answers what it sent.
@@ -60,25 +66,24 @@ fn sends<Rt: Abort + AllocGlobal + Files + Threads + Sync>(
     args: &[&str],
     input: &[u8],
     want: Status,
-) -> Result<Vec<u8>, Fail>
+) -> Vec<u8>
 where
     Rt::File: FileExt + Held,
 {
     let mut sent = Vec::new(rt.alloc());
     let status = start(rt, args, input, &mut sent);
     assert!(rt; status == want, "of {args:?}");
-    Ok(sent)
+    sent
 }
 
 /// Makes a file of these bytes.
-fn make<Rt: Files>(rt: &Rt, path: &str, bytes: &[u8]) -> Result<(), Fail> {
+fn make<Rt: Files>(rt: &Rt, path: &str, bytes: &[u8]) -> io::Result<()> {
     let mut file = std::fs::OpenOptions::new()
         .write(true)
         .create(true)
         .truncate(true)
         .open(rt, path)?;
-    file.write_all(bytes)?;
-    Ok(())
+    file.write_all(bytes)
 }
 
 /// Starts the program, which ends well, and compares what it sends.
@@ -87,54 +92,51 @@ fn expect_sent<Rt: Abort + AllocGlobal + Files + Threads + Sync>(
     args: &[&str],
     input: &[u8],
     sent: &[u8],
-) -> Result<(), Fail>
+)
 where
     Rt::File: FileExt + Held,
 {
-    let answers = sends(rt, args, input, Status::Done)?;
-    assert!(rt; answers.as_slice() == sent, "of {args:?}");
-    Ok(())
+    let answers = sends(rt, args, input, Status::Done);
+    assert!(rt; answers.as_slice() == sent);
 }
 
-/// An empty journal that takes 3 records is made, and serves two sessions one after the other.
-fn serve_two<Rt: Abort + AllocGlobal + Files + Threads + Sync>(
+/// A session is served over a file.
+fn expect_served<Rt: Abort + AllocGlobal + Files + Threads + Sync>(
     rt: &Rt,
     path: &str,
-    first: &Session,
-    second: &Session,
-) -> Result<(), Fail>
+    session: &Session,
+)
 where
     Rt::File: FileExt + Held,
 {
-    let serve = ["halts", path, "serve"];
-    expect_sent(rt, &["halts", path, "format", "--limit", "3"], b"", b"")?;
-    expect_sent(rt, &serve, &first.input, &first.served)?;
-    expect_sent(rt, &serve, &second.input, &second.served)
+    expect_sent(
+        rt,
+        &["halts", path, "serve"],
+        &session.input,
+        &session.served,
+    );
 }
 
-/// Two records of the fall are served, and then the third.
-fn serve_fall<Rt: Abort + AllocGlobal + Files + Threads + Sync>(
-    rt: &Rt,
-    path: &str,
-) -> Result<(), Fail>
+/// An empty journal that takes 3 records is made, and serves two records of the fall, and then the third.
+fn serve_fall<Rt: Abort + AllocGlobal + Files + Threads + Sync>(rt: &Rt, path: &str)
 where
     Rt::File: FileExt + Held,
 {
     let lines = fall();
     let (two, rest) = lines.split_at(2);
-    let first = Session::of(rt.alloc(), two)?;
-    let second = Session::over(rt.alloc(), 2, 0, rest)?;
-    serve_two(rt, path, &first, &second)
+    expect_sent(rt, &["halts", path, "format", "--limit", "3"], b"", b"");
+    expect_served(rt, path, &session(rt, two));
+    expect_served(rt, path, &session_over(rt, 2, 0, rest));
 }
 
 #[test]
-fn a_day_in_two_starts_is_the_whole_day(rt: HostRuntime) -> Result<(), Fail> {
+fn a_day_in_two_starts_is_the_whole_day(rt: HostRuntime) {
     let path = "two-starts.journal";
     // A file of an earlier run may stand there.
     let _ = std::fs::remove_file(&rt, path);
-    serve_fall(&rt, path)?;
+    serve_fall(&rt, path);
     let serve = ["halts", path, "serve", "--from", "1"];
-    expect_sent(&rt, &serve, b"", &again(rt.alloc())?)
+    expect_sent(&rt, &serve, b"", &again(&rt));
 }
 
 /// What is read.
@@ -194,28 +196,32 @@ fn bytes_of(input: Input, day: &[u8]) -> &[u8] {
 }
 
 /// The words end so one after the other.
-fn expect_ends<Rt: Abort + AllocGlobal + Files + Threads + Sync>(
-    rt: &Rt,
-    day: &[u8],
-) -> Result<(), Fail>
+fn expect_ends<Rt: Abort + AllocGlobal + Files + Threads + Sync>(rt: &Rt, day: &[u8])
 where
     Rt::File: FileExt + Held,
 {
     for (args, input, want) in ENDS {
-        sends(rt, args, bytes_of(*input, day), *want)?;
+        let _sent = sends(rt, args, bytes_of(*input, day), *want);
     }
-    Ok(())
+}
+
+/// An input that can't be read and an output that takes nothing are told.
+fn expect_faults<Rt: Abort + AllocGlobal + Files + Threads + Sync>(rt: &Rt, path: &str)
+where
+    Rt::File: FileExt + Held,
+{
+    let unread = start(rt, &["halts", "-", "replay"], Unreadable, io::sink());
+    let unsent = start(rt, &["halts", path, "serve"], io::empty(), Closed);
+    assert!(rt; unread == Status::ReadFault && unsent == Status::SendFault);
 }
 
 #[test]
-fn each_end_has_its_status(rt: HostRuntime) -> Result<(), Fail> {
+fn each_end_has_its_status(rt: HostRuntime) {
     let path = "ends.journal";
     let _ = std::fs::remove_file(&rt, path);
-    expect_ends(&rt, &Session::of(rt.alloc(), &fall())?.input)?;
-    let unread = start(&rt, &["halts", "-", "replay"], Unreadable, io::sink());
-    let unsent = start(&rt, &["halts", path, "serve"], io::empty(), Closed);
-    assert!(rt; [unread, unsent] == [Status::ReadFault, Status::SendFault]);
-    Ok(())
+    let day = session(&rt, &fall());
+    expect_ends(&rt, &day.input);
+    expect_faults(&rt, path);
 }
 
 /// Words that need no journal, and how the text begins that they ask for.
@@ -229,26 +235,20 @@ const TEXTS: &[(&[&str], &str)] = &[
 ];
 
 #[test]
-fn help_needs_no_journal(rt: HostRuntime) -> Result<(), Fail> {
+fn help_needs_no_journal(rt: HostRuntime) {
     for (args, begin) in TEXTS {
-        let text = sends(&rt, args, b"", Status::Done)?;
+        let text = sends(&rt, args, b"", Status::Done);
         assert!(rt; text.starts_with(begin.as_bytes()), "of {args:?}");
     }
-    Ok(())
 }
 
 #[test]
-fn a_damaged_file_is_told_at_its_gate(rt: HostRuntime) -> Result<(), Fail> {
+fn a_damaged_file_is_told_at_its_gate(rt: HostRuntime) {
     let path = "damaged.journal";
-    make(&rt, path, b"HALTJNL1\0\0\0\0\0\0\0\x03\x01\0\0\0\0\0")?;
-    let sent = sends(
-        &rt,
-        &["halts", path, "serve"],
-        b"",
-        Status::Damaged { at: 16 },
-    )?;
-    assert!(rt; sent.is_empty());
-    Ok(())
+    let made = make(&rt, path, b"HALTJNL1\0\0\0\0\0\0\0\x03\x01\0\0\0\0\0");
+    let words = ["halts", path, "serve"];
+    let sent = sends(&rt, &words, b"", Status::Damaged { at: 16 });
+    assert!(rt; made.is_ok() && sent.is_empty());
 }
 
 #[test]

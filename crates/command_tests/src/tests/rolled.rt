@@ -1,11 +1,12 @@
 //! Bases that `roll` puts behind the last day of a journal.
 
 use super::bytes::{ACK_3, DAY, HELLO};
-use super::{WORKERS, fresh, run, runs};
+use super::ends::fail;
+use super::morning::sent_by;
+use super::{WORKERS, copied, fresh, host, joined, leaves, left_by, run, runs};
 use host_core::Status;
 use memory_host::{Call, MemoryHost, Pick};
 use std::process::Abort;
-use std::test::Fail;
 use std::thread::Threads;
 
 /// The same day on 2024-06-04, and on 2099-12-31.
@@ -30,128 +31,170 @@ const END: &[u8] = b"\0\0\0\0\0";
 /// Where that gate stands.
 const GATE: usize = 61;
 
+/// A journal of 3 records with a batch that has no length.
+const DAMAGED: &[u8] = b"HALTJNL2\0\0\0\0\0\0\0\x03\x01\0\0\0\0\0";
+
 /// A journal that holds two days, kept as one batch.
-pub fn two_days<Rt: Abort + AllocGlobal + Threads + Sync>(rt: &Rt) -> Result<Vec<u8>, Fail> {
-    let input = [DAY, NEXT_DAY].concat(rt.alloc())?;
-    let sent = [HELLO, ACKS].concat(rt.alloc())?;
-    runs(rt, &["serve"], &fresh(rt)?, &input, &sent, Status::Done)
+pub fn two_days<Rt: Abort + AllocGlobal + Threads + Sync>(rt: &Rt) -> Vec<u8> {
+    let input = joined(rt, &[DAY, NEXT_DAY]);
+    let sent = joined(rt, &[HELLO, ACKS]);
+    left_by(rt, &["serve"], &fresh(rt), &input, &sent, Status::Done)
 }
 
-/// Rolls a journal, compares how it ends, and answers the disk. Nothing is sent.
+/// The same with a base behind it, of a journal of either version.
+fn with_base<R: Abort + AllocGlobal>(rt: &R, disk: &[u8]) -> Vec<u8> {
+    joined(rt, &[&disk[..GATE.min(disk.len())], BASE, NEXT_DAY, END])
+}
+
+/// Rolls a journal, and answers the disk. Nothing is sent.
+fn rolled<Rt: Abort + AllocGlobal + Threads + Sync>(rt: &Rt, disk: &[u8]) -> Vec<u8> {
+    left_by(rt, &["roll"], disk, b"unread", b"", Status::Done)
+}
+
+/// Rolls a journal, and compares the disk and how it ends. Nothing is sent.
 fn rolls<Rt: Abort + AllocGlobal + Threads + Sync>(
     rt: &Rt,
     disk: &[u8],
+    left: &[u8],
     want: Status,
-) -> Result<Vec<u8>, Fail> {
-    runs(rt, &["roll"], disk, b"unread", b"", want)
+) {
+    leaves(rt, &["roll"], disk, b"unread", b"", want, left);
 }
 
 /// Greets over a journal of two days, however its records are evaluated and asked for.
-fn greets<Rt: Abort + AllocGlobal + Threads + Sync>(rt: &Rt, disk: &[u8]) -> Result<(), Fail> {
+fn greets<Rt: Abort + AllocGlobal + Threads + Sync>(rt: &Rt, disk: &[u8]) {
     for workers in WORKERS {
         let words = ["serve", "--from", "1", "--workers", workers];
-        runs(rt, &words, disk, b"", HELLO_2, Status::Done)?;
+        runs(rt, &words, disk, b"", HELLO_2, Status::Done);
     }
-    Ok(())
 }
 
 #[test]
-fn a_roll_puts_a_base_behind_the_last_day(rt: HostRuntime) -> Result<(), Fail> {
-    let disk = two_days(&rt)?;
-    let kept = rolls(&rt, &disk, Status::Done)?;
-    let want = [&disk[..GATE.min(disk.len())], BASE, NEXT_DAY, END].concat(rt.alloc())?;
-    assert!(rt; disk.len() == GATE + 1 && kept == want);
-    greets(&rt, &kept)?;
-    let again = rolls(&rt, &kept, Status::Done)?;
-    assert!(rt; again == kept);
-    Ok(())
+fn a_roll_puts_a_base_behind_the_last_day(rt: HostRuntime) {
+    let disk = two_days(&rt);
+    assert!(rt; disk.len() == GATE + 1);
+    let want = with_base(&rt, &disk);
+    rolls(&rt, &disk, &want, Status::Done);
+    greets(&rt, &want);
+    rolls(&rt, &want, &want, Status::Done);
 }
 
 #[test]
-fn a_journal_of_the_first_version_is_rolled(rt: HostRuntime) -> Result<(), Fail> {
-    let second = two_days(&rt)?;
-    let disk = [b"HALTJNL1".as_slice(), second.get(8..).unwrap_or(&[])].concat(rt.alloc())?;
-    let kept = rolls(&rt, &disk, Status::Done)?;
-    let want = [&disk[..GATE.min(disk.len())], BASE, NEXT_DAY, END].concat(rt.alloc())?;
-    assert!(rt; kept == want);
-    greets(&rt, &kept)
+fn a_journal_of_the_first_version_is_rolled(rt: HostRuntime) {
+    let second = two_days(&rt);
+    let disk = joined(
+        &rt,
+        &[b"HALTJNL1".as_slice(), second.get(8..).unwrap_or(&[])],
+    );
+    let want = with_base(&rt, &disk);
+    rolls(&rt, &disk, &want, Status::Done);
+    greets(&rt, &want);
+}
+
+/// A journal with a base and a clock behind it.
+fn clock_behind<Rt: Abort + AllocGlobal + Threads + Sync>(rt: &Rt) -> Vec<u8> {
+    let days = rolled(rt, &two_days(rt));
+    let sent = joined(rt, &[HELLO_2, ACK_3]);
+    left_by(rt, &["serve"], &days, CLOCK, &sent, Status::Done)
 }
 
 #[test]
-fn no_base_is_put_behind_another_record(rt: HostRuntime) -> Result<(), Fail> {
-    let days = rolls(&rt, &two_days(&rt)?, Status::Done)?;
-    let sent = [HELLO_2, ACK_3].concat(rt.alloc())?;
-    let behind = runs(&rt, &["serve"], &days, CLOCK, &sent, Status::Done)?;
-    let damaged = b"HALTJNL2\0\0\0\0\0\0\0\x03\x01\0\0\0\0\0".as_slice();
-    for (disk, want) in [
-        (behind.as_slice(), Status::NotAtDay),
-        (&fresh(&rt)?, Status::NotAtDay),
-        (damaged, Status::Damaged { at: 16 }),
-        (b"", Status::NoJournal),
-    ] {
-        let kept = rolls(&rt, disk, want)?;
-        assert!(rt; kept.as_slice() == disk);
-    }
-    Ok(())
+fn no_base_is_put_behind_another_record(rt: HostRuntime) {
+    let behind = clock_behind(&rt);
+    rolls(&rt, &behind, &behind, Status::NotAtDay);
+    let empty = fresh(&rt);
+    rolls(&rt, &empty, &empty, Status::NotAtDay);
+    rolls(&rt, DAMAGED, DAMAGED, Status::Damaged { at: 16 });
+    rolls(&rt, b"", b"", Status::NoJournal);
 }
 
-/// Rolls two days up to a stop at one of the calls, and again over what the stop leaves, which gives the same base as without a
-/// stop; at its gate may stand what the stop left. Answers whether the run was stopped.
+/// What a stop leaves of a host has the records, and is rolled as without a stop; at its gate may stand what the stop left.
+fn expect_left<Rt: Abort + AllocGlobal + Threads + Sync>(
+    rt: &Rt,
+    host: &MemoryHost,
+    pick: Pick,
+    want: &[u8],
+) {
+    let left = host.crash(pick, b"").expect(rt, "memory for a host");
+    runs(rt, &["serve"], left.disk(), b"", HELLO_2, Status::Done);
+    let kept = rolled(rt, left.disk());
+    let is_rolled = kept.get(GATE + 1..) == want.get(GATE + 1..) && kept.get(GATE) != Some(&0);
+    assert!(rt; is_rolled);
+}
+
+/// Rolls two days up to a stop at one of the calls, and again over what the stop leaves. Answers whether the run was stopped.
 fn stopped<Rt: Abort + AllocGlobal + Threads + Sync>(
     rt: &Rt,
     disk: &[u8],
     want: &[u8],
     nth: u64,
     pick: Pick,
-) -> Result<bool, Fail> {
-    let mut host = MemoryHost::new(rt.alloc(), b"", disk)?;
+) -> bool {
+    let mut host = host(rt, b"", disk);
     host.stop_at(nth.max(1));
-    let end = run(rt, rt.alloc(), &["roll"], &mut host);
-    let left = host.crash(pick, b"")?;
-    runs(rt, &["serve"], left.disk(), b"", HELLO_2, Status::Done)?;
-    let kept = rolls(rt, left.disk(), Status::Done)?;
-    let is_rolled = kept.get(GATE + 1..) == want.get(GATE + 1..) && kept.get(GATE) != Some(&0);
-    assert!(rt; is_rolled, "stopped at {nth}");
-    Ok(end != Status::Done)
+    let end = run(rt, &["roll"], &mut host);
+    expect_left(rt, &host, pick, want);
+    end != Status::Done
+}
+
+/// Rolls two days up to a stop at each of the calls in turn: the sixth is made, and the twentieth isn't.
+fn expect_stops<Rt: Abort + AllocGlobal + Threads + Sync>(
+    rt: &Rt,
+    disk: &[u8],
+    want: &[u8],
+    pick: Pick,
+) {
+    for nth in 1..=20u64 {
+        let was_stopped = stopped(rt, disk, want, nth, pick);
+        let is_as_made = (nth != 6 || was_stopped) && (nth != 20 || !was_stopped);
+        assert!(rt; is_as_made, "stopped at {nth}");
+    }
 }
 
 #[test]
-fn a_stop_of_a_roll_leaves_the_records(rt: HostRuntime) -> Result<(), Fail> {
-    let disk = two_days(&rt)?;
-    let want = rolls(&rt, &disk, Status::Done)?;
+fn a_stop_of_a_roll_leaves_the_records(rt: HostRuntime) {
+    let disk = two_days(&rt);
+    let want = rolled(&rt, &disk);
     for pick in [Pick::Old, Pick::New, Pick::Bytes(0), Pick::Bytes(0x55)] {
-        for nth in 1..=20u64 {
-            let was_stopped = stopped(&rt, &disk, &want, nth, pick)?;
-            assert!(rt; (nth != 6 || was_stopped) && (nth != 20 || !was_stopped));
-        }
+        expect_stops(&rt, &disk, &want, pick);
     }
-    Ok(())
 }
 
-/// Each call of a kind fails in turn while a journal is rolled, and a roll over what each leaves ends as without a fault. Answers
-/// how many of them were told.
+/// A call of a kind fails while a journal is rolled, and a roll over what that leaves ends as without a fault. Answers whether
+/// it was told.
+fn is_told<Rt: Abort + AllocGlobal + Threads + Sync>(
+    rt: &Rt,
+    disk: &[u8],
+    want: &[u8],
+    call: Call,
+    nth: u64,
+) -> bool {
+    let mut host = host(rt, b"", disk);
+    fail(rt, &mut host, call, nth);
+    let end = run(rt, &["roll"], &mut host);
+    let is_told = end == Status::DiskFault;
+    assert!(rt; is_told || end == Status::Done);
+    rolls(rt, host.disk(), want, Status::Done);
+    is_told
+}
+
+/// Each call of a kind fails in turn while a journal is rolled. Answers how many of them were told.
 fn failed_in_turn<Rt: Abort + AllocGlobal + Threads + Sync>(
     rt: &Rt,
     disk: &[u8],
     call: Call,
-) -> Result<usize, Fail> {
+) -> usize {
     let mut told = 0usize;
-    let want = rolls(rt, disk, Status::Done)?;
+    let want = rolled(rt, disk);
     for nth in 1..=4u64 {
-        let mut host = MemoryHost::new(rt.alloc(), b"", disk)?;
-        host.fail(call, nth)?;
-        let end = run(rt, rt.alloc(), &["roll"], &mut host);
-        let is_told = end == Status::DiskFault;
-        assert!(rt; is_told || end == Status::Done);
-        assert!(rt; rolls(rt, host.disk(), Status::Done)? == want);
-        told = told.saturating_add(usize::from(is_told));
+        told = told.saturating_add(usize::from(is_told(rt, disk, &want, call, nth)));
     }
-    Ok(told)
+    told
 }
 
 #[test]
-fn each_failing_call_of_a_roll_is_told_and_the_next_ends_well(rt: HostRuntime) -> Result<(), Fail> {
-    let disk = two_days(&rt)?;
+fn each_failing_call_of_a_roll_is_told_and_the_next_ends_well(rt: HostRuntime) {
+    let disk = two_days(&rt);
     for (call, least, most) in [
         (Call::Read, 0, 0),
         (Call::Send, 0, 0),
@@ -160,47 +203,40 @@ fn each_failing_call_of_a_roll_is_told_and_the_next_ends_well(rt: HostRuntime) -
         (Call::Write, 2, 2),
         (Call::Sync, 3, 4),
     ] {
-        let told = failed_in_turn(&rt, &disk, call)?;
+        let told = failed_in_turn(&rt, &disk, call);
         assert!(rt; least <= told && told <= most, "{told} faults of {call:?}");
     }
-    Ok(())
 }
 
 #[test]
-fn a_rolled_journal_is_not_written(rt: HostRuntime) -> Result<(), Fail> {
-    let disk = rolls(&rt, &two_days(&rt)?, Status::Done)?;
-    let told = failed_in_turn(&rt, &disk, Call::Write)?;
+fn a_rolled_journal_is_not_written(rt: HostRuntime) {
+    let disk = rolled(&rt, &two_days(&rt));
+    let told = failed_in_turn(&rt, &disk, Call::Write);
     assert!(rt; told == 0);
-    Ok(())
 }
 
-/// What is sent for an input over a disk, and the disk behind it.
-fn over<Rt: Abort + AllocGlobal + Threads + Sync>(
-    rt: &Rt,
-    words: &[&str],
-    disk: &[u8],
-    input: &[u8],
-) -> Result<(Vec<u8>, Vec<u8>), Fail> {
-    let mut host = MemoryHost::new(rt.alloc(), input, disk)?;
-    let end = run(rt, rt.alloc(), words, &mut host);
-    assert!(rt; end == Status::Done, "{end:?} of {words:?}");
-    Ok((
-        host.sent().to_vec(rt.alloc())?,
-        host.disk().to_vec(rt.alloc())?,
-    ))
+/// A journal that holds a listing of each of the names that there can be, and a day behind.
+fn all_names<Rt: Abort + AllocGlobal + Threads + Sync>(rt: &Rt) -> Vec<u8> {
+    let words = ["generate", "--symbols", "16384", "--records", "0"];
+    let generated = sent_by(rt, &words, b"", b"");
+    let input = joined(rt, &[generated.as_slice(), LAST_DAY]);
+    let mut host = host(rt, &input, &fresh(rt));
+    let end = run(rt, &["serve"], &mut host);
+    assert!(rt; end == Status::Done);
+    copied(rt, host.disk())
+}
+
+/// The same is told of two journals.
+fn expect_same<Rt: Abort + AllocGlobal + Threads + Sync>(rt: &Rt, first: &[u8], second: &[u8]) {
+    let told = sent_by(rt, &["status"], first, b"");
+    runs(rt, &["status"], second, b"", &told, Status::Done);
 }
 
 #[test]
-fn a_base_has_all_names(rt: HostRuntime) -> Result<(), Fail> {
-    let words = ["generate", "--symbols", "16384", "--records", "0"];
-    let generated = over(&rt, &words, b"", b"")?.0;
-    let input = [generated.as_slice(), LAST_DAY].concat(rt.alloc())?;
-    let disk = over(&rt, &["serve"], &fresh(&rt)?, &input)?.1;
-    let kept = rolls(&rt, &disk, Status::Done)?;
+fn a_base_has_all_names(rt: HostRuntime) {
+    let disk = all_names(&rt);
+    let kept = rolled(&rt, &disk);
     // A mark, 40 bytes and a closed gate, and 8 bytes for each name.
     assert!(rt; kept.len() == disk.len() + 45 + 8 * 16_384);
-    let before = over(&rt, &["status"], &disk, b"")?.0;
-    let after = over(&rt, &["status"], &kept, b"")?.0;
-    assert!(rt; before == after);
-    Ok(())
+    expect_same(&rt, &disk, &kept);
 }

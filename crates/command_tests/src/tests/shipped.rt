@@ -1,9 +1,10 @@
 //! A second journal: `ship` sends the records of a journal, and `standby` takes them into another.
 
 use super::rolled::two_days;
-use super::{fresh, runs};
+use super::{fresh, leaves, left_by, runs};
 use host_core::Status;
-use std::test::Fail;
+use std::process::Abort;
+use std::thread::Threads;
 
 /// The Parts of the two days, of 30 bytes each.
 const PARTS: &[u8] =
@@ -21,58 +22,53 @@ const HAVE_1: &[u8] = b"\x09\xa2\0\0\0\0\0\0\0\x01";
 const HAVE_2_2: &[u8] = b"\x09\xa2\0\0\0\0\0\0\0\x02\x09\xa2\0\0\0\0\0\0\0\x02";
 
 #[test]
-fn records_from_a_number_on_are_sent(rt: HostRuntime) -> Result<(), Fail> {
-    let first = two_days(&rt)?;
+fn records_from_a_number_on_are_sent(rt: HostRuntime) {
+    let first = two_days(&rt);
     for (from, sent) in [("1", PARTS), ("2", &PARTS[30..]), ("3", b"")] {
         let words = ["ship", "--from", from];
-        runs(&rt, &words, &first, b"", sent, Status::Done)?;
+        runs(&rt, &words, &first, b"", sent, Status::Done);
     }
-    Ok(())
 }
 
 #[test]
-fn records_that_come_again_are_counted_alone(rt: HostRuntime) -> Result<(), Fail> {
-    let first = two_days(&rt)?;
+fn records_that_come_again_are_counted_alone(rt: HostRuntime) {
+    let first = two_days(&rt);
     for batch in ["1", "64"] {
         let words = ["standby", "--batch", batch];
-        let left = runs(&rt, &words, &first, PARTS, HAVE_2_2, Status::Done)?;
-        assert!(rt; left == first);
+        leaves(&rt, &words, &first, PARTS, HAVE_2_2, Status::Done, &first);
     }
-    Ok(())
 }
 
 #[test]
-fn a_standby_ends_as_its_input_does(rt: HostRuntime) -> Result<(), Fail> {
-    let empty = fresh(&rt)?;
+fn a_standby_ends_as_its_input_does(rt: HostRuntime) {
+    let empty = fresh(&rt);
     let cut = &PARTS[..31];
-    runs(&rt, &["standby"], &empty, cut, HAVE_1, Status::Truncated)?;
+    runs(&rt, &["standby"], &empty, cut, HAVE_1, Status::Truncated);
     let words = ["standby", "--bytes", "30"];
-    runs(&rt, &words, &empty, PARTS, HAVE_1, Status::SessionFull)?;
-    Ok(())
+    runs(&rt, &words, &empty, PARTS, HAVE_1, Status::SessionFull);
 }
 
 /// A journal of 3 records with a batch that has no length.
 const DAMAGED: &[u8] = b"HALTJNL2\0\0\0\0\0\0\0\x03\x01\0\0\0\0\0";
 
-#[test]
-fn damage_and_a_missing_journal_are_told_and_left(rt: HostRuntime) -> Result<(), Fail> {
-    for words in [["ship"], ["standby"]] {
-        for (disk, want) in [
-            (DAMAGED, Status::Damaged { at: 16 }),
-            (b"", Status::NoJournal),
-        ] {
-            let left = runs(&rt, &words, disk, PARTS, b"", want)?;
-            assert!(rt; left.as_slice() == disk);
-        }
-    }
-    Ok(())
+/// A command tells damage and a missing journal, and leaves them.
+fn expect_left<Rt: Abort + AllocGlobal + Threads + Sync>(rt: &Rt, word: &str) {
+    let at_gate = Status::Damaged { at: 16 };
+    leaves(rt, &[word], DAMAGED, PARTS, b"", at_gate, DAMAGED);
+    leaves(rt, &[word], b"", PARTS, b"", Status::NoJournal, b"");
 }
 
 #[test]
-fn a_base_leaves_the_numbers_as_they_are(rt: HostRuntime) -> Result<(), Fail> {
-    let rolled = runs(&rt, &["roll"], &two_days(&rt)?, b"", b"", Status::Done)?;
-    runs(&rt, &["ship"], &rolled, b"", b"", Status::Done)?;
-    let kept = runs(&rt, &["standby"], &rolled, CLOCKS, HAVE_3_4, Status::Done)?;
-    runs(&rt, &["ship"], &kept, b"", CLOCKS, Status::Done)?;
-    Ok(())
+fn damage_and_a_missing_journal_are_told_and_left(rt: HostRuntime) {
+    expect_left(&rt, "ship");
+    expect_left(&rt, "standby");
+}
+
+#[test]
+fn a_base_leaves_the_numbers_as_they_are(rt: HostRuntime) {
+    let days = two_days(&rt);
+    let rolled = left_by(&rt, &["roll"], &days, b"", b"", Status::Done);
+    runs(&rt, &["ship"], &rolled, b"", b"", Status::Done);
+    let kept = left_by(&rt, &["standby"], &rolled, CLOCKS, HAVE_3_4, Status::Done);
+    runs(&rt, &["ship"], &kept, b"", CLOCKS, Status::Done);
 }
