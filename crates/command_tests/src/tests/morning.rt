@@ -76,27 +76,33 @@ fn morning<R: Abort + AllocGlobal>(rt: &R) -> Vec<Line> {
     lines
 }
 
-/// The frames of a session but its greeting and its Acks.
-fn without_acks<R: Abort + AllocGlobal>(rt: &R, sent: &[u8]) -> Vec<u8> {
-    let mut kept = Vec::new(rt.alloc());
+/// Whether a frame that begins at a place is neither a greeting nor an Ack.
+fn is_kept(sent: &[u8], begin: usize) -> bool {
+    sent.get(begin.saturating_add(1))
+        .is_some_and(|kind| *kind < 0x81)
+}
+
+/// Whether the frames of a session but its greeting and its Acks are these.
+fn is_without_acks(sent: &[u8], frames: &[u8]) -> bool {
+    let mut place = 0usize;
     let mut left = 0u8;
-    let mut keeps = None;
-    for byte in sent {
-        if left == 0 {
-            left = *byte;
-            keeps = None;
-            continue;
+    let mut keeps = false;
+    for (begin, byte) in sent.iter().enumerate() {
+        let is_begin = left == 0;
+        if is_begin {
+            keeps = *byte != 0 && is_kept(sent, begin);
         }
-        if keeps.is_none() && *byte < 0x81 {
-            kept.push(left).expect(rt, "memory for frames");
+        left = if is_begin {
+            *byte
+        } else {
+            left.saturating_sub(1)
+        };
+        if keeps && frames.get(place) != Some(byte) {
+            return false;
         }
-        keeps = keeps.or(Some(*byte < 0x81));
-        if keeps == Some(true) {
-            kept.push(*byte).expect(rt, "memory for frames");
-        }
-        left -= 1;
+        place = place.saturating_add(usize::from(keeps));
     }
-    kept
+    place == frames.len()
 }
 
 /// What the words make a program send for an input over a disk, to a good end.
@@ -113,8 +119,8 @@ pub fn sent_by<Rt: Abort + AllocGlobal + Threads + Sync>(
 }
 
 /// What is served is what is replayed, with a greeting and an Ack of ten bytes for each record.
-fn expect_same<R: Abort + AllocGlobal>(rt: &R, replayed: &[u8], served: &[u8], records: usize) {
-    let is_same = without_acks(rt, served).as_slice() == replayed;
+fn expect_same<R: Abort>(rt: &R, replayed: &[u8], served: &[u8], records: usize) {
+    let is_same = is_without_acks(served, replayed);
     let acks = records.saturating_mul(10).saturating_add(18);
     let is_acknowledged = served.len() == replayed.len().saturating_add(acks);
     // Each stock is listed, opens with bands, is stopped and goes on, one is paused, and one breaker is declared and ends.

@@ -234,21 +234,34 @@ const TEXTS: &[(&[&str], &str)] = &[
     (&["halts", "help", "serve"], "Answers the frames"),
 ];
 
+/// The words are answered by a text that begins so.
+fn expect_text<Rt: Abort + AllocGlobal + Files + Threads + Sync>(
+    rt: &Rt,
+    args: &[&str],
+    begin: &str,
+)
+where
+    Rt::File: FileExt + Held,
+{
+    let text = sends(rt, args, b"", Status::Done);
+    assert!(rt; text.starts_with(begin.as_bytes()), "of {args:?}");
+}
+
 #[test]
 fn help_needs_no_journal(rt: HostRuntime) {
     for (args, begin) in TEXTS {
-        let text = sends(&rt, args, b"", Status::Done);
-        assert!(rt; text.starts_with(begin.as_bytes()), "of {args:?}");
+        expect_text(&rt, args, begin);
     }
 }
 
 #[test]
 fn a_damaged_file_is_told_at_its_gate(rt: HostRuntime) {
     let path = "damaged.journal";
-    let made = make(&rt, path, b"HALTJNL1\0\0\0\0\0\0\0\x03\x01\0\0\0\0\0");
+    let is_made = make(&rt, path, b"HALTJNL1\0\0\0\0\0\0\0\x03\x01\0\0\0\0\0").is_ok();
+    assert!(rt; is_made);
     let words = ["halts", path, "serve"];
     let sent = sends(&rt, &words, b"", Status::Damaged { at: 16 });
-    assert!(rt; made.is_ok() && sent.is_empty());
+    assert!(rt; sent.is_empty());
 }
 
 #[test]

@@ -108,7 +108,14 @@ fn no_base_is_put_behind_another_record(rt: HostRuntime) {
     rolls(&rt, b"", b"", Status::NoJournal);
 }
 
-/// What a stop leaves of a host has the records, and is rolled as without a stop; at its gate may stand what the stop left.
+/// A disk that a stop left is rolled as without a stop; at its gate may stand what the stop left.
+fn expect_rolled<Rt: Abort + AllocGlobal + Threads + Sync>(rt: &Rt, disk: &[u8], want: &[u8]) {
+    let kept = rolled(rt, disk);
+    let is_rolled = kept.get(GATE + 1..) == want.get(GATE + 1..) && kept.get(GATE) != Some(&0);
+    assert!(rt; is_rolled);
+}
+
+/// What a stop leaves of a host has the records, and is rolled as without a stop.
 fn expect_left<Rt: Abort + AllocGlobal + Threads + Sync>(
     rt: &Rt,
     host: &MemoryHost,
@@ -117,9 +124,7 @@ fn expect_left<Rt: Abort + AllocGlobal + Threads + Sync>(
 ) {
     let left = host.crash(pick, b"").expect(rt, "memory for a host");
     runs(rt, &["serve"], left.disk(), b"", HELLO_2, Status::Done);
-    let kept = rolled(rt, left.disk());
-    let is_rolled = kept.get(GATE + 1..) == want.get(GATE + 1..) && kept.get(GATE) != Some(&0);
-    assert!(rt; is_rolled);
+    expect_rolled(rt, left.disk(), want);
 }
 
 /// Rolls two days up to a stop at one of the calls, and again over what the stop leaves. Answers whether the run was stopped.
@@ -160,6 +165,14 @@ fn a_stop_of_a_roll_leaves_the_records(rt: HostRuntime) {
     }
 }
 
+/// Rolls over a host in which a call fails, and answers whether that was told.
+fn tells_fault<Rt: Abort + AllocGlobal + Threads + Sync>(rt: &Rt, host: &mut MemoryHost) -> bool {
+    let end = run(rt, &["roll"], host);
+    let is_told = end == Status::DiskFault;
+    assert!(rt; is_told || end == Status::Done);
+    is_told
+}
+
 /// A call of a kind fails while a journal is rolled, and a roll over what that leaves ends as without a fault. Answers whether
 /// it was told.
 fn is_told<Rt: Abort + AllocGlobal + Threads + Sync>(
@@ -171,9 +184,7 @@ fn is_told<Rt: Abort + AllocGlobal + Threads + Sync>(
 ) -> bool {
     let mut host = host(rt, b"", disk);
     fail(rt, &mut host, call, nth);
-    let end = run(rt, &["roll"], &mut host);
-    let is_told = end == Status::DiskFault;
-    assert!(rt; is_told || end == Status::Done);
+    let is_told = tells_fault(rt, &mut host);
     rolls(rt, host.disk(), want, Status::Done);
     is_told
 }
@@ -192,6 +203,18 @@ fn failed_in_turn<Rt: Abort + AllocGlobal + Threads + Sync>(
     told
 }
 
+/// Of the calls of a kind that fail in turn, so many are told.
+fn expect_told<Rt: Abort + AllocGlobal + Threads + Sync>(
+    rt: &Rt,
+    disk: &[u8],
+    call: Call,
+    least: usize,
+    most: usize,
+) {
+    let told = failed_in_turn(rt, disk, call);
+    assert!(rt; least <= told && told <= most, "{told} faults of {call:?}");
+}
+
 #[test]
 fn each_failing_call_of_a_roll_is_told_and_the_next_ends_well(rt: HostRuntime) {
     let disk = two_days(&rt);
@@ -203,24 +226,30 @@ fn each_failing_call_of_a_roll_is_told_and_the_next_ends_well(rt: HostRuntime) {
         (Call::Write, 2, 2),
         (Call::Sync, 3, 4),
     ] {
-        let told = failed_in_turn(&rt, &disk, call);
-        assert!(rt; least <= told && told <= most, "{told} faults of {call:?}");
+        expect_told(&rt, &disk, call, least, most);
     }
 }
 
 #[test]
 fn a_rolled_journal_is_not_written(rt: HostRuntime) {
     let disk = rolled(&rt, &two_days(&rt));
-    let told = failed_in_turn(&rt, &disk, Call::Write);
-    assert!(rt; told == 0);
+    expect_told(&rt, &disk, Call::Write, 0, 0);
 }
 
-/// A journal that holds a listing of each of the names that there can be, and a day behind.
-fn all_names<Rt: Abort + AllocGlobal + Threads + Sync>(rt: &Rt) -> Vec<u8> {
+/// A listing of each of the names that there can be, and a day behind.
+fn all_listings<Rt: Abort + AllocGlobal + Threads + Sync>(rt: &Rt) -> Vec<u8> {
     let words = ["generate", "--symbols", "16384", "--records", "0"];
     let generated = sent_by(rt, &words, b"", b"");
-    let input = joined(rt, &[generated.as_slice(), LAST_DAY]);
-    let mut host = host(rt, &input, &fresh(rt));
+    joined(rt, &[generated.as_slice(), LAST_DAY])
+}
+
+/// A journal that holds an input, over a disk that holds no record.
+fn journal_of<Rt: Abort + AllocGlobal + Threads + Sync>(
+    rt: &Rt,
+    disk: &[u8],
+    input: &[u8],
+) -> Vec<u8> {
+    let mut host = host(rt, input, disk);
     let end = run(rt, &["serve"], &mut host);
     assert!(rt; end == Status::Done);
     copied(rt, host.disk())
@@ -234,7 +263,7 @@ fn expect_same<Rt: Abort + AllocGlobal + Threads + Sync>(rt: &Rt, first: &[u8], 
 
 #[test]
 fn a_base_has_all_names(rt: HostRuntime) {
-    let disk = all_names(&rt);
+    let disk = journal_of(&rt, &fresh(&rt), &all_listings(&rt));
     let kept = rolled(&rt, &disk);
     // A mark, 40 bytes and a closed gate, and 8 bytes for each name.
     assert!(rt; kept.len() == disk.len() + 45 + 8 * 16_384);

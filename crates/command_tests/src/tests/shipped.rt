@@ -21,13 +21,22 @@ const HAVE_1: &[u8] = b"\x09\xa2\0\0\0\0\0\0\0\x01";
 
 const HAVE_2_2: &[u8] = b"\x09\xa2\0\0\0\0\0\0\0\x02\x09\xa2\0\0\0\0\0\0\0\x02";
 
+/// The records from a number on are sent so.
+fn expect_shipped<Rt: Abort + AllocGlobal + Threads + Sync>(
+    rt: &Rt,
+    disk: &[u8],
+    from: &str,
+    sent: &[u8],
+) {
+    runs(rt, &["ship", "--from", from], disk, b"", sent, Status::Done);
+}
+
 #[test]
 fn records_from_a_number_on_are_sent(rt: HostRuntime) {
     let first = two_days(&rt);
-    for (from, sent) in [("1", PARTS), ("2", &PARTS[30..]), ("3", b"")] {
-        let words = ["ship", "--from", from];
-        runs(&rt, &words, &first, b"", sent, Status::Done);
-    }
+    expect_shipped(&rt, &first, "1", PARTS);
+    expect_shipped(&rt, &first, "2", &PARTS[30..]);
+    expect_shipped(&rt, &first, "3", b"");
 }
 
 #[test]

@@ -2,6 +2,7 @@
 
 use command_core::{end, tell};
 use host_core::{Status, Stream};
+use std::io::Write;
 use std::process::Abort;
 
 /// What is told of some ends.
@@ -56,10 +57,15 @@ const LINES: &[(Status, &str)] = &[
     ),
 ];
 
+/// Tells an end by a line, and answers whether it was taken.
+fn is_taken<W: Write + Drop>(told: W, status: Status) -> bool {
+    tell(&mut Stream::new(told), status).is_ok()
+}
+
 /// The end is told by this line.
 fn expect_line<R: Abort + AllocGlobal>(rt: &R, status: Status, line: &str) {
     let mut told = Vec::new(rt.alloc());
-    let is_told = tell(&mut Stream::new(&mut told), status).is_ok();
+    let is_told = is_taken(&mut told, status);
     assert!(rt;
         is_told && told.as_slice() == line.as_bytes(),
         "of {status:?}"
@@ -73,11 +79,14 @@ fn a_status_is_told_in_one_line_and_done_by_none(rt: HostRuntime) {
     }
 }
 
+/// Ends by a status, and answers whether its line was taken.
+fn is_ended<W: Write + Drop>(told: W, status: Status) -> bool {
+    end(&mut Stream::new(told), status).told.is_ok()
+}
+
 #[test]
 fn an_end_tells_its_line(rt: HostRuntime) {
     let mut told = Vec::new(rt.alloc());
-    let is_told = end(&mut Stream::new(&mut told), Status::NoJournal)
-        .told
-        .is_ok();
+    let is_told = is_ended(&mut told, Status::NoJournal);
     assert!(rt; is_told && told.as_slice() == b"halts: there is no journal\n".as_slice());
 }
