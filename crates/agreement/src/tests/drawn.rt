@@ -17,11 +17,11 @@ fn draw(seed: u64, xs: &mut Vec<Record>) -> bool {
     is_right
 }
 
-/// Admits a record on which there is no verdict, and adds it. Whether there is memory for it.
-fn take(admission: &mut Admission, x: &Record, taken: &mut Vec<Record>) -> bool {
+/// Whether a record is admitted, which it is where there is no verdict on it.
+fn is_admitted(admission: &mut Admission, x: &Record) -> bool {
     match admission.verdict(x) {
-        None => admission.admit(x).is_ok() && taken.push(*x).is_ok(),
-        Some(_) => true,
+        None => admission.admit(x).is_ok(),
+        Some(_) => false,
     }
 }
 
@@ -29,7 +29,9 @@ fn take(admission: &mut Admission, x: &Record, taken: &mut Vec<Record>) -> bool 
 fn take_all(admission: &mut Admission, xs: &[Record], taken: &mut Vec<Record>) -> bool {
     let mut is_right = true;
     for x in xs {
-        is_right &= take(admission, x, taken);
+        if is_admitted(admission, x) {
+            is_right &= taken.push(*x).is_ok();
+        }
     }
     is_right
 }
