@@ -79,6 +79,11 @@ fn fall() -> [Line; 4] {
     ]
 }
 
+/// What is wanted of words holds.
+fn expect<R: Abort>(rt: &R, words: &[&str], holds: bool) {
+    assert!(rt; holds, "of {words:?}");
+}
+
 /// Does what the words say over a host, and compares what is sent and how it ends.
 fn answers<Rt: Abort + AllocGlobal + Threads + Sync>(
     rt: &Rt,
@@ -88,11 +93,7 @@ fn answers<Rt: Abort + AllocGlobal + Threads + Sync>(
     want: Status,
 ) {
     let end = run(rt, words, host);
-    assert!(rt;
-        end == want && host.sent() == sent,
-        "{end:?} of {words:?}, {:?} was sent",
-        host.sent()
-    );
+    expect(rt, words, end == want && host.sent() == sent);
 }
 
 /// Does what the words say over an input and a disk, and compares what is sent and how it ends.
@@ -176,7 +177,7 @@ fn expect_text<Rt: Abort + AllocGlobal + Threads + Sync>(rt: &Rt, words: &[&str]
     let mut host = host(rt, b"unread", b"");
     let end = run(rt, words, &mut host);
     let is_told = host.sent().starts_with(begin.as_bytes()) && host.calls() == 1;
-    assert!(rt; end == Status::Done && is_told, "of {words:?}");
+    expect(rt, words, end == Status::Done && is_told);
 }
 
 #[test]
@@ -211,7 +212,7 @@ fn expect_usage<Rt: Abort + AllocGlobal + Threads + Sync>(rt: &Rt, words: &[&str
     let mut host = host(rt, input, b"");
     let end = run(rt, words, &mut host);
     let is_untouched = host.calls() == 0 && host.sent().is_empty();
-    assert!(rt; end == Status::Usage && is_untouched, "of {words:?}");
+    expect(rt, words, end == Status::Usage && is_untouched);
 }
 
 #[test]

@@ -78,8 +78,7 @@ fn morning<R: Abort + AllocGlobal>(rt: &R) -> Vec<Line> {
 
 /// Whether a frame that begins at a place is neither a greeting nor an Ack.
 fn is_kept(sent: &[u8], begin: usize) -> bool {
-    sent.get(begin.saturating_add(1))
-        .is_some_and(|kind| *kind < 0x81)
+    matches!(sent.get(begin.saturating_add(1)), Some(kind) if *kind < 0x81)
 }
 
 /// Whether the frames of a session but its greeting and its Acks are these.

@@ -1,6 +1,6 @@
 //! The program started over readers, writers and a real file.
 
-use super::{again, fall, session, session_over};
+use super::{again, expect, fall, session, session_over};
 use command_core::{host_of, perform};
 use host_core::{Held, Host, Status, Stream, SystemFiles};
 use std::io::{self, Read, Write};
@@ -72,7 +72,7 @@ where
 {
     let mut sent = Vec::new(rt.alloc());
     let status = start(rt, args, input, &mut sent);
-    assert!(rt; status == want, "of {args:?}");
+    expect(rt, args, status == want);
     sent
 }
 
@@ -244,7 +244,7 @@ where
     Rt::File: FileExt + Held,
 {
     let text = sends(rt, args, b"", Status::Done);
-    assert!(rt; text.starts_with(begin.as_bytes()), "of {args:?}");
+    expect(rt, args, text.starts_with(begin.as_bytes()));
 }
 
 #[test]
