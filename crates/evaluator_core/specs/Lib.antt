@@ -1,3 +1,4 @@
 pub mod AheadState
 pub mod Evaluating
 pub mod Leading
+pub mod RestingState

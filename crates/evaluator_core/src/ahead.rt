@@ -1,17 +1,17 @@
 //! A market that evaluates a block of records ahead, and hands out their messages record by record.
 
-ghost use Rattle.std.specs.Prelude.{◌≡◌, ◌==◌, ◌+◌, ◌<◌, ◌≤◌, ◌++◌, ◌∷◌, ℕ, [], false, true, List, Some, IfOk, IsOk, OnOk, length, map, vec_len, vec_capacity};
+ghost use Rattle.std.specs.Prelude.{◌≡◌, ◌==◌, ◌+◌, ◌<◌, ◌≤◌, ◌++◌, ◌∷◌, ℕ, [], false, true, List, IfOk, IsOk, OnOk, length, map, vec_len, vec_capacity};
 ghost use Rattle.wire_in.specs.declared.record.Record.{Record};
-ghost use Rattle.wire_in.specs.Bases.{IsInRange};
-ghost use Rattle.rulebook.specs.Admission.{IsLawful, most_names};
-ghost use Rattle.rulebook.specs.Base.{base_of, stand_in};
+ghost use Rattle.rulebook.specs.Admission.{most_names};
 ghost use Rattle.rulebook.specs.Book.{newest_messages};
 ghost use Rattle.market_core.specs.MarketState.{most_messages};
 ghost use Rattle.market_core.specs.MarketState as markets;
 ghost use Rattle.shard_core.specs.Block.{AreAdmissible};
 ghost use Rattle.evaluator_core.specs.AheadState.{RepresentsAhead, HasAhead};
 ghost use Rattle.evaluator_core.specs.Leading.{leading};
+ghost use Rattle.evaluator_core.specs.RestingState.{RepresentsResting};
 
+use crate::resting::{Resting, are_worth_threads};
 use market_core::{MOST_MESSAGES, Market};
 use merge_core::Tagged;
 use price_core::NoMemory;
@@ -20,9 +20,13 @@ use std::alloc::Global;
 use std::marker::Model;
 use std::snapshot::Snapshot;
 use std::thread::Threads;
-use wire_in::{Base, Record};
+use wire_in::Record;
 use wire_out::Stamped;
 use yard_core::Gate;
+
+/// How many blocks that aren't worth threads come one after the other until the workers rest. To rest and to begin again costs
+/// as much as some of them.
+const SMALL_BLOCKS: u32 = 256;
 
 /// A market in several parts, and what a block of records gave that wasn't handed out yet. Where a block found no memory,
 /// the parts don't work any more, and nothing is given from then on. While they work, the room of one market is kept, so that
@@ -35,6 +39,7 @@ pub struct Ahead {
     index: u32,
     records: Snapshot<Vec<Record>>,
     room: Option<Market>,
+    small_blocks: u32,
 }
 
 impl Model for Ahead {
@@ -72,42 +77,22 @@ fn append(messages: &[Tagged], out: &mut Vec<Stamped>)
 }
 
 impl Ahead {
-    /// A market of no records, in so many parts, from 2 to 64.
-    pub(crate) fn new(alloc: Global, workers: u32) -> Result<Ahead, NoMemory>
+    /// One market in so many parts, from 2 to 64.
+    pub(crate) fn of(alloc: Global, workers: u32, market: Market) -> Result<Ahead, NoMemory>
         requires workers { (1 < workers) × (workers ≤ 64) }
-        ensures represents { IfOk result (λ block. RepresentsAhead block []) }
+        ensures represents { (evaluated : List Record) → markets.Represents market evaluated → IfOk result (λ block. RepresentsAhead block evaluated) }
         ensures idle { IfOk result (λ block. HasAhead block []) }
         ensures working { IfOk result (λ block. block.shards.working ≡ true) }
         ensures parts { IfOk result (λ block. length block.shards.parts ≡ workers) }
     {
         Ok(Ahead {
-            shards: Shards::new(alloc, workers)?,
+            shards: Shards::of(alloc, workers, market)?,
             given: Vec::new(alloc),
             at: 0,
             index: 0,
             records: Snapshot::of(&Vec::new(alloc)),
             room: Some(Market::new(alloc)?),
-        })
-    }
-
-    /// The market of whatever records have a base, in so many parts, from 2 to 64.
-    pub(crate) fn restore(alloc: Global, workers: u32, base: &Base) -> Result<Ahead, NoMemory>
-        requires workers { (1 < workers) × (workers ≤ 64) }
-        requires range { IsInRange base.now }
-        ensures stands { IfOk result (λ block. (capacity : ℕ) (evaluated : List Record) → base_of evaluated ≡ Some base.now → IsLawful capacity evaluated
-            → RepresentsAhead block evaluated) }
-        ensures stand_in { IfOk result (λ block. RepresentsAhead block (stand_in base.now)) }
-        ensures idle { IfOk result (λ block. HasAhead block []) }
-        ensures working { IfOk result (λ block. block.shards.working ≡ true) }
-        ensures parts { IfOk result (λ block. length block.shards.parts ≡ workers) }
-    {
-        Ok(Ahead {
-            shards: Shards::restore(alloc, workers, base)?,
-            given: Vec::new(alloc),
-            at: 0,
-            index: 0,
-            records: Snapshot::of(&Vec::new(alloc)),
-            room: Some(Market::new(alloc)?),
+            small_blocks: 0,
         })
     }
 
@@ -135,6 +120,8 @@ impl Ahead {
         ensures represents { (evaluated : List Record) → RepresentsAhead self.old evaluated → HasAhead self.old []
             → IfOk result (λ market. markets.Represents market evaluated) }
         ensures succeeds { (evaluated : List Record) → RepresentsAhead self.old evaluated → HasAhead self.old [] → self.old.shards.working ≡ true → IsOk result }
+        ensures ended { self.new.shards.working ≡ false }
+        ensures parts { length self.new.shards.parts ≡ length self.old.shards.parts }
         ensures several { 1 < length self.old.shards.parts }
     {
         if !self.shards.working() {
@@ -142,6 +129,38 @@ impl Ahead {
         }
         let room = self.room.take().ok_or(NoMemory)?;
         self.shards.unite(alloc, room)
+    }
+
+    /// Whether the last blocks weren't worth threads, so many one after the other that the workers may rest.
+    pub(crate) fn is_idle_for_long(&self) -> bool {
+        self.small_blocks >= SMALL_BLOCKS
+    }
+
+    /// Counts a block of so many records.
+    fn count_block(&mut self, records: usize)
+        ensures same { self.new ≡ self.old }
+    {
+        if are_worth_threads(records, self.names()) {
+            self.small_blocks = 0;
+        } else {
+            self.small_blocks = self.small_blocks.saturating_add(1);
+        }
+    }
+
+    /// Lets the workers rest, where no record is evaluated ahead. After it nothing is evaluated here. It takes no memory, and fails
+    /// where a block found none.
+    pub(crate) fn rest(&mut self) -> Result<Resting, NoMemory>
+        ensures represents { (evaluated : List Record) → RepresentsAhead self.old evaluated → HasAhead self.old []
+            → IfOk result (λ resting. RepresentsResting resting evaluated) }
+        ensures workers { IfOk result (λ resting. resting.workers ≡ length self.old.shards.parts) }
+        ensures ended { self.new.shards.working ≡ false }
+        ensures parts { length self.new.shards.parts ≡ length self.old.shards.parts }
+        ensures several { 1 < length self.old.shards.parts }
+    {
+        let alloc = *self.given.allocator();
+        let workers = self.shards.workers();
+        let market = self.unite(alloc)?;
+        Ok(Resting::of(alloc, workers, market))
     }
 
     /// Evaluates a block of records ahead, when those of the block before were handed out. Where it finds no memory, that is
@@ -159,6 +178,7 @@ impl Ahead {
         ensures parts { length self.new.shards.parts ≡ length self.old.shards.parts }
         ensures several { 1 < length self.old.shards.parts }
     {
+        self.count_block(xs.len());
         if !self.shards.working() {
             return;
         }

@@ -12,6 +12,7 @@ ghost use Rattle.market_core.specs.MarketState.{most_messages, most_of_names};
 ghost use Rattle.shard_core.specs.Block.{AreAdmissible};
 
 use crate::ahead::Ahead;
+use crate::resting::Resting;
 use market_core::Market;
 use price_core::NoMemory;
 use std::alloc::Global;
@@ -20,10 +21,12 @@ use wire_in::{Base, Record};
 use wire_out::Stamped;
 use yard_core::Gate;
 
-/// One market: by one worker, record by record, or by several, in blocks of records that are evaluated ahead.
+/// One market: by one worker, record by record, or by several. These rest, which is to evaluate record by record as one does,
+/// or they evaluate blocks of records ahead, each a part of the market.
 #[derive(Drop)]
 pub enum Evaluator {
     One(Market),
+    Resting(Resting),
     Many(Ahead),
 }
 
@@ -38,15 +41,15 @@ impl Evaluator {
         ensures working { IfOk result IsWorking }
         ensures workers { IfOk result (λ evaluator. workers_of evaluator ≡ workers) }
     {
+        let market = Market::new(alloc)?;
         if workers == 1 {
-            Ok(Evaluator::One(Market::new(alloc)?))
-        } else {
-            Ok(Evaluator::Many(Ahead::new(alloc, workers)?))
+            return Ok(Evaluator::One(market));
         }
+        Ok(Evaluator::Resting(Resting::of(alloc, workers, market)))
     }
 
     /// The market of whatever records have a base, for so many workers, from 1 to 64. It takes over one of no records for as many
-    /// workers: one worker goes on in its room, and several are made anew.
+    /// workers, and its room. An error tells that these don't work any more.
     pub fn restore(self, alloc: Global, workers: u32, base: &Base) -> Result<Evaluator, NoMemory>
         requires none { Represents self [] }
         requires many { workers_of self ≡ workers }
@@ -61,10 +64,15 @@ impl Evaluator {
     {
         match self {
             Evaluator::One(market) => Ok(Evaluator::One(market.restore(base))),
+            Evaluator::Resting(mut resting) => {
+                let market = resting.end()?.restore(base);
+                Ok(Evaluator::Resting(Resting::of(alloc, workers, market)))
+            }
             Evaluator::Many(block) => {
                 // For the proof: it says that there are several.
                 let _alone = block.is_alone();
-                Ok(Evaluator::Many(Ahead::restore(alloc, workers, base)?))
+                let market = Market::new(alloc)?.restore(base);
+                Ok(Evaluator::Resting(Resting::of(alloc, workers, market)))
             }
         }
     }
@@ -86,7 +94,7 @@ impl Evaluator {
     {
         match self {
             Evaluator::One(market) => market.base(alloc, records, messages, day),
-            Evaluator::Many(_) => Err(NoMemory),
+            Evaluator::Resting(_) | Evaluator::Many(_) => Err(NoMemory),
         }
     }
 
@@ -97,7 +105,17 @@ impl Evaluator {
     {
         match self {
             Evaluator::One(market) => market.names(),
+            Evaluator::Resting(resting) => resting.names(),
             Evaluator::Many(block) => block.names(),
+        }
+    }
+
+    /// Whether a block of many records would be shared out to several workers.
+    pub fn shares_out(&self) -> bool {
+        match self {
+            Evaluator::One(_) => false,
+            Evaluator::Resting(resting) => resting.has_many_names(),
+            Evaluator::Many(_) => true,
         }
     }
 
@@ -108,6 +126,7 @@ impl Evaluator {
     {
         match self {
             Evaluator::One(_) => true,
+            Evaluator::Resting(resting) => resting.is_alone(),
             Evaluator::Many(block) => block.is_alone(),
         }
     }
@@ -122,15 +141,51 @@ impl Evaluator {
         ensures succeeds { (evaluated : List Record) → Represents self.old evaluated → IsIdle self.old → IsWorking self.old → IsOk result }
         ensures unchanged { workers_of self.old ≡ 1 → IsOk result × (self.new ≡ self.old) }
     {
-        if let Evaluator::Many(block) = self {
-            let market = block.unite(alloc)?;
-            *self = Evaluator::One(market);
+        match self {
+            Evaluator::One(_) => {}
+            Evaluator::Resting(resting) => {
+                let market = resting.end()?;
+                *self = Evaluator::One(market);
+            }
+            Evaluator::Many(block) => {
+                let market = block.unite(alloc)?;
+                *self = Evaluator::One(market);
+            }
         }
         Ok(())
     }
 
-    /// Evaluates a block of records ahead, by as many workers as there are, each of which passes the gate before it works:
-    /// they are admissible one after the other, and each record of the block before was applied. One worker does
+    /// Shares the market out to several workers that rest, where so many records outweigh that, and lets them rest where few blocks
+    /// did for long. Where it finds no memory, each record that is then applied fails.
+    fn begin_or_rest(&mut self, records: usize)
+        ensures represents { (evaluated : List Record) → Represents self.old evaluated → IsIdle self.old → Represents self.new evaluated }
+        ensures idle { IsIdle self.old → IsIdle self.new }
+        ensures alone { workers_of self.old ≡ 1 → self.new ≡ self.old }
+        ensures workers { workers_of self.new ≡ workers_of self.old }
+    {
+        match self {
+            Evaluator::One(_) => {}
+            Evaluator::Resting(resting) => {
+                if resting.is_outweighed(records) {
+                    let Ok(block) = resting.share_out() else {
+                        return;
+                    };
+                    *self = Evaluator::Many(block);
+                }
+            }
+            Evaluator::Many(block) => {
+                if block.is_idle_for_long() {
+                    let Ok(resting) = block.rest() else {
+                        return;
+                    };
+                    *self = Evaluator::Resting(resting);
+                }
+            }
+        }
+    }
+
+    /// Evaluates a block of records ahead, by as many workers as there are, each of which passes the gate before it works,
+    /// where the records outweigh that: they are admissible one after the other, and each record of the block before was applied. One worker does
     /// nothing here. At most 65,536 records. Where several workers find no memory, each record that is then applied fails.
     pub fn prepare<Rt: Threads + Sync, G: Gate>(&mut self, rt: &Rt, gate: &G, xs: &Vec<Record>)
         requires few { length xs.now.items ≤ 65536 }
@@ -140,9 +195,9 @@ impl Evaluator {
         ensures alone { workers_of self.old ≡ 1 → self.new ≡ self.old }
         ensures workers { workers_of self.new ≡ workers_of self.old }
     {
-        match self {
-            Evaluator::One(_) => {}
-            Evaluator::Many(block) => block.prepare(rt, gate, xs),
+        self.begin_or_rest(xs.len());
+        if let Evaluator::Many(block) = self {
+            block.prepare(rt, gate, xs);
         }
     }
 
@@ -169,6 +224,7 @@ impl Evaluator {
     {
         match self {
             Evaluator::One(market) => market.apply(x, out),
+            Evaluator::Resting(resting) => resting.apply(x, out),
             Evaluator::Many(block) => block.apply(out),
         }
     }

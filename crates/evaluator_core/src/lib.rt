@@ -3,6 +3,8 @@
 
 mod ahead;
 mod evaluator;
+mod resting;
 
 pub use ahead::Ahead;
 pub use evaluator::Evaluator;
+pub use resting::Resting;

@@ -2,9 +2,7 @@
 
 ghost use Rattle.std.specs.Prelude.{◌≡◌, ℕ, ◌+◌, ◌<◌, ◌≤◌, ◌++◌, [], true, false, List, Some, IfOk, IsOk, OnOk, OnErr, is_ok, length};
 ghost use Rattle.wire_in.specs.declared.record.Record.{Record};
-ghost use Rattle.wire_in.specs.Bases.{IsInRange};
-ghost use Rattle.rulebook.specs.Admission.{IsLawful, most_names};
-ghost use Rattle.rulebook.specs.Base.{base_of, stand_in};
+ghost use Rattle.rulebook.specs.Admission.{most_names};
 ghost use Rattle.shard_core.specs.Block.{AreAdmissible, Represents, followed, given, given_from, market_of};
 ghost use Rattle.merge_core.specs.Merged.{GoesOn};
 ghost use Rattle.shard_core.specs.Turns.{AreEmpty};
@@ -20,7 +18,7 @@ use std::alloc::Global;
 use std::marker::Model;
 use std::mem;
 use std::thread::Threads;
-use wire_in::{Base, Record};
+use wire_in::Record;
 use wire_out::Stamped;
 use yard_core::Gate;
 
@@ -107,7 +105,7 @@ impl Shards {
     }
 
     /// One market in so many parts, from 1 to 64, which have as many of its stocks each.
-    fn of(alloc: Global, workers: u32, market: Market) -> Result<Shards, NoMemory>
+    pub fn of(alloc: Global, workers: u32, market: Market) -> Result<Shards, NoMemory>
         requires workers { (0 < workers) × (workers ≤ 64) }
         ensures one { IfOk result (λ shards. market_of shards ≡ market) }
         ensures parts { IfOk result (λ shards. length shards.parts ≡ workers) }
@@ -129,25 +127,20 @@ impl Shards {
         })
     }
 
-    /// The market of whatever records have a base, in so many parts, from 1 to 64.
-    pub fn restore(alloc: Global, workers: u32, base: &Base) -> Result<Shards, NoMemory>
-        requires workers { (0 < workers) × (workers ≤ 64) }
-        requires range { IsInRange base.now }
-        ensures stands { IfOk result (λ shards. (capacity : ℕ) (applied : List Record) → base_of applied ≡ Some base.now → IsLawful capacity applied → Represents shards applied) }
-        ensures stand_in { IfOk result (λ shards. Represents shards (stand_in base.now)) }
-        ensures parts { IfOk result (λ shards. length shards.parts ≡ workers) }
-        ensures working { IfOk result (λ shards. shards.working ≡ true) }
-    {
-        let market = Market::new(alloc)?.restore(base);
-        Shards::of(alloc, workers, market)
-    }
-
     /// How many names were ever listed.
     pub fn names(&self) -> u32
         ensures names { result ≡ length self.now.lead.directory }
         ensures bound { result ≤ most_names }
     {
         self.lead.names()
+    }
+
+    /// In how many parts it is.
+    pub fn workers(&self) -> u32
+        ensures workers { result ≡ length self.now.parts }
+        ensures bounds { (0 < result) × (result ≤ 64) }
+    {
+        self.parts.len() as u32
     }
 
     /// Whether no block has failed. A market of which a block failed gives nothing more.

@@ -60,6 +60,9 @@ fn tag_all(said: &[Stamped], input: u32, out: &mut Vec<Tagged>)
 pub fn tag(said: &[Stamped], input: u32, out: &mut Vec<Tagged>) -> Result<(), NoMemory>
     ensures { OnOk result (out.new.items ≡ out.old.items ++ tagged input said.now) }
 {
+    if said.is_empty() {
+        return Ok(());
+    }
     out.reserve(said.len())?;
     tag_all(said, input, out);
     Ok(())
