@@ -4,13 +4,13 @@ use super::morning::sent_by;
 use super::{fresh, host, joined, left_by, put, session, session_over};
 use host_core::Status;
 use memory_host::MemoryHost;
-use session_core::Level;
+use price_core::Tier;
 use std::process::Abort;
 use std::sync::atomic::AtomicBool;
 use std::sync::atomic::Ordering::SeqCst;
 use std::thread::Threads;
 use test_days::Session;
-use test_days::lines::{at, breaker, clock, day, tick};
+use test_days::lines::{Line, at, clock, day, listed_as, listing_of, name_of};
 use yard_core::Gate;
 
 /// Two pieces, each of which raises its own flag at the gate and looks for the other's.
@@ -33,20 +33,29 @@ impl Gate for Meeting {
     }
 }
 
-/// The day of the fall with 4,000 clocks before it. Behind two short pieces, so many records are worked by threads.
-fn long_fall<R: Abort + AllocGlobal>(rt: &R) -> Session {
-    let t = at(10, 0, 0);
+/// The names of a day.
+const NAMES: u16 = 2_100;
+
+/// The clocks behind them. With so many names, so many records are worked by threads.
+const CLOCKS: u32 = 20_000;
+
+/// Lists the names.
+fn list_names<R: Abort + AllocGlobal>(rt: &R, lines: &mut Vec<Line>) {
+    for symbol in 0..NAMES {
+        let name = name_of(symbol);
+        let listing = listing_of(at(4, 0, 0), name, Tier::One, 10, 200_000);
+        put(rt, lines, &[listing, listed_as(symbol, name)]);
+    }
+}
+
+/// A day of many names and many clocks.
+fn long_day<R: Abort + AllocGlobal>(rt: &R) -> Session {
     let mut lines = Vec::new(rt.alloc());
     put(rt, &mut lines, &[day(3)]);
-    for _clock in 0..4_000u32 {
-        put(rt, &mut lines, &[clock(at(9, 30, 0))]);
+    list_names(rt, &mut lines);
+    for _clock in 0..CLOCKS {
+        put(rt, &mut lines, &[clock(at(9, 0, 0))]);
     }
-    let values = [
-        tick(t, 465_001),
-        tick(t, 465_000),
-        breaker(Level::One, 465_000),
-    ];
-    put(rt, &mut lines, &values);
     session(rt, &lines)
 }
 
@@ -91,20 +100,20 @@ fn meets<Rt: Abort + AllocGlobal + Threads + Sync>(
 
 #[test]
 fn two_pieces_of_a_replay_meet(rt: HostRuntime) {
-    let day = long_fall(&rt);
+    let day = long_day(&rt);
     let words = ["replay", "--workers", "2"];
     meets(&rt, &words, b"", &day.input, &day.replayed);
 }
 
-/// What a session that asks for all messages again is sent over a journal of the long fall.
-fn again<R: Abort + AllocGlobal>(rt: &R, breaker: &[u8]) -> Vec<u8> {
-    let hello = session_over(rt, 4_003, 1, &[]);
-    joined(rt, &[breaker, hello.served.as_slice()])
+/// What a session that asks for all messages again is sent over a journal of the long day.
+fn again<R: Abort + AllocGlobal>(rt: &R, messages: &[u8]) -> Vec<u8> {
+    let hello = session_over(rt, 22_101, 2_100, &[]);
+    joined(rt, &[messages, hello.served.as_slice()])
 }
 
 #[test]
 fn two_pieces_of_a_journal_meet_where_a_session_starts(rt: HostRuntime) {
-    let day = long_fall(&rt);
+    let day = long_day(&rt);
     let (input, served) = (day.input.as_slice(), day.served.as_slice());
     let empty = fresh(&rt);
     let disk = left_by(&rt, &["serve"], &empty, input, served, Status::Done);
@@ -117,9 +126,9 @@ const BY_ONE: &[&str] = &[
     "generate",
     "--summary",
     "--symbols",
-    "20",
+    "2500",
     "--records",
-    "20000",
+    "40000",
     "--workers",
     "1",
 ];
@@ -128,9 +137,9 @@ const BY_TWO: &[&str] = &[
     "generate",
     "--summary",
     "--symbols",
-    "20",
+    "2500",
     "--records",
-    "20000",
+    "40000",
     "--workers",
     "2",
 ];
