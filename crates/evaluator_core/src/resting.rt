@@ -15,7 +15,7 @@ use wire_in::Record;
 use wire_out::Stamped;
 
 /// The fewest records of a block that are worth threads.
-const FEWEST_RECORDS: usize = 1_024;
+const FEWEST_RECORDS: usize = 4_096;
 
 /// The fewest names of which a block's records are worth threads: with fewer, a record costs less than to share it out.
 const FEWEST_NAMES: u32 = 2_048;
