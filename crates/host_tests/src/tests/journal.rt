@@ -1,12 +1,11 @@
 //! The journal, over memory and over real files.
 
-ghost use Rattle.std.specs.Prelude.{◌≡◌, ◌<◌, ◌≤◌, ◌+◌, true, false, IfOk, OnOk, IsTrue, length};
+ghost use Rattle.std.specs.Prelude.{◌≡◌, ◌<◌, ◌≤◌, ◌+◌, true, false, IfOk, IsTrue, length};
 ghost use Rattle.wire_in.specs.Records.{is_day};
 ghost use Rattle.wire_in.specs.Spelling.{InRange};
 ghost use Rattle.memory_host.specs.Memory.{known};
 ghost use Rattle.journal_core.specs.Journal.{HasBytes};
 ghost use Rattle.journal_core.specs.Layout.{IsLimit};
-ghost use Rattle.journal_core.specs.Scan.{IsScanOf};
 
 use super::bases::kept_day;
 use host_core::{Failed, Host, JournalFile, Opens, RealHost, Stream, SystemFiles};
@@ -50,9 +49,11 @@ pub fn day_record() -> Result<Record, Fail>
 fn day(alloc: Global) -> Result<Batch, Fail>
     ensures { IfOk result (λ batch. 0 < length batch) }
 {
-    let record = day_record()?;
+    let moment = Moment::new(14_400_000_000_000)?;
+    let date = Date::of(2024, 6, 3)?;
+    let index_close = Index::new(500_000)?;
     let mut batch = Batch::new(alloc)?;
-    batch.push(record);
+    batch.push(day_at(moment, date, index_close));
     Ok(batch)
 }
 
@@ -78,24 +79,14 @@ fn quotes(alloc: Global, count: usize) -> Result<Batch, Fail>
     Ok(batch)
 }
 
-/// Reads the batches that are left of a journal.
-fn read_on<H: Host>(alloc: Global, host: &mut H, scan: &mut Scan) -> Result<(), ScanError>
-    requires { IsScanOf scan.old (H.outside host.old).disk }
-    ensures closed { OnOk result (IsTrue scan.new.is_closed) }
-    ensures of_disk { OnOk result (IsScanOf scan.new (H.outside host.new).disk) }
-{
-    let mut batch = Batch::new(alloc)?;
-    while scan.next(host, &mut batch)? {}
-    Ok(())
-}
-
 /// Reads a journal to its end.
 pub fn open<H: Host>(alloc: Global, host: &mut H) -> Result<Journal, ScanError>
     ensures whole { IfOk result (λ journal. IsTrue journal.whole) }
     ensures gate { IfOk result (λ journal. HasBytes (journal.gate + 1) (H.outside host.new).disk) }
 {
     let mut scan = Scan::begin(alloc, host)?;
-    read_on(alloc, host, &mut scan)?;
+    let mut batch = Batch::new(alloc)?;
+    while scan.next(host, &mut batch)? {}
     Ok(scan.finish())
 }
 
@@ -269,7 +260,8 @@ fn count_changed(
     let mut disk = CLOCK;
     disk[12..16].copy_from_slice(&limit.to_be_bytes());
     disk[at % 32] = byte;
-    count_of(alloc, &disk[..len.min(32)])
+    let len = len.min(disk.len());
+    count_of(alloc, &disk[..len])
 }
 
 #[test]

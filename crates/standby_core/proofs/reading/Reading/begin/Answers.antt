@@ -23,12 +23,12 @@ pub returns-clause-reads : goal.returns-clause-reads
 returns-clause-reads g c = λ disk known. record {
   rests = record { known = known; settled = c.in_ok-scan.ensures.settled };
   read = c.in_ok-scan.ensures.read disk known;
-  admits = c.admission_before.ensures.before;
+  admits = c.admission_before-admission.ensures.before;
 }
 
 pub returns-clause-in_step : goal.returns-clause-in_step
 returns-clause-in_step g c =
-    let a = c.admission_before.ensures in
+    let a = c.admission_before-admission.ensures in
     record {
       of_disk = c.in_ok-scan.ensures.of_disk;
       capacity = sym a.before.limit;
