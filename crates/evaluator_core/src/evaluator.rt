@@ -16,6 +16,7 @@ use crate::resting::Resting;
 use market_core::Market;
 use price_core::NoMemory;
 use std::alloc::Global;
+use std::mem;
 use std::thread::Threads;
 use wire_in::{Base, Record};
 use wire_out::Stamped;
@@ -145,11 +146,11 @@ impl Evaluator {
             Evaluator::One(_) => {}
             Evaluator::Resting(resting) => {
                 let market = resting.end()?;
-                *self = Evaluator::One(market);
+                drop(mem::replace(self, Evaluator::One(market)));
             }
             Evaluator::Many(block) => {
                 let market = block.unite(alloc)?;
-                *self = Evaluator::One(market);
+                drop(mem::replace(self, Evaluator::One(market)));
             }
         }
         Ok(())
@@ -170,7 +171,7 @@ impl Evaluator {
                     let Ok(block) = resting.share_out() else {
                         return;
                     };
-                    *self = Evaluator::Many(block);
+                    drop(mem::replace(self, Evaluator::Many(block)));
                 }
             }
             Evaluator::Many(block) => {
@@ -178,7 +179,7 @@ impl Evaluator {
                     let Ok(resting) = block.rest() else {
                         return;
                     };
-                    *self = Evaluator::Resting(resting);
+                    drop(mem::replace(self, Evaluator::Resting(resting)));
                 }
             }
         }

@@ -1,4 +1,4 @@
-use Rattle.std.proofs.Common.{◌≡◌, Option, IfSome, subst, arith}
+use Rattle.std.proofs.Common.{◌≡◌, Option, IfSome, subst, sym, arith}
 use Rattle.market_core.specs.MarketState as markets
 use Rattle.market_core.specs.MarketState.{MarketState}
 use Rattle.evaluator_core.specs.declared.evaluator.Evaluator.{Evaluator}
@@ -13,8 +13,10 @@ returns-in_ok-market-in-Many-clause-unchanged c = λ one. absurd (omega (arith, 
 
 pub returns-in_ok-market-in-Many-clause-represents : goal.returns-in_ok-market-in-Many-clause-represents
 returns-in_ok-market-in-Many-clause-represents c = λ evaluated stands idle.
-    c.in_ok-market-in-Many.ensures.represents evaluated (subst (λ (e : Evaluator). Represents e evaluated) c.in-Many.is stands) (subst IsIdle c.in-Many.is idle)
+    subst (λ (e : Evaluator). Represents e evaluated) (sym c.replace-in-Many.ensures.after)
+    (c.in_ok-market-in-Many.ensures.represents evaluated (subst (λ (e : Evaluator). Represents e evaluated) c.in-Many.is stands) (subst IsIdle c.in-Many.is idle))
 
 pub returns-in_ok-market-in-Resting-clause-represents : goal.returns-in_ok-market-in-Resting-clause-represents
 returns-in_ok-market-in-Resting-clause-represents c = λ evaluated stands idle.
-    subst (λ (o : Option MarketState). IfSome o (λ market. markets.Represents market evaluated)) c.in_ok-market-in-Resting.ensures.market (subst (λ (e : Evaluator). Represents e evaluated) c.in-Resting.is stands)
+    subst (λ (e : Evaluator). Represents e evaluated) (sym c.replace-in-Resting.ensures.after)
+    (subst (λ (o : Option MarketState). IfSome o (λ market. markets.Represents market evaluated)) c.in_ok-market-in-Resting.ensures.market (subst (λ (e : Evaluator). Represents e evaluated) c.in-Resting.is stands))
