@@ -168,6 +168,11 @@ impl Engine {
         self.evaluator.unite(alloc)
     }
 
+    /// Whether many accepted records would be shared out to several workers.
+    pub fn shares_out(&self) -> bool {
+        self.evaluator.shares_out()
+    }
+
     /// Evaluates the oldest of the accepted records that wait ahead, which are at most 65,536, by all workers: `evaluate` then
     /// takes one after the other. One worker evaluates nothing ahead. Where there is no memory for it, `evaluate` tells so.
     pub fn prepare<Rt: Threads + Sync, G: Gate>(&mut self, rt: &Rt, gate: &G, xs: &Vec<Record>)

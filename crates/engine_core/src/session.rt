@@ -30,6 +30,10 @@ use stream_core::Outbox;
 use wire_in::{Cutter, blank, decode_into};
 use yard_core::Gate;
 
+/// How many frames are judged before they are answered where no records are shared out: what is kept of them stays in the
+/// nearest cache.
+const ENOUGH_ALONE: usize = 64;
+
 /// What is kept from piece to piece: the frame begun, the accepted records' engine, the frames that were judged and wait to
 /// be answered, what waits to be sent, and how many frames were answered.
 #[derive(Drop)]
@@ -284,8 +288,22 @@ impl Session {
         cut.used
     }
 
-    /// Takes bytes of a piece from an offset on, up to its end or until as many frames wait as the round takes. Answers the
-    /// offset behind them.
+    /// How many frames are judged before they are answered: as many as the round takes, and fewer where their records aren't
+    /// shared out to several workers.
+    fn enough(&self) -> usize
+        requires some { 1 ≤ self.now.round.most }
+        ensures some { 1 ≤ result }
+        ensures within { result ≤ self.now.round.most }
+    {
+        let most = self.round.most();
+        if self.engine.shares_out() {
+            most
+        } else {
+            most.min(ENOUGH_ALONE)
+        }
+    }
+
+    /// Takes bytes of a piece from an offset on, up to its end or until enough frames wait. Answers the offset behind them.
     fn fill(&mut self, piece: &[u8], from: usize) -> usize
         requires some { 1 ≤ self.old.round.most }
         requires empty { self.old.round.outcomes ≡ [] }
@@ -300,15 +318,16 @@ impl Session {
         ensures evaluated { self.new.engine.evaluated ≡ self.old.engine.evaluated }
         ensures answered { self.new.answered ≡ self.old.answered }
     {
+        let enough = self.enough();
         let mut at = from;
-        while at < piece.len() && self.round.len() < self.round.most() {
+        while at < piece.len() && self.round.len() < enough {
             at += self.advance(&piece[at..]);
         }
         at
     }
 }
 
-/// Takes all bytes of a piece, and answers each frame that is whole, in rounds of as many frames as the session's takes.
+/// Takes all bytes of a piece, and answers each frame that is whole, in rounds of at most as many frames as the session's takes.
 pub fn feed<Rt: Threads + Sync, K: Keeper, H: Host, G: Gate>(
     rt: &Rt,
     session: &mut Session,
