@@ -1,7 +1,7 @@
 -- The digits of a number, written and read.
-use Rattle.std.proofs.Common.{◌≡◌, ℕ, zero, suc, ◌+◌, ◌*◌, ◌/◌, ◌%◌, ◌^◌, ◌<◌, List, [], ◌∷◌, ◌++◌, decimal, fold, refl, ◌∙◌, arith, rules}
+use Rattle.std.proofs.Common.{◌≡◌, ℕ, zero, suc, ◌+◌, ◌*◌, ◌/◌, ◌%◌, ◌^◌, ◌<◌, ◌≤◌, List, [], ◌∷◌, ◌++◌, decimal, fold, refl, ◌∙◌, arith, rules, add-one}
 use Rattle.std.specs.Str.Parse.{AllDigits}
-use Rattle.std.proofs.Math.Nat.{div-div-eq-div-mul}
+use Rattle.std.proofs.Math.Nat.{div-div-eq-div-mul, pow-suc, pow-le-pow_right}
 use Rattle.std.proofs.lemmas.Bool.Decides.{nat_tests}
 use Rattle.std.proofs.lemmas.Fmt.{digits_value-decimal}
 use Rattle.std.proofs.lemmas.List.Sums.{fold_push, fold-append}
@@ -39,6 +39,13 @@ numerals = numerals_by_fold (AllDigits 10) tells_digits value_from (search rules
 -- the number of a decimal word
 pub decimal_value : (n : ℕ) → n < 2 ^ 64 → value_from 0 (decimal n) ≡ n
 decimal_value n h = digits_value-decimal numerals n h
+
+-- a number of so many digits, and one digit more
+pub next_few : (n b len : ℕ) → n < 10 ^ len → next_number n b < 10 ^ (len + 1)
+next_few n b len few = grind (arith, nat_tests, few, pow-suc 10 len, add-one len)
+
+pub few_bits : (len : ℕ) → len ≤ 19 → 10 ^ len ≤ 10 ^ 19
+few_bits len few = pow-le-pow_right (omega arith) few
 
 -- ten to the power of k
 abbrev pub weight : ℕ → ℕ

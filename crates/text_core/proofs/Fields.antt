@@ -15,7 +15,7 @@ use Rattle.session_core.specs.Moments.{IsMoment}
 use Rattle.wire_core.specs.Fields.{checked, is_moment}
 use Rattle.wire_core.specs.Names.{is_name, is_visible, visible_count}
 use Rattle.text_core.specs.Words.{last_digits, time_word, date_word, price_word, optional_price_word, index_word, hex_digit, flags_word, name_word, unmatched_word}
-use Rattle.text_core.specs.Reading.{number_in, number8_in, number16_in, number32_in, nanos_of, moment_in, price_in, optional_price_in, index_in, date_in, leverage_in, name_in, hex_value, flags_in, unmatched_in}
+use Rattle.text_core.specs.Reading.{number_in, number8_in, number16_of, number16_in, number32_of, number32_in, nanos_of, moment_of, moment_in, price_of, price_in, optional_price_of, optional_price_in, index_in, date_in, leverage_in, name_in, hex_value, flags_in, unmatched_in}
 use Rattle.text_core.proofs.Digits.{value_from, decimal_value, digits_value, point_value, number_is}
 use Rattle.text_core.proofs.Plain.{time_parts, date_parts, price_parts, index_parts}
 
@@ -27,11 +27,11 @@ unfolding number8_in
 number8_again n h = rw (number_again n (omega (arith, h))) (grind (arith, nat_tests))
 
 pub number16_again : (n : ℕ) → n < 2 ^ 16 → number16_in (decimal n) ≡ Some n
-unfolding number16_in
+unfolding number16_in number16_of
 number16_again n h = rw (number_again n (omega (arith, h))) (grind (arith, nat_tests))
 
 number32_is : (word : List ℕ) (n : ℕ) → number_in word ≡ n → n < 2 ^ 32 → number32_in word ≡ Some n
-unfolding number32_in
+unfolding number32_in number32_of
 number32_is word n e h = rw e (grind (arith, nat_tests))
 
 pub number32_again : (n : ℕ) → n < 2 ^ 32 → number32_in (decimal n) ≡ Some n
@@ -55,7 +55,7 @@ time_number t h =
     nanos_are hours minutes seconds (t % 1000000000) _ few (omega arith) (omega arith) (omega arith) number ∙ omega arith
 
 pub moment_again : (t : ℕ) → IsMoment t → moment_in (time_word t) ≡ Some t
-unfolding moment_in
+unfolding moment_in moment_of
 moment_again t h = ap (λ n. checked (is_moment n) n) (time_number t h) ∙ grind (arith, nat_tests)
 
 date_value : (y m d : ℕ) → y < 10000 → m < 100 → d < 100 → value_from 0 (last_digits 4 y ++ 45 ∷ (last_digits 2 m ++ 45 ∷ last_digits 2 d)) ≡ (y * 100 + m) * 100 + d
@@ -87,11 +87,11 @@ price_number p h =
     number_is (price_word p) p (ap (value_from 0) (price_parts p) ∙ value ∙ omega arith) (omega (arith, h.most))
 
 pub price_again : (p : ℕ) → IsPrice p → price_in (price_word p) ≡ Some p
-unfolding price_in
+unfolding price_in price_of
 price_again p h = rw (price_number p h) (grind (arith, nat_tests))
 
 pub optional_again : (p : Option ℕ) → IfSome p IsPrice → optional_price_in (optional_price_word p) ≡ Some p
-unfolding optional_price_in number_in
+unfolding optional_price_in optional_price_of number_in
 optional_again p h = grind (arith, nat_tests, price_number)
 
 pub index_again : (v : ℕ) → IsIndex v → index_in (index_word v) ≡ Some v

@@ -1,7 +1,8 @@
 -- The words of a line, one after the other.
-use Rattle.std.proofs.Common.{◌≡◌, ℕ, zero, suc, Bool, true, List, [], ◌∷◌, ◌++◌, length, get_or, Option, Some, IsAscii, not, ◌==◌, refl, sym, ap, ◌∙◌, arith, append_assoc, append-nil}
+use Rattle.std.proofs.Common.{◌≡◌, ℕ, zero, suc, ◌+◌, ◌<◌, ◌≤◌, Bool, true, if◌then◌else◌, List, [], ◌∷◌, ◌++◌, length, get_or, drop, Option, Some, IsAscii, not, ◌==◌, refl, sym, ap, ◌∙◌, arith, append_assoc, append-nil}
 use Rattle.std.specs.List.{list_all, prefix_len}
 use Rattle.std.proofs.lemmas.Bool.Decides.{nat_tests}
+use Rattle.std.proofs.lemmas.List.{at_drop_more, drop_all}
 use Rattle.std.proofs.lemmas.List.Folds.{length-prefix_len}
 use Rattle.std.proofs.lemmas.Str.{IsAscii-append}
 use Rattle.std.proofs.lemmas.Str.Ascii.{IsAscii-nil, IsAscii-cons}
@@ -33,6 +34,13 @@ word_5 line = word_later 4 line ∙ word_4 (behind line)
 
 pub word_6 : (line : List ℕ) → word_at 6 line ≡ word_at 0 (behind (behind (behind (behind (behind (behind line))))))
 word_6 line = word_later 5 line ∙ word_5 (behind line)
+
+-- how much of a word is left, byte by byte
+pub word_left : (line : List ℕ) (len : ℕ) → len < length line → word_len (drop len line) ≡ (if get_or line len 0 == 32 then 0 else 1 + word_len (drop (len + 1) line))
+word_left line len short = at_drop_more word_len line len 0 short ∙ grind (arith, nat_tests)
+
+pub none_left : (line : List ℕ) (len : ℕ) → length line ≤ len → word_len (drop len line) ≡ 0
+none_left line len long = ap word_len (drop_all len line long)
 
 -- further words, each behind a blank
 abbrev pub further : List (List ℕ) → List ℕ

@@ -72,11 +72,17 @@ flags_in word =
 unfoldable pub number8_in : List ℕ → Option ℕ
 number8_in word = checked (nat_lt (number_in word) (2 ^ 8)) (number_in word)
 
+unfoldable pub number16_of : ℕ → Option ℕ
+number16_of n = checked (nat_lt n (2 ^ 16)) n
+
 unfoldable pub number16_in : List ℕ → Option ℕ
-number16_in word = checked (nat_lt (number_in word) (2 ^ 16)) (number_in word)
+number16_in word = number16_of (number_in word)
+
+unfoldable pub number32_of : ℕ → Option ℕ
+number32_of n = checked (nat_lt n (2 ^ 32)) n
 
 unfoldable pub number32_in : List ℕ → Option ℕ
-number32_in word = checked (nat_lt (number_in word) (2 ^ 32)) (number_in word)
+number32_in word = number32_of (number_in word)
 
 -- nanoseconds since midnight of the digits hhmmssnnnnnnnnn
 abbrev pub nanos_of : ℕ → ℕ
@@ -84,14 +90,24 @@ nanos_of n =
     (n / 10000000000000 % 100 * 3600 + n / 100000000000 % 100 * 60 + n / 1000000000 % 100) * 1000000000
     + n % 1000000000
 
+unfoldable pub moment_of : ℕ → Option ℕ
+moment_of n = checked (is_moment (nanos_of n)) (nanos_of n)
+
 unfoldable pub moment_in : List ℕ → Option ℕ
-moment_in word = checked (is_moment (nanos_of (number_in word))) (nanos_of (number_in word))
+moment_in word = moment_of (number_in word)
+
+unfoldable pub price_of : ℕ → Option ℕ
+price_of units = checked (is_price units) units
 
 unfoldable pub price_in : List ℕ → Option ℕ
-price_in word = checked (is_price (number_in word)) (number_in word)
+price_in word = price_of (number_in word)
+
+-- no units stand for no price
+unfoldable pub optional_price_of : ℕ → Option (Option ℕ)
+optional_price_of units = if units == 0 then Some None else checked (is_price units) (Some units)
 
 unfoldable pub optional_price_in : List ℕ → Option (Option ℕ)
-optional_price_in word = if number_in word == 0 then Some None else checked (is_price (number_in word)) (Some (number_in word))
+optional_price_in word = optional_price_of (number_in word)
 
 unfoldable pub index_in : List ℕ → Option ℕ
 index_in word = do

@@ -2,7 +2,7 @@
 
 ghost use Rattle.std.specs.Prelude.{◌≡◌, ◌↔◌, ◌≤◌, ◌-◌, ◌^◌, IsTrue, min, length};
 ghost use Rattle.wire_core.specs.Names.{is_name};
-ghost use Rattle.text_core.specs.Reading.{word_len, word_at, behind, next_number, number_in, number8_in, number16_in, number32_in, moment_in, price_in, optional_price_in, index_in, date_in, leverage_in, name_in, hex_value, flags_in};
+ghost use Rattle.text_core.specs.Reading.{word_len, word_at, behind, next_number, number_in, number8_in, number16_of, number16_in, number32_of, number32_in, moment_of, moment_in, price_of, price_in, optional_price_of, optional_price_in, index_in, date_in, leverage_in, name_in, hex_value, flags_in};
 
 use price_core::{Index, Leverage, Price};
 use session_core::{Date, Moment};
@@ -43,6 +43,39 @@ pub fn split(line: &[u8]) -> (&[u8], &[u8])
     (&line[..len], &line[end..])
 }
 
+/// How long the first word of a line is, and its number, where it has at most 19 characters.
+#[tactic(auto, unfolding(crate::specs::Reading::word_at, crate::specs::Reading::number_in), using(std::proofs::lemmas::Bool::Decides::nat_tests, crate::proofs::Words::word_left, crate::proofs::Words::none_left, crate::proofs::Digits::next_few, crate::proofs::Digits::few_bits))]
+fn short_number(line: &[u8]) -> (usize, u64)
+    ensures len { result.0 ≡ word_len line.now }
+    ensures bound { result.0 ≤ length line.now }
+    ensures number { result.0 ≤ 19 → result.1 ≡ number_in (word_at 0 line.now) }
+{
+    let mut number = 0_u64;
+    for len in 0..line.len() {
+        let byte = line[len];
+        if byte.is_ascii_digit() {
+            number = number.wrapping_mul(10).wrapping_add(u64::from(byte - b'0'));
+        } else if byte == b' ' {
+            return (len, number);
+        }
+    }
+    (line.len(), number)
+}
+
+/// The number of the first word of a line, and what stands behind the blank that ends it.
+#[tactic(auto, unfolding(crate::specs::Reading::word_at, crate::specs::Reading::behind))]
+pub fn split_number(line: &[u8]) -> (u64, &[u8])
+    ensures number { result.0 ≡ number_in (word_at 0 line.now) }
+    ensures rest { result.1.now ≡ behind line.now }
+{
+    let (len, short) = short_number(line);
+    let rest = &line[(len + 1).min(line.len())..];
+    if len > 19 {
+        return (number(&line[..len]), rest);
+    }
+    (short, rest)
+}
+
 /// A number with one character more.
 fn next_number(n: u64, byte: u8) -> u64
     ensures { result ≡ min (next_number n byte) (2 ^ 64 - 1) }
@@ -77,12 +110,28 @@ pub fn number8(word: &[u8]) -> Option<u8>
     u8::try_from(number(word)).ok()
 }
 
+/// A number, if it has 16 bits.
+#[tactic(auto, unfolding(crate::specs::Reading::number16_of))]
+pub fn number16_of(n: u64) -> Option<u16>
+    ensures { result ≡ number16_of n }
+{
+    u16::try_from(n).ok()
+}
+
 /// The number that a word prints, of 16 bits; of a word that prints none any number or none.
 #[tactic(auto, unfolding(crate::specs::Reading::number16_in))]
 pub fn number16(word: &[u8]) -> Option<u16>
     ensures { result ≡ number16_in word.now }
 {
-    u16::try_from(number(word)).ok()
+    number16_of(number(word))
+}
+
+/// A number, if it has 32 bits.
+#[tactic(auto, unfolding(crate::specs::Reading::number32_of))]
+pub fn number32_of(n: u64) -> Option<u32>
+    ensures { result ≡ number32_of n }
+{
+    u32::try_from(n).ok()
 }
 
 /// The number that a word prints, of 32 bits; of a word that prints none any number or none.
@@ -90,7 +139,19 @@ pub fn number16(word: &[u8]) -> Option<u16>
 pub fn number32(word: &[u8]) -> Option<u32>
     ensures { result ≡ number32_in word.now }
 {
-    u32::try_from(number(word)).ok()
+    number32_of(number(word))
+}
+
+/// The moment of the digits hhmmssnnnnnnnnn.
+#[tactic(auto, unfolding(crate::specs::Reading::moment_of))]
+pub fn moment_of(n: u64) -> Option<Moment>
+    ensures { result ≡ moment_of n }
+{
+    let hours = n / 10_000_000_000_000 % 100;
+    let minutes = n / 100_000_000_000 % 100;
+    let seconds = n / 1_000_000_000 % 100;
+    let nanos = (hours * 3600 + minutes * 60 + seconds) * 1_000_000_000 + n % 1_000_000_000;
+    Moment::new(nanos).ok()
 }
 
 /// The moment that a word prints, as hh:mm:ss.nnnnnnnnn; of a word that prints none any moment or none.
@@ -98,12 +159,7 @@ pub fn number32(word: &[u8]) -> Option<u32>
 pub fn moment(word: &[u8]) -> Option<Moment>
     ensures { result ≡ moment_in word.now }
 {
-    let n = number(word);
-    let hours = n / 10_000_000_000_000 % 100;
-    let minutes = n / 100_000_000_000 % 100;
-    let seconds = n / 1_000_000_000 % 100;
-    let nanos = (hours * 3600 + minutes * 60 + seconds) * 1_000_000_000 + n % 1_000_000_000;
-    Moment::new(nanos).ok()
+    moment_of(number(word))
 }
 
 /// The date of a word.
@@ -118,12 +174,31 @@ pub fn date(word: &[u8]) -> Option<Date>
     Date::of(year, month, day).ok()
 }
 
+/// The price of so many units, if they are in its range.
+#[tactic(auto, unfolding(crate::specs::Reading::price_of))]
+pub fn price_of(units: u64) -> Option<Price>
+    ensures { result ≡ price_of units }
+{
+    Price::new(units).ok()
+}
+
 /// The price that a word prints, in dollars; of a word that prints none any price or none.
 #[tactic(auto, unfolding(crate::specs::Reading::price_in))]
 pub fn price(word: &[u8]) -> Option<Price>
     ensures { result ≡ price_in word.now }
 {
-    Price::new(number(word)).ok()
+    price_of(number(word))
+}
+
+/// The price of so many units, or that it is absent, where they are none.
+#[tactic(auto, unfolding(crate::specs::Reading::optional_price_of))]
+pub fn optional_price_of(units: u64) -> Option<Option<Price>>
+    ensures { result ≡ optional_price_of units }
+{
+    match units {
+        0 => Some(None),
+        units => Price::new(units).ok().map(Some),
+    }
 }
 
 /// The price that a word prints, in dollars, or that it is absent; of a word that prints neither any of these or none.
@@ -131,10 +206,7 @@ pub fn price(word: &[u8]) -> Option<Price>
 pub fn optional_price(word: &[u8]) -> Option<Option<Price>>
     ensures { result ≡ optional_price_in word.now }
 {
-    match number(word) {
-        0 => Some(None),
-        units => Price::new(units).ok().map(Some),
-    }
+    optional_price_of(number(word))
 }
 
 /// The index value of a word.

@@ -9,8 +9,8 @@ ghost use Rattle.text_core.specs.Reading.{day_of, listing_of, trade_of, cancel_o
 
 use crate::error::BadLine;
 use crate::field_reading::{
-    date, flags, index, is_name, leverage, moment, name, number16, number32, optional_price, price,
-    split, word,
+    date, flags, index, is_name, leverage, moment_of, name, number16_of, number32_of,
+    optional_price_of, price_of, split, split_number, word,
 };
 use crate::line::Line;
 use crate::record_printing::write_record;
@@ -18,13 +18,13 @@ use crate::word_reading::{close, is, notice_kind, profile, tier, unmatched};
 use session_core::Day;
 use wire_in::Record;
 
-#[tactic(auto, unfolding(crate::specs::Reading::day_of), using(crate::proofs::Words::word_1, crate::proofs::Words::word_2, crate::proofs::Words::word_3, crate::proofs::Words::word_4, crate::proofs::Words::word_5))]
+#[tactic(auto, unfolding(crate::specs::Reading::day_of, crate::specs::Reading::moment_in), using(crate::proofs::Words::word_1, crate::proofs::Words::word_2, crate::proofs::Words::word_3, crate::proofs::Words::word_4, crate::proofs::Words::word_5))]
 fn day(line: &[u8]) -> Option<Record>
     ensures { result ≡ day_of line.now }
 {
     let (_, rest) = split(line);
-    let (word, rest) = split(rest);
-    let moment = moment(word)?;
+    let (n, rest) = split_number(rest);
+    let moment = moment_of(n)?;
     let (word, rest) = split(rest);
     let date = date(word)?;
     let (word, rest) = split(rest);
@@ -45,21 +45,21 @@ fn day(line: &[u8]) -> Option<Record>
     })
 }
 
-#[tactic(auto, unfolding(crate::specs::Reading::listing_of), using(crate::proofs::Words::word_1, crate::proofs::Words::word_2, crate::proofs::Words::word_3, crate::proofs::Words::word_4, crate::proofs::Words::word_5))]
+#[tactic(auto, unfolding(crate::specs::Reading::listing_of, crate::specs::Reading::moment_in, crate::specs::Reading::optional_price_in), using(crate::proofs::Words::word_1, crate::proofs::Words::word_2, crate::proofs::Words::word_3, crate::proofs::Words::word_4, crate::proofs::Words::word_5))]
 fn listing(line: &[u8]) -> Option<Record>
     ensures { result ≡ listing_of line.now }
 {
     let (_, rest) = split(line);
-    let (word, rest) = split(rest);
-    let moment = moment(word)?;
+    let (n, rest) = split_number(rest);
+    let moment = moment_of(n)?;
     let (word, rest) = split(rest);
     let name = name(word)?;
     let (word, rest) = split(rest);
     let tier = tier(word)?;
     let (word, rest) = split(rest);
     let leverage = leverage(word)?;
-    let (word, _) = split(rest);
-    let close = optional_price(word)?;
+    let (n, _) = split_number(rest);
+    let close = optional_price_of(n)?;
     Some(Record::Listing {
         moment,
         name,
@@ -69,21 +69,21 @@ fn listing(line: &[u8]) -> Option<Record>
     })
 }
 
-#[tactic(auto, unfolding(crate::specs::Reading::trade_of), using(crate::proofs::Words::word_1, crate::proofs::Words::word_2, crate::proofs::Words::word_3, crate::proofs::Words::word_4, crate::proofs::Words::word_5, crate::proofs::Words::word_6))]
+#[tactic(auto, unfolding(crate::specs::Reading::trade_of, crate::specs::Reading::moment_in, crate::specs::Reading::number16_in, crate::specs::Reading::number32_in, crate::specs::Reading::price_in), using(crate::proofs::Words::word_1, crate::proofs::Words::word_2, crate::proofs::Words::word_3, crate::proofs::Words::word_4, crate::proofs::Words::word_5, crate::proofs::Words::word_6))]
 fn trade(line: &[u8]) -> Option<Record>
     ensures { result ≡ trade_of line.now }
 {
     let (_, rest) = split(line);
-    let (word, rest) = split(rest);
-    let moment = moment(word)?;
-    let (word, rest) = split(rest);
-    let symbol = number16(word)?;
-    let (word, rest) = split(rest);
-    let number = number32(word)?;
-    let (word, rest) = split(rest);
-    let price = price(word)?;
-    let (word, rest) = split(rest);
-    let size = number32(word)?;
+    let (n, rest) = split_number(rest);
+    let moment = moment_of(n)?;
+    let (n, rest) = split_number(rest);
+    let symbol = number16_of(n)?;
+    let (n, rest) = split_number(rest);
+    let number = number32_of(n)?;
+    let (n, rest) = split_number(rest);
+    let price = price_of(n)?;
+    let (n, rest) = split_number(rest);
+    let size = number32_of(n)?;
     let (word, _) = split(rest);
     let flags = flags(word)?;
     Some(Record::Trade {
@@ -96,17 +96,17 @@ fn trade(line: &[u8]) -> Option<Record>
     })
 }
 
-#[tactic(auto, unfolding(crate::specs::Reading::cancel_of), using(crate::proofs::Words::word_1, crate::proofs::Words::word_2, crate::proofs::Words::word_3))]
+#[tactic(auto, unfolding(crate::specs::Reading::cancel_of, crate::specs::Reading::moment_in, crate::specs::Reading::number16_in, crate::specs::Reading::number32_in), using(crate::proofs::Words::word_1, crate::proofs::Words::word_2, crate::proofs::Words::word_3))]
 fn cancel(line: &[u8]) -> Option<Record>
     ensures { result ≡ cancel_of line.now }
 {
     let (_, rest) = split(line);
-    let (word, rest) = split(rest);
-    let moment = moment(word)?;
-    let (word, rest) = split(rest);
-    let symbol = number16(word)?;
-    let (word, _) = split(rest);
-    let number = number32(word)?;
+    let (n, rest) = split_number(rest);
+    let moment = moment_of(n)?;
+    let (n, rest) = split_number(rest);
+    let symbol = number16_of(n)?;
+    let (n, _) = split_number(rest);
+    let number = number32_of(n)?;
     Some(Record::Cancel {
         moment,
         symbol,
@@ -114,23 +114,23 @@ fn cancel(line: &[u8]) -> Option<Record>
     })
 }
 
-#[tactic(auto, unfolding(crate::specs::Reading::quote_of), using(crate::proofs::Words::word_1, crate::proofs::Words::word_2, crate::proofs::Words::word_3, crate::proofs::Words::word_4, crate::proofs::Words::word_5, crate::proofs::Words::word_6))]
+#[tactic(auto, unfolding(crate::specs::Reading::quote_of, crate::specs::Reading::moment_in, crate::specs::Reading::number16_in, crate::specs::Reading::number32_in, crate::specs::Reading::optional_price_in), using(crate::proofs::Words::word_1, crate::proofs::Words::word_2, crate::proofs::Words::word_3, crate::proofs::Words::word_4, crate::proofs::Words::word_5, crate::proofs::Words::word_6))]
 fn quote(line: &[u8]) -> Option<Record>
     ensures { result ≡ quote_of line.now }
 {
     let (_, rest) = split(line);
-    let (word, rest) = split(rest);
-    let moment = moment(word)?;
-    let (word, rest) = split(rest);
-    let symbol = number16(word)?;
-    let (word, rest) = split(rest);
-    let bid = optional_price(word)?;
-    let (word, rest) = split(rest);
-    let offer = optional_price(word)?;
-    let (word, rest) = split(rest);
-    let bid_size = number32(word)?;
-    let (word, _) = split(rest);
-    let offer_size = number32(word)?;
+    let (n, rest) = split_number(rest);
+    let moment = moment_of(n)?;
+    let (n, rest) = split_number(rest);
+    let symbol = number16_of(n)?;
+    let (n, rest) = split_number(rest);
+    let bid = optional_price_of(n)?;
+    let (n, rest) = split_number(rest);
+    let offer = optional_price_of(n)?;
+    let (n, rest) = split_number(rest);
+    let bid_size = number32_of(n)?;
+    let (n, _) = split_number(rest);
+    let offer_size = number32_of(n)?;
     Some(Record::Quote {
         moment,
         symbol,
@@ -141,37 +141,37 @@ fn quote(line: &[u8]) -> Option<Record>
     })
 }
 
-#[tactic(auto, unfolding(crate::specs::Reading::index_tick_of), using(crate::proofs::Words::word_1, crate::proofs::Words::word_2))]
+#[tactic(auto, unfolding(crate::specs::Reading::index_tick_of, crate::specs::Reading::moment_in), using(crate::proofs::Words::word_1, crate::proofs::Words::word_2))]
 fn index_tick(line: &[u8]) -> Option<Record>
     ensures { result ≡ index_tick_of line.now }
 {
     let (_, rest) = split(line);
-    let (word, rest) = split(rest);
-    let moment = moment(word)?;
+    let (n, rest) = split_number(rest);
+    let moment = moment_of(n)?;
     let (word, _) = split(rest);
     let value = index(word)?;
     Some(Record::IndexTick { moment, value })
 }
 
-#[tactic(auto, unfolding(crate::specs::Reading::clock_of), using(crate::proofs::Words::word_1))]
+#[tactic(auto, unfolding(crate::specs::Reading::clock_of, crate::specs::Reading::moment_in), using(crate::proofs::Words::word_1))]
 fn clock(line: &[u8]) -> Option<Record>
     ensures { result ≡ clock_of line.now }
 {
     let (_, rest) = split(line);
-    let (word, _) = split(rest);
-    let moment = moment(word)?;
+    let (n, _) = split_number(rest);
+    let moment = moment_of(n)?;
     Some(Record::Clock { moment })
 }
 
-#[tactic(auto, unfolding(crate::specs::Reading::notice_of), using(crate::proofs::Words::word_1, crate::proofs::Words::word_2, crate::proofs::Words::word_3))]
+#[tactic(auto, unfolding(crate::specs::Reading::notice_of, crate::specs::Reading::moment_in, crate::specs::Reading::number16_in), using(crate::proofs::Words::word_1, crate::proofs::Words::word_2, crate::proofs::Words::word_3))]
 fn notice(line: &[u8]) -> Option<Record>
     ensures { result ≡ notice_of line.now }
 {
     let (_, rest) = split(line);
-    let (word, rest) = split(rest);
-    let moment = moment(word)?;
-    let (word, rest) = split(rest);
-    let symbol = number16(word)?;
+    let (n, rest) = split_number(rest);
+    let moment = moment_of(n)?;
+    let (n, rest) = split_number(rest);
+    let symbol = number16_of(n)?;
     let (word, _) = split(rest);
     let kind = notice_kind(word)?;
     Some(Record::Notice {
@@ -181,17 +181,17 @@ fn notice(line: &[u8]) -> Option<Record>
     })
 }
 
-#[tactic(auto, unfolding(crate::specs::Reading::indication_of), using(crate::proofs::Words::word_1, crate::proofs::Words::word_2, crate::proofs::Words::word_3, crate::proofs::Words::word_4))]
+#[tactic(auto, unfolding(crate::specs::Reading::indication_of, crate::specs::Reading::moment_in, crate::specs::Reading::number16_in, crate::specs::Reading::price_in), using(crate::proofs::Words::word_1, crate::proofs::Words::word_2, crate::proofs::Words::word_3, crate::proofs::Words::word_4))]
 fn indication(line: &[u8]) -> Option<Record>
     ensures { result ≡ indication_of line.now }
 {
     let (_, rest) = split(line);
-    let (word, rest) = split(rest);
-    let moment = moment(word)?;
-    let (word, rest) = split(rest);
-    let symbol = number16(word)?;
-    let (word, rest) = split(rest);
-    let price = price(word)?;
+    let (n, rest) = split_number(rest);
+    let moment = moment_of(n)?;
+    let (n, rest) = split_number(rest);
+    let symbol = number16_of(n)?;
+    let (n, rest) = split_number(rest);
+    let price = price_of(n)?;
     let (word, _) = split(rest);
     let unmatched = unmatched(word)?;
     Some(Record::Indication {
