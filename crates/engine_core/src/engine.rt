@@ -3,11 +3,12 @@
 ghost use Rattle.std.specs.Prelude.{◌≡◌, ◌+◌, ◌*◌, ◌<◌, ◌≤◌, ◌^◌, ◌∷◌, [], true, ℕ, List, None, Some, IfOk, IfErr, IsOk, OnOk, OnErr, length, vec_len, vec_capacity};
 ghost use Rattle.wire_in.specs.declared.record.Record.{Record};
 ghost use Rattle.wire_in.specs.Bases.{IsInRange};
+ghost use Rattle.wire_in.specs.Reading.{placed};
 ghost use Rattle.wire_in.specs.Records.{is_day};
 ghost use Rattle.wire_in.specs.Spelling.{InRange};
 ghost use Rattle.rulebook.specs.Admission.{IsLawful, verdict};
 ghost use Rattle.rulebook.specs.Base.{base_of, stand_in};
-ghost use Rattle.rulebook.specs.Sent.{admitted};
+ghost use Rattle.rulebook.specs.Sent.{admitted, record_or_refusal};
 ghost use Rattle.rulebook.specs.Book.{newest_messages};
 ghost use Rattle.market_core.specs.AdmissionState as admissions;
 ghost use Rattle.market_core.specs.AdmissionState.{refusal_of};
@@ -16,13 +17,12 @@ ghost use Rattle.market_core.specs.MarketState.{most_messages};
 ghost use Rattle.shard_core.specs.Block.{AreAdmissible};
 ghost use Rattle.evaluator_core.specs.Evaluating.{workers_of, HasRoomFor, IsAhead, IsIdle, IsWorking};
 
-use crate::round::Outcome;
 use evaluator_core::Evaluator;
 use market_core::{Admission, MOST_MESSAGES};
 use price_core::NoMemory;
 use std::alloc::Global;
 use std::thread::Threads;
-use wire_in::{Base, Record};
+use wire_in::{Base, Record, Refusal};
 use wire_out::Stamped;
 use yard_core::Gate;
 
@@ -37,17 +37,17 @@ pub struct Engine {
     pub published: u64,
 }
 
-/// Puts the first refusal that applies in the place of a record that isn't accepted next. What was decoded of a body is so
-/// judged where it lies.
-pub fn judge(admission: &Admission, outcome: &mut Outcome)
-    ensures exact { (held : List Record) → admissions.Represents admission.now held → outcome.new ≡ admitted admission.now.capacity held outcome.old }
-    ensures admissible { IfOk outcome.new (λ x. refusal_of admission.now x ≡ None) }
-    ensures range { IfOk outcome.old InRange → IfOk outcome.new InRange }
+/// Why what was read of a body isn't accepted next, if it isn't: that it is no record, or the first refusal that the accepted
+/// records bring.
+#[inline(always)]
+pub fn judge(admission: &Admission, x: &Record, read: Result<(), Refusal>) -> Option<Refusal>
+    ensures exact { (held : List Record) → admissions.Represents admission.now held → record_or_refusal x.now result ≡ admitted admission.now.capacity held (placed x.now read) }
+    ensures admissible { result ≡ None → refusal_of admission.now x.now ≡ None }
+    ensures range { IfOk (placed x.now read) InRange → IfOk (record_or_refusal x.now result) InRange }
 {
-    if let Ok(x) = outcome {
-        if let Some(refusal) = admission.verdict(x) {
-            *outcome = Err(refusal);
-        }
+    match read {
+        Ok(()) => admission.verdict(x),
+        Err(refusal) => Some(refusal),
     }
 }
 

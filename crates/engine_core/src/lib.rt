@@ -13,5 +13,5 @@ pub use engine::{Engine, judge};
 pub use input::serve_input;
 pub use keeper::Keeper;
 pub use reply::{append_messages, evaluate};
-pub use round::{Outcome, ROUND_MAX, Round};
+pub use round::{ROUND_MAX, Round};
 pub use session::Session;

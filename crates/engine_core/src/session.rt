@@ -1,20 +1,18 @@
 //! A session: from pieces of the input to what is kept and sent.
 
-ghost use Rattle.std.specs.Prelude.{◌≡◌, ◌≢◌, ◌-◌, ◌+◌, ◌*◌, ◌<◌, ◌≤◌, ◌^◌, ◌++◌, ◌∷◌, [], ℕ, List, Option, None, Err, OnOk, IfOk, IfSome, IsOk, IsSome, length, take};
+ghost use Rattle.std.specs.Prelude.{◌≡◌, ◌≢◌, ◌-◌, ◌+◌, ◌*◌, ◌<◌, ◌≤◌, ◌^◌, ◌++◌, ◌∷◌, [], ℕ, List, Option, None, Err, OnOk, IfOk, IfSome, IsSome, length, take, drop};
 ghost use Rattle.host_core.specs.Outside.{Elapses};
 ghost use Rattle.host_core.specs.Frames.{OnlyWrites};
 ghost use Rattle.host_core.specs.Faults.{Causes};
 ghost use Rattle.wire_in.specs.declared.record.Record.{Record};
 ghost use Rattle.wire_core.specs.Frames.{framed};
 ghost use Rattle.wire_in.specs.Cutting.{pending};
-ghost use Rattle.wire_in.specs.Reading.{record_of};
-ghost use Rattle.wire_in.specs.Spelling.{InRange};
 ghost use Rattle.stream_core.specs.Outcomes.{SentOrStarved};
 ghost use Rattle.journal_core.specs.Layout.{with_batch};
-ghost use Rattle.rulebook.specs.Sent.{with_record};
+ghost use Rattle.rulebook.specs.Sent.{record_or_refusal, with_record};
 ghost use Rattle.market_core.specs.AdmissionState.{refusal_of};
 ghost use Rattle.engine_core.specs.EngineState.{Represents};
-ghost use Rattle.engine_core.specs.Rounds.{Outcome, records_in};
+ghost use Rattle.engine_core.specs.Rounds.{Outcome, lent, records_in, verdict_in};
 ghost use Rattle.engine_core.specs.Sessions.{Start};
 ghost use Rattle.engine_core.specs.Answering.{Answers, Replies};
 ghost use Rattle.engine_core.specs.Unwritten.{WritesNothing};
@@ -23,11 +21,11 @@ ghost use Rattle.engine_core.specs.Serving.{Serves, Runs, IsSound, IsReady, Keep
 use crate::engine::{Engine, judge};
 use crate::keeper::Keeper;
 use crate::reply::answer;
-use crate::round::{Outcome, ROUND_MAX, Round};
+use crate::round::{Outcome, Round};
 use host_core::{Fault, Host};
 use std::thread::Threads;
 use stream_core::Outbox;
-use wire_in::{Cutter, blank, decode_into};
+use wire_in::{Cutter, Record, Refusal, blank, decode_into};
 use yard_core::Gate;
 
 /// How many frames are judged before they are answered where no records are shared out: what is kept of them stays in the
@@ -45,19 +43,19 @@ pub struct Session {
     pub answered: u64,
 }
 
-/// Admits the record of a frame, where it is accepted.
-fn admit(engine: &mut Engine, outcome: &Outcome)
-    requires admissible { IfOk outcome.now (λ x. refusal_of engine.old.admission x ≡ None) }
+/// Admits the record of a frame by its verdict, where it is accepted.
+fn admit(engine: &mut Engine, x: &Record, verdict: Option<Refusal>)
+    requires admissible { verdict ≡ None → refusal_of engine.old.admission x.now ≡ None }
     ensures represents { (capacity : ℕ) (accepted evaluated : List Record) → Represents engine.old capacity accepted evaluated
-        → Represents engine.new capacity (with_record accepted outcome.now) evaluated }
+        → Represents engine.new capacity (with_record accepted (record_or_refusal x.now verdict)) evaluated }
     ensures rest { engine.new ≡ record engine.old { admission = engine.new.admission } }
-    ensures count { engine.new.admission.count ≡ engine.old.admission.count + length (records_in (outcome.now ∷ [])) }
+    ensures count { engine.new.admission.count ≡ engine.old.admission.count + length (records_in (record_or_refusal x.now verdict ∷ [])) }
     ensures within { engine.old.admission.count ≤ engine.old.admission.capacity → engine.new.admission.count ≤ engine.new.admission.capacity }
     ensures capacity { engine.new.admission.capacity ≡ engine.old.admission.capacity }
 {
-    match outcome {
-        Ok(x) => engine.admit(x),
-        Err(_) => {}
+    match verdict {
+        None => engine.admit(x),
+        Some(_) => {}
     }
 }
 
@@ -75,24 +73,8 @@ fn whole_frame<'a>(cutter: &Cutter, piece: &'a [u8]) -> Option<&'a [u8]>
     rest.get(..usize::from(*len))
 }
 
-/// Puts the record of a body in the place of another one, or the first refusal: it is read and judged where it then lies.
-#[inline(always)]
-fn decode_at(body: &[u8], outcome: &mut Outcome)
-    requires short { length body.now ≤ 255 }
-    requires is_record { IsOk outcome.old }
-    ensures exact { outcome.new ≡ record_of body.now }
-    ensures range { IfOk outcome.new InRange }
-{
-    let refusal = match outcome {
-        Ok(x) => decode_into(body, x).err(),
-        Err(_) => None,
-    };
-    if let Some(refusal) = refusal {
-        *outcome = Err(refusal);
-    }
-}
-
 /// Judges the frame of a body, and admits its record where it is accepted. It waits to be answered.
+#[tactic(auto, using(crate::proofs::Rounds::placed_range))]
 fn judge_next(engine: &mut Engine, round: &mut Round, body: &[u8])
     requires short { length body.now ≤ 255 }
     requires room { length round.old.outcomes < round.old.most }
@@ -104,11 +86,22 @@ fn judge_next(engine: &mut Engine, round: &mut Round, body: &[u8])
     ensures rest { engine.new ≡ record engine.old { admission = engine.new.admission } }
     ensures capacity { engine.new.admission.capacity ≡ engine.old.admission.capacity }
 {
-    let mut outcome = Ok(blank());
-    decode_at(body, &mut outcome);
-    judge(&engine.admission, &mut outcome);
-    admit(engine, &outcome);
-    round.push(&outcome);
+    let mut x = blank();
+    let read = decode_into(body, &mut x);
+    let verdict = judge(&engine.admission, &x, read);
+    admit(engine, &x, verdict);
+    round.push(&x, verdict);
+}
+
+/// The outcome of the frame of a verdict. Where it is accepted, its record has this place among the accepted ones.
+fn outcome_at<'a>(verdict: Option<Refusal>, accepted: &'a [Record], place: usize) -> Outcome<'a>
+    requires there { verdict ≡ None → place < length accepted.now }
+    ensures { (outcome : Outcome) (later : List Outcome) → verdict ≡ verdict_in outcome → drop place accepted.now ≡ records_in (outcome ∷ later) → lent result ≡ outcome }
+{
+    match verdict {
+        None => Ok(&accepted[place]),
+        Some(refusal) => Err(refusal),
+    }
 }
 
 /// Answers the frames of a round, the first of which comes behind so many answered ones, and whose accepted records were
@@ -119,22 +112,25 @@ fn answer_each<H: Host>(
     host: &mut H,
     acknowledges: bool,
     answered: u64,
-    outcomes: &[Outcome],
+    round: &Round,
 ) -> Result<(), Fault>
-    requires most { length outcomes.now ≤ ROUND_MAX }
-    requires sound { IsSound engine.old outcomes.now answered }
+    requires sound { IsSound engine.old round.now.outcomes answered }
     requires answered { answered < 2 ^ 42 }
     ensures replies { (start : Start) (before all : List (List ℕ)) → acknowledges ≡ start.acknowledges
-        → Answers start before all answered outcomes.now (records_in outcomes.now) engine.old outbox.old (H.outside host.old).sent
-        → Replies result start all (answered + length outcomes.now) [] [] engine.new outbox.new (H.outside host.old) (H.outside host.new) }
+        → Answers start before all answered round.now.outcomes (records_in round.now.outcomes) engine.old outbox.old (H.outside host.old).sent
+        → Replies result start all (answered + length round.now.outcomes) [] [] engine.new outbox.new (H.outside host.old) (H.outside host.new) }
     ensures admission { engine.new.admission ≡ engine.old.admission }
-    ensures sound { OnOk result (IsSound engine.new [] (answered + length outcomes.now)) }
+    ensures sound { OnOk result (IsSound engine.new [] (answered + length round.now.outcomes)) }
     ensures outside { SentOrStarved result (H.outside host.old) (H.outside host.new) }
 {
+    let records: &[Record] = round.accepted();
     let mut number = answered;
-    for outcome in outcomes {
+    let mut place = 0;
+    for verdict in round.verdicts() {
         number += 1;
+        let outcome = outcome_at(*verdict, records, place);
         answer(engine, outbox, host, acknowledges, number, outcome)?;
+        place += usize::from(verdict.is_none());
     }
     Ok(())
 }
@@ -178,7 +174,7 @@ fn answer_round<Rt: Threads + Sync, H: Host, G: Gate>(
         host,
         acknowledges,
         session.answered,
-        session.round.outcomes(),
+        &session.round,
     )?;
     session.answered += session.round.len() as u64;
     session.round.clear();

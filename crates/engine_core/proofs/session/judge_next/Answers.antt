@@ -1,5 +1,5 @@
 use Rattle.std.proofs.Common.{◌≡◌, ℕ, List, [], ◌∷◌, ◌++◌, length, sym, ap, ◌∙◌, append_assoc, length-append, arith}
-use Rattle.rulebook.specs.Sent.{admitted, judged, with_record}
+use Rattle.rulebook.specs.Sent.{admitted, judged, record_or_refusal, with_record}
 use Rattle.rulebook.proofs.Sending.{accepted_of-append}
 use Rattle.engine_core.specs.Rounds.{RoundState, records_in}
 use Rattle.engine_core.specs.Sessions.{held_after}
@@ -11,9 +11,9 @@ pub returns-clause-answers : goal.returns-clause-answers
 returns-clause-answers c start answered all after number outbox sent whole answers =
     let held = held_after start all in
     let body = c.args.body.now in
-    let is : c.judge.new.outcome ≡ judged start.capacity held body =
-    c.judge.ensures.exact held (record { count = answers.evaluates.engine_is.count; stands = answers.evaluates.engine_is.stands.admission })
-    ∙ (λ i. admitted (answers.evaluates.engine_is.stands.within i) held (c.decode_at.ensures.exact i)) in
+    let is : record_or_refusal c.decode_into-read.new.into c.judge-verdict.result ≡ judged start.capacity held body =
+    c.judge-verdict.ensures.exact held (record { count = answers.evaluates.engine_is.count; stands = answers.evaluates.engine_is.stands.admission })
+    ∙ (λ i. admitted (answers.evaluates.engine_is.stands.within i) held (c.decode_into-read.ensures.exact i)) in
     let waits = answers.waits in
     record {
       waits = record {
