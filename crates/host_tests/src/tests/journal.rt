@@ -249,6 +249,11 @@ fn a_stop_leaves_a_batch_whole_or_out(rt: HostRuntime) -> Result<(), Fail> {
 const CLOCK: [u8; 32] =
     *b"HALTJNL1\0\0\0\0\0\0\0\x03\x55\0\0\0\x0a\x09\x07\0\0\x1f\x1a\xce\xd9\xf0\0\0";
 
+/// The first bytes of a disk, at most so many.
+fn first_of(disk: &[u8], len: usize) -> &[u8] {
+    &disk[..len.min(disk.len())]
+}
+
 /// How many records the first bytes of that journal hold, where it takes so many and one byte is another.
 fn count_changed(
     alloc: Global,
@@ -260,8 +265,7 @@ fn count_changed(
     let mut disk = CLOCK;
     disk[12..16].copy_from_slice(&limit.to_be_bytes());
     disk[at % 32] = byte;
-    let len = len.min(disk.len());
-    count_of(alloc, &disk[..len])
+    count_of(alloc, first_of(disk.as_slice(), len))
 }
 
 #[test]
