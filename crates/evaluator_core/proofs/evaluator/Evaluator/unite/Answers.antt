@@ -18,5 +18,5 @@ returns-in_ok-market-in-Many-clause-represents c = λ evaluated stands idle.
 
 pub returns-in_ok-market-in-Resting-clause-represents : goal.returns-in_ok-market-in-Resting-clause-represents
 returns-in_ok-market-in-Resting-clause-represents c = λ evaluated stands idle.
-    subst (λ (e : Evaluator). Represents e evaluated) (sym c.replace-in-Resting.ensures.after)
+    subst (λ (e : Evaluator). Represents e evaluated) (sym c.replace.ensures.after)
     (subst (λ (o : Option MarketState). IfSome o (λ market. markets.Represents market evaluated)) c.in_ok-market-in-Resting.ensures.market (subst (λ (e : Evaluator). Represents e evaluated) c.in-Resting.is stands))
