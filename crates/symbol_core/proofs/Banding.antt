@@ -27,6 +27,9 @@ same_number n = grind (arith, nat_tests)
 same_bands : (b : Bands) → differs b b ≡ false
 same_bands b = λ i. not (same_number b.lower i && same_number b.upper i)
 
+pub trading-goes_on : (p : Phase) → is_trading p ≡ true → is_done p ≡ false
+trading-goes_on p e = grind arith
+
 -- where it has just given bands of the time of day
 pub bands-said : (k : Kept) (opened : OpenStep) (step : Step) (b : Banded) (listed : Terms) (new : InStep) → k.terms ≡ Some listed → b.bands ≡ bands_of listed step.day step.moment b.reference → new ≡ banded (in_step k opened) step b
     → changes_bands new.kept step ≡ false

@@ -20,7 +20,7 @@ use Rattle.symbol_core.specs.declared.state.Kept.{Kept}
 use Rattle.symbol_core.specs.declared.state.Step.{Step}
 use Rattle.symbol_core.specs.declared.symbol.MarketView.{MarketView}
 use Rattle.symbol_core.specs.Evaluates.{Evaluates}
-use Rattle.symbol_core.specs.Idle.{AwaitsPrice, IsDue, IsIdle, IsSettled, IsAwaited, IsStill, Waits, WaitsAt, brings_deal_or_time, comes_often, is_out, keeps_price}
+use Rattle.symbol_core.specs.Idle.{AwaitsPrice, IsDue, IsIdle, IsSettled, IsAwaited, IsStill, MeanMoves, Waits, WaitsAt, brings_deal_or_time, comes_often, has_price, is_out, keeps_price}
 use Rattle.symbol_core.specs.InStep.{InStep, in_step, just_opened}
 use Rattle.symbol_core.specs.Kept.{heard, quoted_by, requoted}
 use Rattle.symbol_core.specs.Pricing.{later_price, offered, priced_by, reference}
@@ -106,9 +106,9 @@ is_here k x inside = by (is_tick x) (is_done k.phase) (is_some k.terms) inside w
 
 -- before time brings anything but a new reference price
 pub awaited : (market : MarketView) (x : Record) (k : Kept) (deals : List Deal) (due : Due) (deal : Option Deal) → IsDue (Some due) k deals → brings_deal_or_time x ≡ true → due.from ≤ moment_of x → moment_of x < due.waits → market ≡ due.market
-    → deal ≡ deal_of market.day k.id x → is_out k ≡ false → (if is_some k.run then option_to_list deal else []) ≡ option_to_list deal → (triggers_by k.short.prior_close deal && not k.short.triggered) ≡ false
+    → deal ≡ deal_of market.day k.id x → has_price k ≡ true → is_out k ≡ false → (if is_some k.run then option_to_list deal else []) ≡ option_to_list deal → (triggers_by k.short.prior_close deal && not k.short.triggered) ≡ false
     → IsAwaited k market x deal
-awaited market x k deals due deal is kind from later same own inside counts restricts = by (is inside) where
+awaited market x k deals due deal is kind from later same own priced inside counts restricts = by (is inside) where
   from_now : Waits k due.market.day due.market.stopped due.from due.waits → Waits k due.market.day due.market.stopped (moment_of x) due.waits
   from_now w = record { closes = w.closes; starts = w.starts; pauses = w.pauses; reopens = w.reopens; bands = λ u day le lt. w.bands u day (omega (arith, le, from)) lt }
 
@@ -122,6 +122,7 @@ awaited market x k deals due deal is kind from later same own inside counts rest
         later = later;
         waits = subst (λ (m : MarketView). Waits k m.day m.stopped (moment_of x) due.waits) (sym same) (from_now idle.waits);
         own = own;
+        priced = priced;
         counts = counts;
         restricts = restricts;
       }
@@ -255,12 +256,39 @@ moved-recent k market x deal t w at =
 -- and before whose bands no rule says anything
 pub awaits-price : (k : Kept) (market : MarketView) (x : Record) (deal : Option Deal) (step : Step) → step ≡ step_for market x → IsAwaited k market x deal → is_trading k.phase ≡ true → AwaitsPrice k step
 awaits-price k market x deal step is w trading = subst (AwaitsPrice k) (sym is) (record {
-  goes_on = goes_on (is_done k.phase) (is_some k.terms) w.inside;
   trading = trading;
   settled = w.settled;
   until = w.until;
   waits = record { often = (plain k x w.kind).often; later = w.later; waits = w.waits };
-}) where
-  goes_on : (done listed : Bool) → (done || not listed) ≡ false → done ≡ false
-  goes_on false listed e = refl
-  goes_on true listed e = absurd cc
+})
+
+-- the mean that it brings
+pub mean-moves : (market : MarketView) (x : Record) (k : Kept) (deals : List Deal) (deal : Option Deal) (step : Step) → step ≡ step_for market x → IsAwaited k market x deal
+    → keeps_price k (moment_of x) (mean_of (live (moment_of x) (deals ++ option_to_list deal))) ≡ false → MeanMoves (in_step k (just_opened deal false)) deals step
+mean-moves market x k deals deal step is w moves =
+    subst (MeanMoves with_deal deals) (sym is) (by (is_trading k.phase) (run_reference k).last (mean_of (live t (deals ++ option_to_list deal))) refl refl refl w.priced moves)
+  where
+    t : ℕ
+    t = moment_of x
+
+    with_deal : InStep
+    with_deal = in_step k (just_opened deal false)
+
+    it : (b : Bool) (m : ℕ) → not (is_some (if b then Some m else None)) ≡ false → (if b then Some m else None) ≡ Some m
+    it true m e = refl
+    it false m e = absurd cc
+
+    by : (trading : Bool) (o : Option Adoption) (mean : Option ℕ) → is_trading k.phase ≡ trading → (run_reference k).last ≡ o → mean_of (live t (deals ++ option_to_list deal)) ≡ mean
+        → (is_some o || not trading) ≡ true → (not trading || option_map_or (λ last. not (is_some (moved_price last t mean))) o false) ≡ false → MeanMoves with_deal deals (step_for market x)
+    by false o mean trades is at priced moves = absurd cc
+    by true None mean trades is at priced moves = absurd cc
+    by true (Some last) None trades is at priced moves = absurd cc
+    by true (Some last) (Some m) trades is at priced moves =
+        record {
+          price = m;
+          mean = at;
+          prices =
+              ap (λ (ds : List Deal). reference with_deal (step_for market x) (mean_of (live t (deals ++ ds)))) w.counts
+              ∙ (λ i. if not (trades i) then None else priced_by None (record { begun = (run_reference k).begun; last = is i }) t (offered k (step_for market x)) (at i))
+              ∙ ap (because Moved) (it (moved_one_percent m last.price && has_stood last t) m moves);
+        }

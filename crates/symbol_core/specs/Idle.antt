@@ -1,6 +1,7 @@
 -- When a clock or an index tick finds nothing to say of a symbol. Private words: no public clause cites them.
-use Rattle.std.specs.Prelude.{◌≡◌, ◌+◌, ◌<◌, ◌≤◌, ℕ, Bool, true, false, if◌then◌else◌, nat_lt, Option, Some, None, List, [], ◌&&◌, ◌||◌, not, is_some, option_to_list}
+use Rattle.std.specs.Prelude.{◌≡◌, ◌+◌, ◌++◌, ◌<◌, ◌≤◌, ℕ, Bool, true, false, if◌then◌else◌, nat_lt, Option, Some, None, List, [], ◌&&◌, ◌||◌, not, is_some, option_to_list}
 use Rattle.std.specs.Option.{option_map_or}
+use Rattle.price_core.specs.declared.quote.Cause.TheVariants.{Moved}
 use Rattle.price_core.specs.declared.quote.Quotation.{Quotation}
 use Rattle.session_core.specs.declared.day.Day.{Day}
 use Rattle.session_core.specs.declared.state.Phase.TheVariants.{LimitLow, LimitHigh}
@@ -142,8 +143,12 @@ pub record IsStill (k : Kept) (due : Due) : Type 0 where
   pub settled : IsSettled k due.market.stopped
   pub waits : Waits k due.market.day due.market.stopped due.from due.waits
 
--- at a trade or a tick only a new reference price can come, and a deal that counts and isn't the first of the day to trigger the
--- short sale restriction
+-- a stock that is trading has a reference price
+abbrev pub has_price : Kept → Bool
+has_price k = is_some (run_reference k).last || not (is_trading k.phase)
+
+-- at a trade or a tick only another reference price can come, and a deal that counts and isn't the first of the day to trigger
+-- the short sale restriction
 pub record IsAwaited (k : Kept) (market : MarketView) (x : Record) (deal : Option Deal) : Type 0 where
   pub kind : brings_deal_or_time x ≡ true
   pub inside : is_out k ≡ false
@@ -152,16 +157,22 @@ pub record IsAwaited (k : Kept) (market : MarketView) (x : Record) (deal : Optio
   pub later : moment_of x < until
   pub waits : Waits k market.day market.stopped (moment_of x) until
   pub own : deal ≡ deal_of market.day k.id x
+  pub priced : has_price k ≡ true
   pub counts : (if is_some k.run then option_to_list deal else []) ≡ option_to_list deal
   pub restricts : (triggers_by k.short.prior_close deal && not k.short.triggered) ≡ false
 
 -- at an open step no rule before that of the bands says anything
 pub record AwaitsPrice (k : Kept) (step : Step) : Type 0 where
-  pub goes_on : is_done k.phase ≡ false
   pub trading : is_trading k.phase ≡ true
   pub settled : IsSettled k step.stopped
   pub until : ℕ
   pub waits : WaitsAt k step until
+
+-- the mean of the kept deals and the open step's own is a new reference price in place of the last one
+pub record MeanMoves (k : InStep) (deals : List Deal) (step : Step) : Type 0 where
+  pub price : ℕ
+  pub mean : mean_of (live step.moment (deals ++ option_to_list k.opened.deal)) ≡ Some price
+  pub prices : reference k step (mean_of (live step.moment (window k deals))) ≡ Some (record { cause = Moved; price = price })
 
 -- a trading stock is in a limit state where its quotation is at a band, and else trades on
 pub record HasEntered (old new : Kept) : Type 0 where

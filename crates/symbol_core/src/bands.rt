@@ -3,14 +3,14 @@
 ghost use Rattle.std.specs.Prelude.{◌≡◌, ◌+◌, ◌≤◌, [], true, false, Some, ℕ, List, Option, option_map, length};
 ghost use Rattle.std.specs.Option.{option_map_or};
 ghost use Rattle.price_core.specs.Moves.{moved_one_percent};
-ghost use Rattle.pause_core.specs.Phases.{is_done};
+ghost use Rattle.pause_core.specs.Phases.{is_done, is_trading};
 ghost use Rattle.window_core.specs.Deals.{AreNear, live, mean_of};
 ghost use Rattle.refprice_core.specs.Prices.{observed};
 ghost use Rattle.rulebook.specs.Auction.{is_paused};
 ghost use Rattle.rulebook.specs.Rules as rules;
 ghost use Rattle.rulebook.specs.Symbol.{bands_of, is_times, prior_close_of};
 ghost use Rattle.symbol_core.specs.Evaluates.{most_of_symbol};
-ghost use Rattle.symbol_core.specs.Idle.{changes_bands};
+ghost use Rattle.symbol_core.specs.Idle.{MeanMoves, changes_bands};
 ghost use Rattle.symbol_core.specs.InStep.{in_step};
 ghost use Rattle.symbol_core.specs.Pricing as pricing;
 ghost use Rattle.symbol_core.specs.Runs.{run_band, run_reference};
@@ -281,5 +281,26 @@ impl Kept {
         ensures len { length out.new ≤ length out.old + 1 }
     {
         self.banding(step, opened, deals, out);
+    }
+
+    /// The same where the mean, with the step's own deal, is known to be a new reference price, which isn't asked again.
+    pub fn publish_moved(
+        &mut self,
+        step: &Step,
+        opened: &mut OpenStep,
+        deals: &Window,
+        out: &mut Messages,
+    )
+        requires trading { is_trading self.old.phase ≡ true }
+        requires moves { MeanMoves (in_step self.old opened.old) deals.now.deals step.now }
+        requires room { length out.old + 1 ≤ most_of_symbol }
+        ensures obeys { ObeysWith deals.now.deals rules.publish_band step.now (in_step self.old opened.old) (in_step self.new opened.new) out.old out.new }
+        ensures rest { self.new ≡ record self.old { run = self.new.run } }
+        ensures bands { changes_bands self.new step.now ≡ false }
+        ensures len { length out.new ≤ length out.old + 1 }
+    {
+        if let Some(mean) = deals.mean_with(step.moment, &opened.deal) {
+            self.band(step, opened, Cause::Moved, mean, out);
+        }
     }
 }

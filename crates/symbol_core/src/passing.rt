@@ -5,7 +5,7 @@ ghost use Rattle.window_core.specs.Deals.{live, mean_of};
 ghost use Rattle.limit_core.specs.Limits.{straddles};
 ghost use Rattle.rulebook.specs.Rules.{at_band, meets};
 ghost use Rattle.refprice_core.specs.Prices.{moved_price};
-ghost use Rattle.symbol_core.specs.Idle.{IsDue, IsSettled, IsSettledAt, IsStill, PricesFrom, brings_deal_or_time, is_out, keeps_price};
+ghost use Rattle.symbol_core.specs.Idle.{IsDue, IsSettled, IsSettledAt, IsStill, PricesFrom, brings_deal_or_time, is_out, has_price, keeps_price};
 ghost use Rattle.symbol_core.specs.Runs.{run_band, run_reference};
 ghost use Rattle.symbol_core.specs.Taken.{deal_of, triggers_by};
 
@@ -198,6 +198,7 @@ impl Kept {
     /// Whether a deal, where there is one, brings a settled stock nothing but perhaps a new reference price.
     #[inline(always)]
     pub fn awaits_price(&self, deal: &Option<Deal>) -> bool
+        ensures priced { result ≡ true → has_price self.now ≡ true }
         ensures listed { result ≡ true → is_out self.now ≡ false }
         ensures counts { result ≡ true → (if is_some self.now.run then option_to_list deal.now else []) ≡ option_to_list deal.now }
         ensures restricts { result ≡ true → (triggers_by self.now.short.prior_close deal.now && not self.now.short.triggered) ≡ false }

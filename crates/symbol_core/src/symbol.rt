@@ -1,16 +1,16 @@
 //! One stock, kept from record to record.
 
-ghost use Rattle.std.specs.Prelude.{◌≡◌, ◌+◌, ◌<◌, ◌≤◌, ℕ, Bool, true, false, None, Some, IfSome, List, [], ◌∷◌, ◌&&◌, not, IsOk, IfOk, OnOk, OnErr, is_some, length, option_to_list};
+ghost use Rattle.std.specs.Prelude.{◌≡◌, ◌+◌, ◌<◌, ◌≤◌, ◌++◌, ℕ, Bool, true, false, None, Some, IfSome, List, [], ◌∷◌, ◌&&◌, not, IsOk, IfOk, OnOk, OnErr, is_some, length, option_to_list};
 ghost use Rattle.wire_in.specs.Records.{is_day, is_tick, moment_of};
 ghost use Rattle.pause_core.specs.Phases.{is_trading};
 ghost use Rattle.window_core.specs.declared.window.Deal.{Deal};
-ghost use Rattle.window_core.specs.Deals.{live};
+ghost use Rattle.window_core.specs.Deals.{live, mean_of};
 ghost use Rattle.wire_out.specs.declared.message.Message.{Message as Said};
 ghost use Rattle.rulebook.specs.declared.event.Event.{Event};
 ghost use Rattle.rulebook.specs.Symbol as of;
 ghost use Rattle.rulebook.specs.Symbol.{traded_price};
 ghost use Rattle.symbol_core.specs.Evaluates.{most_of_symbol};
-ghost use Rattle.symbol_core.specs.Idle.{IsAwaited, IsDue, IsSettled, Waits, WaitsAt, brings_deal_or_time, changes_bands};
+ghost use Rattle.symbol_core.specs.Idle.{IsAwaited, IsDue, IsSettled, Waits, WaitsAt, brings_deal_or_time, changes_bands, keeps_price};
 ghost use Rattle.symbol_core.specs.InStep.{in_step};
 ghost use Rattle.symbol_core.specs.Stands.{Speaks};
 ghost use Rattle.symbol_core.specs.Steps.{Steps, step_for};
@@ -470,6 +470,7 @@ fn take_moved(
 )
     requires awaited { IsAwaited k.old market.now x.now deal.now }
     requires trading { is_trading k.old.phase ≡ true }
+    requires moves { keeps_price k.old (moment_of x.now) (mean_of (live (moment_of x.now) (deals.old.deals ++ option_to_list deal.now))) ≡ false }
     requires deals { length (option_to_list deal.now) ≤ deals.old.spare }
     requires room { length out.old + 15 ≤ most_of_symbol }
     ensures steps { (kept : List Deal) → live (moment_of x.now) kept ≡ deals.old.deals → Steps (step_for market.now x.now) k.old k.new kept deals.new.deals out.old out.new }
@@ -478,7 +479,7 @@ fn take_moved(
 {
     let step = step_of(x, market);
     let mut opened = OpenStep::begin(*deal, false);
-    k.obey_price(&step, &mut opened, deals, out);
+    k.obey_moved(&step, &mut opened, deals, out);
     keep_deals(k, opened.is_fresh, step.moment, deal, deals);
     *due = Some(k.due_within(&step, deals, k.waits(&step)));
 }

@@ -27,4 +27,4 @@ returns-then-awaits_price-clause-awaited c = λ yes.
     let from = subst (λ (t : ℕ). due.from ≤ t) c.moment-t.ensures (c.waits_for.ensures.from c.if-waits_for.true) in
     let until = subst (λ (t : ℕ). t < due.waits) c.moment-t.ensures (c.waits_for.ensures.until c.if-waits_for.true) in
     awaited market x k deals due deal (subst (λ (o : Option Due). IsDue o k deals) c.in-Some.is c.self.invariant) c.requires.kind from until (c.waits_for.ensures.market c.if-waits_for.true)
-    (subst (λ (held : SymbolState). deal ≡ deal_of market.day held.kept.id x) (sym c.self.view_is) c.requires.own) (of.listed is) (of.counts is) (of.restricts is)
+    (subst (λ (held : SymbolState). deal ≡ deal_of market.day held.kept.id x) (sym c.self.view_is) c.requires.own) (of.priced is) (of.listed is) (of.counts is) (of.restricts is)

@@ -1,10 +1,10 @@
-use Rattle.std.proofs.Common.{◌≡◌, List, ◌++◌, refl, sym, ap, subst, ◌∙◌}
+use Rattle.std.proofs.Common.{◌≡◌, ℕ, List, ◌++◌, refl, sym, ap, subst, ◌∙◌}
 use Rattle.std.specs.Prelude.{option_to_list}
 use Rattle.wire_in.specs.Records.{moment_of}
 use Rattle.window_core.specs.declared.window.Deal.{Deal}
-use Rattle.window_core.specs.Deals.{live}
+use Rattle.window_core.specs.Deals.{live, mean_of}
 use Rattle.symbol_core.specs.Evaluates.{Evaluates}
-use Rattle.symbol_core.specs.Idle.{IsAwaited}
+use Rattle.symbol_core.specs.Idle.{IsAwaited, keeps_price}
 use Rattle.symbol_core.specs.Rests.{SymbolState}
 use Rattle.symbol_core.specs.Steps.{step_for}
 use Rattle.symbol_core.proofs.Dealt.{awaited-here, awaited-no_day, dealt-evaluated, dealt-recent, due-still, keeps-at}
@@ -63,3 +63,8 @@ returns-clause-ok c =
 pub take_moved-requires-clause-awaited : goal.take_moved-requires-clause-awaited
 take_moved-requires-clause-awaited c =
     subst (λ (held : SymbolState). IsAwaited held.kept c.args.market.now c.args.x.now c.args.deal.now) (sym c.self.view_is) c.requires.awaited
+
+pub take_moved-requires-clause-moves : goal.take_moved-requires-clause-moves
+take_moved-requires-clause-moves c =
+    ap (λ (t : ℕ). keeps_price c.self.inside.kept t (mean_of (live t (c.drop_old.new.deals.deals ++ option_to_list c.args.deal.now)))) (sym c.moment-t.ensures)
+    ∙ sym c.keeps_price.ensures ∙ c.if-keeps_price.false
