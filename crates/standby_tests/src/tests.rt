@@ -53,18 +53,13 @@ fn a_part_has_its_number_and_a_frame(rt: HostRuntime) {
     assert!(rt; bytes[len] == 0xee);
 }
 
-/// Whether a body spells the Part of a record with a number.
-fn is_part(body: &[u8], number: u64, record: &Record) -> bool {
-    match get_part(body) {
-        Ok((found, x)) => found == number && x == *record,
-        Err(BadFrame) => false,
-    }
-}
-
 #[test]
 fn a_part_is_read(rt: HostRuntime) -> Result<(), Fail> {
     let day = day_record()?;
-    assert!(rt; is_part(&PART[1..], 1, &day));
+    match get_part(&PART[1..]) {
+        Ok((number, x)) => assert!(rt; number == 1 && x == day),
+        Err(BadFrame) => assert!(rt; false),
+    }
     Ok(())
 }
 
