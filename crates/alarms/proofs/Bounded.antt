@@ -1,13 +1,14 @@
 -- Bounds stay bounds where a moment is set or added, and where a bound is made exact.
 use Rattle.std.proofs.Common.{◌≡◌, ℕ, zero, suc, Bool, true, false, ◌+◌, ◌-◌, ◌*◌, ◌<◌, ◌≤◌, ◌^◌, List, [], ◌∷◌, ◌++◌, length, replicate, take, drop, min, eqb, slice_index, refl, ap, ◌∙◌, arith, ltb, length-append, length-drop}
-use Rattle.std.specs.Prelude.{◌/◌, slice_set}
+use Rattle.std.specs.Prelude.{Option, IfSome, ◌/◌, slice_set}
 use Rattle.std.proofs.Math.ListN.{get_or-append}
 use Rattle.std.proofs.Math.Seq.{get_or-append_seam}
 use Rattle.std.proofs.lemmas.Bool.Decides.{nat_tests}
-use Rattle.std.proofs.lemmas.List.{get_or-drop, get_or-set_other, get_or-set_same, get_or-take, length-replicate, length-set, length-take}
+use Rattle.std.proofs.lemmas.List.{get_or-drop, get_or-replicate, get_or-set_other, get_or-set_same, get_or-take, length-replicate, length-set, length-take}
+use Rattle.std.proofs.lemmas.Option.{IfSome_then}
 use Rattle.std.specs.Int.{div_ceil}
 use Rattle.alarms.specs.Bounds.{AreBounds, AreLevels, AtMostEach, IsLeast}
-use Rattle.alarms.specs.Due.{NoneDue}
+use Rattle.alarms.specs.Due.{IsFirstDue, NoneDue}
 
 -- where none of a block's places is due, none of 8 is
 pub none-of_block : (t first count from : ℕ) (moments : List ℕ) → count ≡ min (length moments - first) 8 → NoneDue t from (first + count) moments → NoneDue t from (first + 8) moments
@@ -32,6 +33,16 @@ none-below t from group groups bounds moments are later none = λ place after be
       let place_low = are.of_places.below place within in
       let block_low = are.of_bounds.below (place / 8) (omega arith) in
       omega arith
+
+-- the first due place from one on is that from an earlier one on, where none between is due
+pub first-earlier : (t from start : ℕ) (moments : List ℕ) (found : Option ℕ) → from ≤ start → NoneDue t from start moments → IfSome found (λ place. IsFirstDue t start place moments)
+    → IfSome found (λ place. IsFirstDue t from place moments)
+first-earlier t from start moments found le none some = IfSome_then found some (λ place is. record {
+  after = omega (arith, is.after, le);
+  within = is.within;
+  due = is.due;
+  earlier = λ k after before within. let early = none k after in let late = is.earlier k in grind arith;
+})
 
 -- what a list says behind a set
 set_other : (xs : List ℕ) (at k x : ℕ) → eqb k at ≡ false → slice_index (slice_set xs at x) k ≡ slice_index xs k
@@ -292,25 +303,20 @@ cleared_both bounds moments blocks count are within enough few = record {
       let low = are.below place lt in
       omega arith
 
--- where all moments are 0, so may all bounds be
+-- where all moments are one, so may all bounds be
 
-zero-at : (count place : ℕ) → slice_index (replicate count 0) place ≡ 0
-zero-at zero place = refl
-zero-at (suc count) zero = refl
-zero-at (suc count) (suc place) = zero-at count place
-
-zero_bounds : (blocks count : ℕ) → count ≤ 8 * blocks → 8 * blocks < count + 8 → AreBounds (replicate blocks 0) (replicate count 0)
-zero_bounds blocks count enough few =
-    let above : length (replicate {A = ℕ} blocks 0) ≡ blocks = length-replicate blocks 0 in
-    let below : length (replicate {A = ℕ} count 0) ≡ count = length-replicate count 0 in
+equal_bounds : (moment blocks count : ℕ) → count ≤ 8 * blocks → 8 * blocks < count + 8 → AreBounds (replicate blocks moment) (replicate count moment)
+equal_bounds moment blocks count enough few =
+    let above = length-replicate blocks moment in
+    let below = length-replicate count moment in
     record {
       enough = omega (arith, above, below, enough);
       few = omega (arith, above, below, few);
-      below = λ place within. omega (arith, zero-at blocks (place / 8));
+      below = λ place within. omega (arith, get_or-replicate blocks (place / 8) moment 0 (omega (arith, within, below, enough)), get_or-replicate count place moment 0 (omega (arith, within, below)));
     }
 
-pub zero_levels : (groups blocks count : ℕ) → blocks ≡ div_ceil count 8 → groups ≡ div_ceil blocks 8 → AreLevels (replicate groups 0) (replicate blocks 0) (replicate count 0)
-zero_levels groups blocks count is are = record {
-  of_places = zero_bounds blocks count (omega (arith, is)) (omega (arith, is));
-  of_bounds = zero_bounds groups blocks (omega (arith, are)) (omega (arith, are));
+pub equal_levels : (moment groups blocks count : ℕ) → blocks ≡ div_ceil count 8 → groups ≡ div_ceil blocks 8 → AreLevels (replicate groups moment) (replicate blocks moment) (replicate count moment)
+equal_levels moment groups blocks count is are = record {
+  of_places = equal_bounds moment blocks count (omega (arith, is)) (omega (arith, is));
+  of_bounds = equal_bounds moment groups blocks (omega (arith, are)) (omega (arith, are));
 }

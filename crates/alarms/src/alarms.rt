@@ -146,20 +146,21 @@ fn first_of_group(
     None
 }
 
-/// The first due place from one on.
+/// The first due place from one on, looked for in the groups of the places before an end.
 fn first_of_all(
     moments: &[u64],
     bounds: &mut [u64],
     groups: &mut [u64],
     from: usize,
+    end: usize,
     t: u64,
 ) -> Option<usize>
     requires { AreLevels groups.old bounds.old moments.now }
     ensures levels { AreLevels groups.new bounds.new moments.now }
     ensures some { IfSome result (λ place. IsFirstDue t from place moments.now) }
-    ensures none { result ≡ None → NoneDue t from (length moments.now) moments.now }
+    ensures none { result ≡ None → NoneDue t from end moments.now }
 {
-    for group in from / GROUP..groups.len() {
+    for group in from / GROUP..groups.len().min(end.div_ceil(GROUP)) {
         if groups[group] <= t {
             let start = from.max(GROUP * group);
             let found = first_of_group(moments, bounds, groups, group, start, t);
@@ -229,15 +230,15 @@ impl Alarms {
         }
     }
 
-    /// So many places, due at every moment.
-    pub fn due(alloc: Global, count: usize) -> Result<Alarms, NoMemory>
-        ensures { IfOk result (λ alarms. alarms ≡ replicate count 0) }
+    /// So many places, each at one moment.
+    pub fn all_at(alloc: Global, moment: u64, count: usize) -> Result<Alarms, NoMemory>
+        ensures { IfOk result (λ alarms. alarms ≡ replicate count moment) }
     {
         let blocks = count.div_ceil(PLACES);
         Ok(Alarms {
-            moments: vec![in alloc; 0; count]?,
-            bounds: vec![in alloc; 0; blocks]?,
-            groups: vec![in alloc; 0; blocks.div_ceil(PLACES)]?,
+            moments: vec![in alloc; moment; count]?,
+            bounds: vec![in alloc; moment; blocks]?,
+            groups: vec![in alloc; moment; blocks.div_ceil(PLACES)]?,
         })
     }
 
@@ -293,12 +294,21 @@ impl Alarms {
         clear_first(&mut self.groups, count.div_ceil(GROUP));
     }
 
-    /// The first place from one on whose moment is not after t; None exactly where there is none.
-    pub fn next(&mut self, from: usize, t: u64) -> Option<usize>
+    /// The first place from one on and before an end whose moment is not after t; None exactly where there is none.
+    pub fn next(&mut self, from: usize, end: usize, t: u64) -> Option<usize>
         ensures some { IfSome result (λ place. IsFirstDue t from place self.old) }
-        ensures none { result ≡ None → NoneDue t from (length self.old) self.old }
+        ensures before { IfSome result (λ place. place < end) }
+        ensures none { result ≡ None → NoneDue t from end self.old }
         ensures same { self.new ≡ self.old }
     {
-        first_of_all(&self.moments, &mut self.bounds, &mut self.groups, from, t)
+        let first = first_of_all(
+            &self.moments,
+            &mut self.bounds,
+            &mut self.groups,
+            from,
+            end,
+            t,
+        );
+        first.filter(|place| *place < end)
     }
 }

@@ -12,7 +12,7 @@ ghost use Rattle.market_core.specs.Kinds.{is_trade};
 ghost use Rattle.market_core.specs.Room.{HasRoomAt};
 
 use crate::among::is_among;
-use crate::since::{ALWAYS_DUE, Since, alarm_of, pass, renew};
+use crate::since::{ALWAYS_DUE, NEVER_DUE, Since, alarm_of, pass, renew};
 use crate::symbols::{evaluate, evaluate_each};
 use alarms::Alarms;
 use price_core::NoMemory;
@@ -53,13 +53,10 @@ fn first_due(alarms: &mut Alarms, from: usize, end: usize, t: Moment) -> usize
     ensures none { NoneDue t from result alarms.old }
     ensures same { alarms.new ≡ alarms.old }
 {
-    match alarms.next(from, t.nanos()) {
-        Some(place) if place < end => place,
-        _ => end,
-    }
+    alarms.next(from, end, t.nanos()).unwrap_or(end)
 }
 
-/// Makes so many more places, which are due. An error leaves those that were made.
+/// Makes so many more places, which are never due. An error leaves those that were made.
 fn make_places(alarms: &mut Alarms, alloc: Global, count: usize) -> Result<(), NoMemory>
     ensures more { OnOk result (length alarms.old + count ≤ length alarms.new) }
     ensures kept { length alarms.old ≤ length alarms.new }
@@ -67,11 +64,11 @@ fn make_places(alarms: &mut Alarms, alloc: Global, count: usize) -> Result<(), N
     ensures none { count ≡ 0 → IsOk result }
 {
     if count > 0 && alarms.len() == 0 {
-        *alarms = Alarms::due(alloc, count)?;
+        *alarms = Alarms::all_at(alloc, NEVER_DUE, count)?;
         return Ok(());
     }
     for _place in 0..count {
-        alarms.push(ALWAYS_DUE)?;
+        alarms.push(NEVER_DUE)?;
     }
     Ok(())
 }

@@ -19,6 +19,9 @@ pub struct Since {
 /// The alarm of a stock of which nothing is known: each tick may bring it something.
 pub(crate) const ALWAYS_DUE: u64 = 0;
 
+/// The alarm of a place without a stock: no tick comes as late.
+pub(crate) const NEVER_DUE: u64 = u64::MAX;
+
 /// Whether what holds from a moment on over a market holds since another.
 fn includes(from: Moment, market: &MarketView, since: &Since) -> bool
     ensures { result ≡ true → (alarm : ℕ) (held : SymbolState) → Idles market.now from alarm held → IdlesUntil (Some since.now) alarm held }

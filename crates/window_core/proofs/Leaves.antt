@@ -1,19 +1,17 @@
 -- Deals leave one after the other.
-use Rattle.std.proofs.Common.{◌≡◌, ℕ, zero, suc, ◌+◌, ◌≤◌, ◌<◌, true, false, List, [], ◌∷◌, sum_by, refl, sym, ap, subst, ◌∙◌, arith}
-use Rattle.std.specs.Prelude.{Some, None, ◌==◌, if◌then◌else◌, max, drop, length, ◌-◌}
+use Rattle.std.proofs.Common.{◌≡◌, ℕ, ◌+◌, ◌≤◌, ◌<◌, Bool, true, false, List, ◌∷◌, sum_by, refl, sym, ap, subst, ◌∙◌, arith}
+use Rattle.std.specs.Prelude.{Some, None, ◌==◌, if◌then◌else◌, max, nat_lt, drop, length, ◌-◌, ◌&&◌, slice_index_or}
 use Rattle.std.specs.Option.{option_map_or}
 use Rattle.std.proofs.lemmas.Bool.Decides.{nat_tests}
-use Rattle.std.proofs.lemmas.List.{length-drop}
+use Rattle.std.proofs.lemmas.List.{drop_more, length-drop}
 use Rattle.price_core.specs.Moves.{moved_one_percent}
 use Rattle.price_core.specs.Rounding.{mean}
 use Rattle.session_core.specs.Durations.{five_minutes}
-use Rattle.window_core.specs.declared.leaving.Last.{Last}
 use Rattle.window_core.specs.declared.window.Deal.{Deal}
 use Rattle.window_core.specs.Deals.{is_live, live, mean_has_moved}
-use Rattle.window_core.specs.Leaving.{AreLast, IsQueue}
-use Rattle.window_core.specs.Summed.{AllPriced, InOrder}
+use Rattle.window_core.specs.Leaving.{IsQueue}
 use Rattle.window_core.specs.Tallies.{Tallies}
-use Rattle.window_core.proofs.Sums.{first_live, sum_first, tallies_of}
+use Rattle.window_core.proofs.Sums.{first_live, sum_first, tallies_of, young_live}
 
 old : (u : ℕ) (d : Deal) → d.moment + five_minutes ≤ u → is_live u d ≡ false
 old u d le = grind (arith, nat_tests)
@@ -29,38 +27,55 @@ tallied : (reference sum count : ℕ) (deals : List Deal) → Tallies sum count 
 tallied reference sum count deals tallies e =
     (λ i. option_map_or (λ m. moved_one_percent m reference) (if sym tallies.count_is i == 0 then None else Some (mean (sym tallies.sum_is i) (sym tallies.count_is i))) false) ∙ e
 
--- some of the deals in order are in order
-pub drop_order : (n : ℕ) (deals : List Deal) → InOrder deals → InOrder (drop n deals)
-drop_order zero deals order = order
-drop_order (suc n) [] order = tt
-drop_order (suc n) (d ∷ deals) order = drop_order n deals order.1
-
-pub drop_priced : (n : ℕ) (deals : List Deal) → AllPriced deals → AllPriced (drop n deals)
-drop_priced zero deals priced = priced
-drop_priced (suc n) [] priced = tt
-drop_priced (suc n) (d ∷ deals) priced = drop_priced n deals priced.1
-
 -- how many are left
 pub count_left : (n most sum count : ℕ) (deals : List Deal) → Tallies sum count (drop n deals) → length deals ≤ most → count ≤ most - n
 count_left n most sum count deals tallies few = let left = length-drop n deals in let all = tallies.count_is in omega arith
 
--- with the deal before them
-pub last_with : (reference from moves : ℕ) (last : Last) (d : Deal) (deals : List Deal) → AreLast reference from last deals → InOrder (d ∷ deals) → AllPriced (d ∷ deals)
-    → ((u : ℕ) → max from (d.moment + five_minutes) ≤ u → u < moves → mean_has_moved reference (live u deals) ≡ false)
-    → AreLast reference from (record { sum = last.sum + d.price; count = last.count + 1; leaves = d.moment + five_minutes; moves = moves }) (d ∷ deals)
-last_with reference from moves last d deals are order priced near = record {
-  queue = record { tallies = tallied_all; priced = priced; order = order };
-  some = λ before. omega arith;
-  stay = λ u before. first_live u (d ∷ deals) d order refl (young u d before);
-  near = λ u le leaves before. ap (mean_has_moved reference) (old_first u d deals leaves) ∙ near u (omega (arith, le, leaves)) before;
-}
-  where
-    tallied_all : Tallies (last.sum + d.price) (last.count + 1) (d ∷ deals)
-    tallied_all =
-        let step : sum_by (λ d. d.price) (d ∷ deals) ≡ d.price + sum_by (λ d. d.price) deals = sum_first d deals in
-        let total = are.queue.tallies.sum_is in
-        let all = are.queue.tallies.count_is in
-        subst (λ (n : ℕ). Tallies (last.sum + d.price) n (d ∷ deals)) (omega arith) (tallies_of (last.sum + d.price) (d ∷ deals) (omega arith) priced)
+-- the deals from one on are left from a moment on, before which the mean of those that are left is near a reference price
+pub record AreLeft (reference from begin sum count : ℕ) (all rest : List Deal) : Type 0 where
+  pub queue : IsQueue sum count rest
+  pub left : (u : ℕ) → begin ≤ u → live u all ≡ live u rest
+  pub near : (u : ℕ) → from ≤ u → u < begin → mean_has_moved reference (live u all) ≡ false
+
+-- the next one is the first of those that are left
+pub next_left : (reference from begin sum count index : ℕ) (deals : List Deal) (d : Deal) → index < length deals → d ≡ slice_index_or deals index d → AreLeft reference from begin sum count deals (drop index deals)
+    → AreLeft reference from begin sum count deals (d ∷ drop (index + 1) deals)
+next_left reference from begin sum count index deals d within is are =
+    subst (λ (rest : List Deal). AreLeft reference from begin sum count deals rest) (drop_more deals index d within ∙ ap (λ (e : Deal). e ∷ drop (index + 1) deals) (sym is)) are
+
+pub all_left : (reference from sum count : ℕ) (all : List Deal) → IsQueue sum count all → AreLeft reference from from sum count all all
+all_left reference from sum count all queue = record { queue = queue; left = λ u le. refl; near = λ u le before. absurd (omega arith) }
+
+without_first : (sum count price : ℕ) (d : Deal) (rest : List Deal) → price ≡ d.price → IsQueue sum count (d ∷ rest) → IsQueue (sum - price) (count - 1) rest
+without_first sum count price d rest is queue =
+    let step : sum_by (λ d. d.price) (d ∷ rest) ≡ d.price + sum_by (λ d. d.price) rest = sum_first d rest in
+    let total = queue.tallies.sum_is in
+    let all = queue.tallies.count_is in
+    record {
+      tallies = subst (λ (n : ℕ). Tallies (sum - price) n rest) (omega arith) (tallies_of (sum - price) rest (omega arith) queue.priced.1);
+      priced = queue.priced.1;
+      order = queue.order.1;
+    }
+
+-- once it leaves
+pub first_leaves : (reference from begin sum count until price : ℕ) (all rest : List Deal) (d : Deal) → until ≡ max begin (d.moment + five_minutes) → price ≡ d.price
+    → (begin < d.moment + five_minutes → option_map_or (λ m. moved_one_percent m reference) (if count == 0 then None else Some (mean sum count)) false ≡ false)
+    → AreLeft reference from begin sum count all (d ∷ rest) → AreLeft reference from until (sum - price) (count - 1) all rest
+first_leaves reference from begin sum count until price all rest d until_is price_is still are = record {
+  queue = without_first sum count price d rest price_is are.queue;
+  left = λ u le. are.left u (omega (arith, le, until_is)) ∙ old_first u d rest (omega (arith, le, until_is));
+  near = λ u after before. by u after before (nat_lt u begin) refl;
+} where
+  by : (u : ℕ) → from ≤ u → u < until → (b : Bool) → nat_lt u begin ≡ b → mean_has_moved reference (live u all) ≡ false
+  by u after before true e = are.near u after (grind (arith, nat_tests))
+  by u after before false e =
+      let le : begin ≤ u = grind (arith, nat_tests) in
+      ap (mean_has_moved reference) (are.left u le ∙ young_live u (d ∷ rest) d are.queue.order refl (omega (arith, before, until_is, le)))
+      ∙ tallied reference sum count (d ∷ rest) are.queue.tallies (still (omega (arith, before, until_is, le)))
+
+-- of what is told by both tests at once
+pub second_false : (a b : ℕ) (second : Bool) → (nat_lt a b && second) ≡ false → a < b → second ≡ false
+second_false a b second e lt = grind (arith, nat_tests)
 
 -- none leaves before the first does
 pub first_stays : (reference from until sum count u : ℕ) (deals rest : List Deal) (d : Deal) → IsQueue sum count deals → deals ≡ d ∷ rest → until ≤ max from (d.moment + five_minutes)

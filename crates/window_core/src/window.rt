@@ -327,10 +327,11 @@ impl Window {
         if !self.is_ordered {
             return from;
         }
+        let all = self.tally();
         if self.items.len() <= FEW {
-            return few_move_from(&self.items, from, reference);
+            return few_move_from(&self.items, &all, from, reference);
         }
-        many_move_from(&self.items[0], &self.tally(), from, reference)
+        many_move_from(&self.items[0], &all, from, reference)
     }
 
     /// The same of these deals and one more that are less than five minutes old.

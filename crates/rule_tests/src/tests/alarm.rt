@@ -1,7 +1,7 @@
 //! Alarms of many places.
 
 use super::script::{Step, play};
-use Call::{First, Get, Length, MakeDue, Set};
+use Call::{First, FirstBefore, Get, Length, MakeDue, Set};
 use alarms::Alarms;
 use std::process::Abort;
 
@@ -17,6 +17,8 @@ enum Call {
     Get(usize, Option<u64>),
     /// From a place on, the first that is due at a moment.
     First(usize, u64, Option<usize>),
+    /// The same of the places before an end.
+    FirstBefore(usize, usize, u64, Option<usize>),
 }
 
 /// Gives a place a moment. Whether there is the place.
@@ -44,7 +46,8 @@ impl Step<Alarms> for Call {
             MakeDue(count) => make_due(alarms, count),
             Length(want) => alarms.len() == want,
             Get(place, want) => alarms.get(place) == want,
-            First(from, moment, want) => alarms.next(from, moment) == want,
+            First(from, moment, want) => alarms.next(from, usize::MAX, moment) == want,
+            FirstBefore(from, end, moment, want) => alarms.next(from, end, moment) == want,
         }
     }
 }
@@ -195,7 +198,7 @@ fn the_places_behind_those_that_were_made_due_keep_their_moments(rt: HostRuntime
 
 /// So many places that are made together, the last of which is a number, are due at each moment.
 fn expect_made_due<R: Abort + AllocGlobal>(rt: &R, places: usize, last: usize) {
-    let mut alarms = Alarms::due(rt.alloc(), places).expect(rt, "memory");
+    let mut alarms = Alarms::all_at(rt.alloc(), 0, places).expect(rt, "memory");
     play(
         rt,
         &mut alarms,
@@ -203,6 +206,7 @@ fn expect_made_due<R: Abort + AllocGlobal>(rt: &R, places: usize, last: usize) {
             Length(places),
             First(0, 0, Some(0)),
             First(last, 0, Some(last)),
+            FirstBefore(last, last, 0, None),
             First(places, u64::MAX, None),
             Set(last, 5),
             First(last, 4, None),

@@ -8,9 +8,9 @@ loop-place-preserved c =
     let alarms = c.loop-place.alarms in
     let pushed = (c.in_ok-push.ensures).ok in
     record {
-      more = omega (arith, ap length pushed, length-append alarms (0 ∷ []), c.loop-place.invariant.more);
+      more = omega (arith, ap length pushed, length-append alarms (18446744073709551615 ∷ []), c.loop-place.invariant.more);
       same = λ place lt.
-          ap (λ (xs : List ℕ). slice_index xs place) pushed ∙ get_or-append alarms (0 ∷ []) 0 place (omega (arith, lt, c.loop-place.invariant.more)) ∙ c.loop-place.invariant.same place lt;
+          ap (λ (xs : List ℕ). slice_index xs place) pushed ∙ get_or-append alarms (18446744073709551615 ∷ []) 0 place (omega (arith, lt, c.loop-place.invariant.more)) ∙ c.loop-place.invariant.same place lt;
     }
 
 pub returns-in_err-push-clause-none : goal.returns-in_err-push-clause-none

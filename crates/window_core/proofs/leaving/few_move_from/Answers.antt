@@ -1,59 +1,27 @@
-use Rattle.std.proofs.Common.{ap, sym, subst, ◌≡◌, ◌∙◌, ◌∷◌, ◌+◌, ◌-◌, drop, arith, List, ℕ}
-use Rattle.std.proofs.lemmas.List.{drop_all, drop_more}
-use Rattle.window_core.specs.declared.window.Deal.{Deal}
-use Rattle.window_core.specs.Leaving.{AreLast}
-use Rattle.window_core.specs.Summed.{AllPriced, InOrder}
-use Rattle.window_core.proofs.Leaves.{count_left, drop_order, drop_priced}
+use Rattle.std.proofs.Common.{◌+◌, ◌<◌, ◌∙◌, drop, length, sym, arith}
+use Rattle.window_core.proofs.Leaves.{all_left, count_left, first_leaves, next_left, second_false}
 use Rattle.window_core.proofs.leaving.few_move_from.Goals as goal
 
 pub loop-index-init : goal.loop-index-init
-loop-index-init c = record {
-  within = omega (arith, c.len-index.ensures);
-  last = subst (λ (ds : List Deal). AreLast c.args.reference c.args.from c.none-last.result ds) (sym (drop_all c.len-index.result c.args.deals.now.items (omega (arith, c.len-index.ensures)))) (c.none-last.ensures c.args.reference c.args.from);
-}
+loop-index-init c = all_left c.args.reference c.args.from c.args.all.now.sum c.args.all.now.count c.args.deals.now.items c.requires.queue
 
-pub with-last-requires-clause-some : goal.with-last-requires-clause-some
-with-last-requires-clause-some c = c.loop-index.invariant.last.some
+pub few_have_moved-requires-clause-few : goal.few_have_moved-requires-clause-few
+few_have_moved-requires-clause-few c =
+    let left = count_left c.loop-index.index 8 c.loop-index.sum c.loop-index.count c.args.deals.now.items c.loop-index.invariant.queue.tallies c.requires.few in
+    omega arith
 
-pub with-last-requires-clause-few : goal.with-last-requires-clause-few
-with-last-requires-clause-few c =
-    let left = count_left c.loop-index.index 8 c.loop-index.last.sum c.loop-index.last.count c.args.deals.now.items c.loop-index.invariant.last.queue.tallies c.requires.few in
-    omega (arith, c.loop-index-test.true)
-
-pub with-last-requires-clause-most : goal.with-last-requires-clause-most
-with-last-requires-clause-most c = c.loop-index.invariant.last.queue.tallies.greatest
+pub few_have_moved-requires-clause-most : goal.few_have_moved-requires-clause-most
+few_have_moved-requires-clause-most c = c.loop-index.invariant.queue.tallies.greatest
 
 pub loop-index-preserved : goal.loop-index-preserved
 loop-index-preserved c =
+    let now = c.loop-index in
     let deals = c.args.deals.now.items in
-    let index = c.loop-index.index in
-    let own = c.index.result.now in
-    let again : index - 1 + 1 ≡ index = omega (arith, c.loop-index-test.true) in
-    let here : drop (index - 1) deals ≡ own ∷ drop index deals =
-    drop_more deals (index - 1) own (omega (arith, c.loop-index-test.true, c.loop-index.invariant.within))
-    ∙ ap (λ (d : Deal). d ∷ drop (index - 1 + 1) deals) (sym c.index.ensures) ∙ ap (λ (n : ℕ). own ∷ drop n deals) again in
-    record {
-      within = omega (arith, c.loop-index.invariant.within);
-      last = subst (λ (ds : List Deal). AreLast c.args.reference c.args.from c.with-last.result ds) (sym here)
-          (c.with-last.ensures (drop index deals) c.loop-index.invariant.last
-          (subst (λ (ds : List Deal). InOrder ds) here (drop_order (index - 1) deals c.requires.order))
-          (subst (λ (ds : List Deal). AllPriced ds) here (drop_priced (index - 1) deals c.requires.priced)));
-    }
-
-pub move_from-requires-clause-some : goal.move_from-requires-clause-some
-move_from-requires-clause-some c = c.loop-index.invariant.last.some
-
-pub move_from-requires-clause-few : goal.move_from-requires-clause-few
-move_from-requires-clause-few c =
-    let left = count_left c.loop-index.index 8 c.loop-index.last.sum c.loop-index.last.count c.args.deals.now.items c.loop-index.invariant.last.queue.tallies c.requires.few in
-    omega arith
-
-pub move_from-requires-clause-most : goal.move_from-requires-clause-most
-move_from-requires-clause-most c = c.loop-index.invariant.last.queue.tallies.greatest
-
-pub returns : goal.returns
-returns c =
-    let none : c.loop-index.index ≡ 0 = omega (arith, c.loop-index-test.false) in
-    c.move_from.ensures c.args.from c.args.deals.now.items
-    (subst (λ (n : ℕ). AreLast c.args.reference c.args.from c.loop-index.last (drop n c.args.deals.now.items)) none c.loop-index.invariant.last)
-    (omega arith)
+    let own = c.index-deal.result.now in
+    let leaves = c.nanos-leaves.ensures.value in
+    let within : now.index < length deals = omega (arith, c.loop-index-test.true, c.len-index-end.ensures) in
+    let are = next_left c.args.reference c.args.from now.begin now.sum now.count now.index deals own within c.index-deal.ensures now.invariant in
+    let count = are.queue.tallies.count_is in
+    first_leaves c.args.reference c.args.from now.begin now.sum now.count c.max-begin.result c.units-sum.result deals (drop (now.index + 1) deals) own
+    (omega (arith, c.max-begin.ensures, leaves)) c.units-sum.ensures.value
+    (λ before. sym (c.few_have_moved.ensures (omega arith)) ∙ second_false now.begin (c.nanos-leaves.result + 300000000000) c.few_have_moved.result c.if-begin-leaves.false (omega (arith, before, leaves))) are

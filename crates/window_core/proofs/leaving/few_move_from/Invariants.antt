@@ -1,13 +1,7 @@
-use Rattle.std.proofs.Common.{◌≤◌, drop, length}
-use Rattle.window_core.specs.Leaving.{AreLast}
+use Rattle.std.proofs.Common.{drop}
+use Rattle.window_core.proofs.Leaves.{AreLeft}
 use Rattle.window_core.proofs.leaving.few_move_from.Given as goal
 
--- the deals from the index on were looked at
+-- the deals before the index were looked at
 abbrev pub invariant-loop-index : goal.invariant-loop-index
-invariant-loop-index l = record {
-  within : l.index ≤ length l.deals.items;
-  last : AreLast l.reference l.from l.last (drop l.index l.deals.items);
-}
-
-abbrev pub decreases-loop-index : goal.decreases-loop-index
-decreases-loop-index l = l.index
+invariant-loop-index l = AreLeft l.reference l.from l.begin l.sum l.count l.deals.items (drop l.index l.deals.items)

@@ -14,18 +14,25 @@ returns-then-stays_near c = record {
   near = λ u le before. near_live_mean c.args.reference u c.args.self.now.deals (c.stays_near.ensures c.if-stays_near.true);
 }
 
+pub few_move_from-requires-clause-queue : goal.few_move_from-requires-clause-queue
+few_move_from-requires-clause-queue c = record {
+  tallies = subst (λ (held : WindowState). Tallies c.tally-all.result.sum c.tally-all.result.count held.deals) (sym c.self.view_is) c.tally-all.ensures.tallies;
+  priced = c.self.invariant.summed.priced;
+  order = c.self.invariant.summed.order c.if-not-self.false;
+}
+
 pub returns : goal.returns
 returns c =
     let deals = c.self.inside.items.items in
     let first = c.index.result.now in
-    let queue : IsQueue c.tally.result.sum c.tally.result.count deals = record {
-      tallies = subst (λ (held : WindowState). Tallies c.tally.result.sum c.tally.result.count held.deals) (sym c.self.view_is) c.tally.ensures.tallies;
+    let queue : IsQueue c.tally-all.result.sum c.tally-all.result.count deals = record {
+      tallies = subst (λ (held : WindowState). Tallies c.tally-all.result.sum c.tally-all.result.count held.deals) (sym c.self.view_is) c.tally-all.ensures.tallies;
       priced = c.self.invariant.summed.priced;
       order = c.self.invariant.summed.order c.if-not-self.false;
     } in
     record {
       near = λ u le before. subst (λ (held : WindowState). mean_has_moved c.args.reference (live u held.deals) ≡ false) c.self.view_is
-          (first_stays c.args.reference c.args.from c.many_move_from.result c.tally.result.sum c.tally.result.count u deals (drop 1 deals) first queue
+          (first_stays c.args.reference c.args.from c.many_move_from.result c.tally-all.result.sum c.tally-all.result.count u deals (drop 1 deals) first queue
           (drop_more deals 0 first (omega (arith, c.if-len-le-FEW.false, c.len.ensures)) ∙ ap (λ (d : Deal). d ∷ drop 1 deals) (sym c.index.ensures))
           c.many_move_from.ensures.end c.many_move_from.ensures.unmoved le before);
     }
