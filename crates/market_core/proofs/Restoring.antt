@@ -1,18 +1,16 @@
 -- What is restored from a base stands for each list with that base: a market that begins with a day alone, an admission and a lead.
 use Rattle.std.proofs.Common.{nat_cmp, ◌≡◌, ◌≢◌, ℕ, zero, suc, ◌+◌, ◌<◌, ◌≤◌, Bool, true, false, cond, List, [], ◌∷◌, ◌++◌, length, map, get_or, take, replicate, Option, Some, None, is_some, Result, Ok, Err, refl, sym, ap, subst, ◌∙◌, true≢false, arith, append_assoc, length-append}
-use Rattle.std.specs.Prelude.{MatchResult, ◌==◌, ◌||◌, IsTrue, filter, is_ok, nat_le, option_map, position, slice_get}
-use Rattle.std.specs.List.{list_any}
+use Rattle.std.specs.Prelude.{MatchResult, ◌==◌, ◌||◌, filter, is_ok, nat_le, nat_lt, option_map, position, slice_get}
+use Rattle.std.specs.List.{All, list_any}
 use Rattle.std.specs.Option.{option_map_or}
 use Rattle.std.specs.Str.{bytes_eq}
 use Rattle.std.proofs.lemmas.Bool.Decides.{nat_tests}
 use Rattle.std.proofs.lemmas.List.{append-nil, length-replicate}
 use Rattle.std.proofs.lemmas.Option.{slice_get_read}
-use Rattle.std.proofs.lemmas.List.Elements.{All-get_or, filter-append}
+use Rattle.std.proofs.lemmas.List.Elements.{All-get_or, All-replicate, filter-append}
 use Rattle.std.proofs.lemmas.List.Quantifiers.{position-Some}
 use Rattle.std.proofs.lemmas.List.Sorted.{searched}
 use Rattle.std.specs.List.Sorted.{IsBinarySearchResult}
-use Rattle.session_core.specs.declared.day.Day.{Day}
-use Rattle.session_core.specs.Dates.{Civil}
 use Rattle.wire_in.specs.declared.base.Base.{Base}
 use Rattle.wire_in.specs.declared.record.Record.{Record}
 use Rattle.wire_in.specs.Bases.{AreNew, AreRising, IsInRange}
@@ -39,7 +37,6 @@ use Rattle.symbol_core.specs.Rests.{Rests, SymbolState}
 use Rattle.symbol_core.specs.Silent.{SaysNothing}
 use Rattle.symbol_core.proofs.Resting.{rests-fresh}
 use Rattle.market_core.specs.AdmissionState.{AdmissionState, Stands}
-use Rattle.market_core.specs.Dated.{are_up_to, is_on}
 use Rattle.market_core.specs.Fresh.{AreFresh, is_marked}
 use Rattle.market_core.specs.Leads.{IsLed, LeadState, today_led}
 use Rattle.market_core.specs.MarketState.{MarketState, Represents, day_of}
@@ -165,15 +162,11 @@ stand_in-led b kept range is =
 
 -- Its admission.
 
-none_on : (day : Option Day) (n : ℕ) → map (is_on day) (replicate n None) ≡ map (λ _. false) (replicate {A = Option Civil} n None)
-none_on None zero = refl
-none_on (Some day) zero = refl
-none_on None (suc n) = ap (λ (bs : List Bool). false ∷ bs) (none_on None n)
-none_on (Some day) (suc n) = ap (λ (bs : List Bool). false ∷ bs) (none_on (Some day) n)
-
-none_later : (day : Option Day) (n : ℕ) → IsTrue (are_up_to day (replicate n None))
-none_later day zero = refl
-none_later day (suc n) = none_later day n
+none_after : (begun n : ℕ) → map (nat_lt begun) (replicate n 0) ≡ map (λ _. false) (replicate {A = ℕ} n 0)
+none_after begun zero = refl
+none_after begun (suc n) = (λ i. before i ∷ none_after begun n i) where
+  before : nat_lt begun 0 ≡ false
+  before = grind (arith, nat_tests)
 
 day-behind : (x : Record) (A : List Record) → is_day x ≡ true → last_day (x ∷ []) ≡ last_day (x ∷ A)
 day-behind x A = by_listing (λ x. is_day x ≡ true → last_day (x ∷ []) ≡ last_day (x ∷ A)) (λ t d c is. refl) (λ t n k l c is. absurd (true≢false (sym is))) (λ y o is. absurd (true≢false (sym is ∙ o.no_day))) x
@@ -184,9 +177,10 @@ none-listed x A ns = by_listing (λ x. is_day x ≡ true → map (λ _. false) n
 -- what an admission keeps that begins with a day alone
 pub record BeginsDay (a : AdmissionState) (x : Record) (directory : List (List ℕ)) : Type 0 where
   pub day_is : a.day ≡ last_day (x ∷ [])
+  pub begun_is : a.begun ≡ a.count
   pub last_is : a.last ≡ moment_of x
   pub directory_is : a.directory ≡ directory
-  pub dates_are : a.dates ≡ replicate (length directory) None
+  pub listed_is : a.listed ≡ replicate (length directory) 0
 
 admits-day : (a : AdmissionState) (x : Record) (A : List Record) → is_day x ≡ true → BeginsDay a x (names (x ∷ A)) → Stands a (x ∷ A)
 admits-day a x A begins is =
@@ -195,9 +189,10 @@ admits-day a x A begins is =
       day = is.day_is ∙ day-behind x A begins;
       last = is.last_is;
       directory = is.directory_is;
-      listed = ap (λ (dates : List (Option Civil)). map (is_on a.day) dates) is.dates_are ∙ none_on a.day (length ns)
-          ∙ map-constant false (replicate {A = Option Civil} (length ns) None) ns (length-replicate (length ns) None) ∙ none-listed x A ns begins;
-      dated = subst (λ (dates : List (Option Civil)). IsTrue (are_up_to a.day dates)) (sym is.dates_are) (none_later a.day (length ns));
+      listed = ap (map (nat_lt a.begun)) is.listed_is ∙ none_after a.begun (length ns)
+          ∙ map-constant false (replicate {A = ℕ} (length ns) 0) ns (length-replicate (length ns) 0) ∙ none-listed x A ns begins;
+      begun = omega (arith, is.begun_is);
+      numbers = subst (All (λ number. number ≤ a.count)) (sym is.listed_is) (All-replicate (λ number. number ≤ a.count) (length ns) 0 (omega arith));
     }
 
 pub base-admits : (b : Base) (a : AdmissionState) (A : List Record) → base_of A ≡ Some b → BeginsDay a b.day b.names → Stands a A

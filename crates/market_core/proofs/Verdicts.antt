@@ -1,19 +1,16 @@
 -- What an admission refuses by what it keeps is what the list of admitted records refuses.
 use Rattle.std.proofs.Common.{◌≡◌, ℕ, Bool, false, cond, List, [], ◌∷◌, length, map, Option, Some, None, is_some, is_none, not, refl, sym, ap, ◌∙◌, arith}
-use Rattle.std.specs.Prelude.{slice_get, position, nat_le, ◌&&◌, option_map}
+use Rattle.std.specs.Prelude.{slice_get, position, nat_le, nat_lt, ◌&&◌, option_map}
 use Rattle.std.specs.Option.{option_map_or}
 use Rattle.std.specs.Str.{bytes_eq}
 use Rattle.std.proofs.lemmas.Bool.Decides.{nat_tests}
 use Rattle.std.proofs.lemmas.Option.{slice_get-map}
-use Rattle.session_core.specs.declared.day.Day.{Day}
-use Rattle.session_core.specs.Dates.{Civil}
 use Rattle.wire_in.specs.declared.record.Record.{Record}
 use Rattle.wire_in.specs.declared.record.Record.TheVariants as in_
 use Rattle.wire_in.specs.declared.record.Refusal.{Refusal}
 use Rattle.wire_in.specs.declared.record.Refusal.TheVariants.{NoDay, OutOfOrder, UnknownSymbol, AlreadyListed, DirectoryFull, JournalFull}
 use Rattle.wire_in.specs.Records.{symbol_of, is_day}
 use Rattle.rulebook.specs.Admission.{verdict, verdict_at, names, most_names, last_day, is_listed_name, is_listed, is_early, is_unknown, lists_again, finds_no_id}
-use Rattle.market_core.specs.Dated.{is_on}
 use Rattle.market_core.specs.AdmissionState.{AdmissionState, Represents, Stands, refusal_of, last_moment, is_out_of_order, is_listed_id, names_unlisted, lists_twice, lacks_room}
 use Rattle.rulebook.proofs.Positions.{is_some-position}
 use Rattle.rulebook.proofs.Listings.{listed_by_id}
@@ -26,9 +23,9 @@ option_map_or-option_map f test (Some x) = refl
 tested : {X : Type 0} (f : X → Bool) (xs : List X) (i : ℕ) → option_map_or f (slice_get xs i) false ≡ option_map_or (λ b. b) (slice_get (map f xs) i) false
 tested f xs i = sym (option_map_or-option_map f (λ b. b) (slice_get xs i)) ∙ ap (λ o. option_map_or (λ b. b) o false) (sym (slice_get-map f xs i))
 
-listed_id : (day : Option Day) (dates : List (Option Civil)) (A : List Record) → map (is_on day) dates ≡ map (is_listed_name A) (names A) → (id : ℕ) → is_listed_id day dates id ≡ is_listed A id
-listed_id day dates A same id =
-    tested (is_on day) dates id ∙ ap (λ bs. option_map_or (λ b. b) (slice_get bs id) false) same ∙ sym (tested (is_listed_name A) (names A) id)
+listed_id : (begun : ℕ) (listed : List ℕ) (A : List Record) → map (nat_lt begun) listed ≡ map (is_listed_name A) (names A) → (id : ℕ) → is_listed_id begun listed id ≡ is_listed A id
+listed_id begun listed A same id =
+    tested (nat_lt begun) listed id ∙ ap (λ bs. option_map_or (λ b. b) (slice_get bs id) false) same ∙ sym (tested (is_listed_name A) (names A) id)
 
 ap2 : {X Y Z : Type 0} (f : X → Y → Z) {a b : X} {c d : Y} → a ≡ b → c ≡ d → f a c ≡ f b d
 ap2 f p q = λ i. f (p i) (q i)
@@ -38,27 +35,27 @@ out_of_order A (in_.Day t d c) = refl
 out_of_order [] x = grind (arith, nat_tests)
 out_of_order (y ∷ A) x = refl
 
-unlisted : (day : Option Day) (dates : List (Option Civil)) (A : List Record) → map (is_on day) dates ≡ map (is_listed_name A) (names A)
-    → (x : Record) → names_unlisted day dates x ≡ is_unknown A x
-unlisted day dates A same x = by (symbol_of x) where
-  by : (o : Option ℕ) → option_map_or (λ id. not (is_listed_id day dates id)) o false ≡ option_map_or (λ id. not (is_listed A id)) o false
+unlisted : (begun : ℕ) (listed : List ℕ) (A : List Record) → map (nat_lt begun) listed ≡ map (is_listed_name A) (names A)
+    → (x : Record) → names_unlisted begun listed x ≡ is_unknown A x
+unlisted begun listed A same x = by (symbol_of x) where
+  by : (o : Option ℕ) → option_map_or (λ id. not (is_listed_id begun listed id)) o false ≡ option_map_or (λ id. not (is_listed A id)) o false
   by None = refl
-  by (Some id) = ap not (listed_id day dates A same id)
+  by (Some id) = ap not (listed_id begun listed A same id)
 
-twice : (day : Option Day) (dates : List (Option Civil)) (A : List Record) → map (is_on day) dates ≡ map (is_listed_name A) (names A)
-    → (x : Record) → lists_twice day dates (names A) x ≡ lists_again A x
-twice day dates A same (in_.Listing t name k l c) = by (position (bytes_eq name) (names A)) ∙ listed_by_id A name where
-  by : (o : Option ℕ) → option_map_or (is_listed_id day dates) o false ≡ option_map_or (is_listed A) o false
+twice : (begun : ℕ) (listed : List ℕ) (A : List Record) → map (nat_lt begun) listed ≡ map (is_listed_name A) (names A)
+    → (x : Record) → lists_twice begun listed (names A) x ≡ lists_again A x
+twice begun listed A same (in_.Listing t name k l c) = by (position (bytes_eq name) (names A)) ∙ listed_by_id A name where
+  by : (o : Option ℕ) → option_map_or (is_listed_id begun listed) o false ≡ option_map_or (is_listed A) o false
   by None = refl
-  by (Some id) = listed_id day dates A same id
-twice day dates A same (in_.Day t d c) = refl
-twice day dates A same (in_.Trade t s n p q f) = refl
-twice day dates A same (in_.Cancel t s n) = refl
-twice day dates A same (in_.Quote t s b o x y) = refl
-twice day dates A same (in_.IndexTick t v) = refl
-twice day dates A same (in_.Clock t) = refl
-twice day dates A same (in_.Notice t s k) = refl
-twice day dates A same (in_.Indication t s p u) = refl
+  by (Some id) = listed_id begun listed A same id
+twice begun listed A same (in_.Day t d c) = refl
+twice begun listed A same (in_.Trade t s n p q f) = refl
+twice begun listed A same (in_.Cancel t s n) = refl
+twice begun listed A same (in_.Quote t s b o x y) = refl
+twice begun listed A same (in_.IndexTick t v) = refl
+twice begun listed A same (in_.Clock t) = refl
+twice begun listed A same (in_.Notice t s k) = refl
+twice begun listed A same (in_.Indication t s p u) = refl
 
 is_none-is_some : {X : Type 0} (o : Option X) → is_none o ≡ not (is_some o)
 is_none-is_some None = refl
@@ -84,9 +81,9 @@ first_of no_day out_of_order unknown again full capacity =
 pub refusal_of-stands : (a : AdmissionState) (A : List Record) (x : Record) → Stands a A → refusal_of a x ≡ verdict_at a.capacity a.count A x
 refusal_of-stands a A x s =
     let early : is_out_of_order a.day a.last x ≡ is_early A x = ap2 (λ d l. is_out_of_order d l x) s.day s.last ∙ out_of_order A x in
-    let again : lists_twice a.day a.dates a.directory x ≡ lists_again A x = ap (λ d. lists_twice a.day a.dates d x) s.directory ∙ twice a.day a.dates A s.listed x in
+    let again : lists_twice a.begun a.listed a.directory x ≡ lists_again A x = ap (λ d. lists_twice a.begun a.listed d x) s.directory ∙ twice a.begun a.listed A s.listed x in
     let room : lacks_room a.directory x ≡ finds_no_id A x = ap (λ d. lacks_room d x) s.directory ∙ no_room A x in
-    let unknown : names_unlisted a.day a.dates x ≡ is_unknown A x = unlisted a.day a.dates A s.listed x in
+    let unknown : names_unlisted a.begun a.listed x ≡ is_unknown A x = unlisted a.begun a.listed A s.listed x in
     λ i. first_of (not (is_day x) && is_none (s.day i)) (early i) (unknown i) (again i) (room i) (nat_le a.capacity a.count)
 
 pub refusal_of-represents : (a : AdmissionState) (A : List Record) (x : Record) → Represents a A → refusal_of a x ≡ verdict a.capacity A x

@@ -1,5 +1,4 @@
 pub mod Kinds
-pub mod Dated
 pub mod AdmissionState
 pub mod MarketState
 pub mod Ruled

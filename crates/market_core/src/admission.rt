@@ -2,36 +2,38 @@
 
 ghost use Rattle.std.specs.Prelude.{◌≡◌, ◌≢◌, ◌↔◌, ◌+◌, ◌<◌, ◌≤◌, ◌^◌, None, Some, false, List, [], ◌∷◌, OnOk, OnErr, IfOk, IsOk, IsTrue, IsNone, unwrap_or, length, position, map, nat_le, replicate, ◌==◌, ◌&&◌, vec_len, vec_capacity};
 ghost use Rattle.std.specs.Str.{bytes_eq};
-ghost use Rattle.session_core.specs.Dates.{Civil};
 ghost use Rattle.wire_in.specs.declared.record.Record.{Record};
 ghost use Rattle.wire_in.specs.Bases.{IsInRange};
 ghost use Rattle.wire_in.specs.Records.{symbol_of};
 ghost use Rattle.rulebook.specs.Admission.{last_day, most_names, verdict, verdict_at};
 ghost use Rattle.rulebook.specs.Base.{base_of, stand_in};
-ghost use Rattle.market_core.specs.Dated.{is_on};
-ghost use Rattle.market_core.specs.AdmissionState.{AdmissionState, Represents, Stands, refusal_of, is_before_day, is_date_early, is_out_of_order, names_unlisted, is_listed_id, name_refusal_of, is_full_for, added, dates_listed, day_after, directory_after, dates_after, admitted_with};
+ghost use Rattle.market_core.specs.AdmissionState.{AdmissionState, Represents, Stands, refusal_of, symbol_refusal_of, is_before_day, is_date_early, is_out_of_order, is_listed_id, name_refusal_of, is_full_for, added, set_at, day_after, begun_after, directory_after, listed_after};
 
 use crate::directory::Directory;
 use price_core::NoMemory;
 use rulebook::MOST_NAMES;
-use session_core::{Date, Day, Moment};
+use session_core::{Day, Moment, midnight};
 use std::alloc::Global;
 use std::marker::Model;
 use wire_in::{Base, Record, Refusal};
 
-/// What decides whether a record may follow those admitted before it.
+/// What decides whether a record may follow those admitted before it. Admitted records are numbered from 1 on.
 #[derive(Drop)]
 pub struct Admission {
     capacity: u64,
     count: u64,
     day: Option<Day>,
-    last: Option<Moment>,
+    /// The number of the record that began the day, 0 before the first day.
+    begun: u64,
+    /// The moment of the last record, midnight before the first record.
+    last: Moment,
     directory: Directory,
-    listed_on: Vec<Option<Date>>,
+    /// The number of the record that last listed each name, 0 where it isn't known.
+    listed: Vec<u64>,
 }
 
 impl Model for Admission {
-    ghost use Rattle.std.specs.Prelude.{◌≡◌, ◌≤◌, length, unwrap_or, vec_len, vec_capacity};
+    ghost use Rattle.std.specs.Prelude.{◌≡◌, ◌≤◌, length, vec_len, vec_capacity};
     ghost use Rattle.rulebook.specs.Admission.{most_names};
     ghost use Rattle.market_core.specs.AdmissionState.{AdmissionState};
 
@@ -41,37 +43,21 @@ impl Model for Admission {
       capacity = a.capacity;
       count = a.count;
       day = a.day;
-      last = unwrap_or a.last 0;
+      begun = a.begun;
+      last = a.last;
       directory = a.directory;
-      dates = a.listed_on.items;
+      listed = a.listed.items;
     } };
 
-    ghost invariant = { λ a. (vec_len a.listed_on ≡ length a.directory) × (most_names ≤ vec_capacity a.listed_on) };
+    ghost invariant = { λ a. (vec_len a.listed ≡ length a.directory) × (most_names ≤ vec_capacity a.listed) };
 }
 
-/// Whether two dates are the same. Both come as values, so that they are compared as one number and not field by field.
-fn is_same(a: Date, b: Date) -> bool
-    ensures { result ≡ ((a.year == b.year) && (a.month == b.month) && (a.day == b.day)) }
+/// Whether a name is listed today: whether the record that last listed it came after the one that began the day.
+fn is_listed_id(begun: u64, listed: &[u64], id: u16) -> bool
+    ensures { result ≡ is_listed_id begun listed.now id }
 {
-    a == b
-}
-
-/// Whether the date of a last listing, where there is one, is that of the day.
-fn is_on(day: Option<Day>, date: Option<Date>) -> bool
-    ensures { result ≡ is_on day date }
-{
-    match (day, date) {
-        (Some(day), Some(date)) => is_same(date, day.date),
-        _ => false,
-    }
-}
-
-/// Whether a name that was last listed on one of these dates is listed today.
-fn is_listed_id(day: Option<Day>, dates: &[Option<Date>], id: u16) -> bool
-    ensures { result ≡ is_listed_id day dates.now id }
-{
-    match dates.get(id as usize) {
-        Some(date) => is_on(day, *date),
+    match listed.get(id as usize) {
+        Some(number) => begun < *number,
         None => false,
     }
 }
@@ -97,22 +83,12 @@ fn is_before_day(day: Option<Day>, x: &Record) -> bool
 }
 
 /// Whether a record comes before the last one: by its moment, or a Day by its date.
-fn is_out_of_order(day: Option<Day>, last: Option<Moment>, x: &Record) -> bool
-    ensures { result ≡ is_out_of_order day (unwrap_or last 0) x.now }
+fn is_out_of_order(day: Option<Day>, last: Moment, x: &Record) -> bool
+    ensures { result ≡ is_out_of_order day last x.now }
 {
     match x {
         Record::Day { day: next, .. } => is_date_early(day, next),
-        _ => last.is_some_and(|last| x.moment() < last),
-    }
-}
-
-/// Whether a record names a symbol by an id that is not listed today.
-fn names_unlisted(day: Option<Day>, dates: &[Option<Date>], x: &Record) -> bool
-    ensures { result ≡ names_unlisted day dates.now x.now }
-{
-    match x.symbol() {
-        Some(id) => !is_listed_id(day, dates, id),
-        None => false,
+        _ => x.moment() < last,
     }
 }
 
@@ -126,16 +102,16 @@ fn day_of(x: &Record) -> Option<Day>
     }
 }
 
-/// Puts into a list of no dates, which has room for all names, that none of so many names was listed on a day that is known.
-fn put_never(dates: &mut Vec<Option<Date>>, count: usize)
-    requires none { dates.old.items ≡ [] }
+/// Puts into a list of no numbers, which has room for all names, that no record is known to have listed so many names.
+fn put_unknown(listed: &mut Vec<u64>, count: usize)
+    requires none { listed.old.items ≡ [] }
     requires few { count ≤ most_names }
-    requires room { most_names ≤ vec_capacity dates.old }
-    ensures dates { dates.new.items ≡ replicate count None }
-    ensures room { vec_capacity dates.old ≤ vec_capacity dates.new }
+    requires room { most_names ≤ vec_capacity listed.old }
+    ensures numbers { listed.new.items ≡ replicate count 0 }
+    ensures room { vec_capacity listed.old ≤ vec_capacity listed.new }
 {
     for _name in 0..count {
-        dates.push_reserved(None);
+        listed.push_reserved(0);
     }
 }
 
@@ -150,9 +126,10 @@ impl Admission {
             capacity,
             count: 0,
             day: None,
-            last: None,
+            begun: 0,
+            last: midnight(),
             directory: Directory::new(alloc)?,
-            listed_on: Vec::with_capacity(alloc, MOST_NAMES)?,
+            listed: Vec::with_capacity(alloc, MOST_NAMES)?,
         })
     }
 
@@ -167,15 +144,16 @@ impl Admission {
         ensures stand_in { Stands result (stand_in base.now) }
     {
         let names = base.names.list();
-        let mut listed_on = self.listed_on;
-        put_never(&mut listed_on, names.len());
+        let mut listed = self.listed;
+        put_unknown(&mut listed, names.len());
         Admission {
             capacity,
             count: base.records,
             day: day_of(&base.day),
-            last: Some(base.day.moment()),
+            begun: base.records,
+            last: base.day.moment(),
             directory: self.directory.restore(names),
-            listed_on,
+            listed,
         }
     }
 
@@ -215,9 +193,46 @@ impl Admission {
             return None;
         };
         match self.directory.id(name) {
-            Some(id) if is_listed_id(self.day, &self.listed_on, id) => Some(Refusal::AlreadyListed),
+            Some(id) if is_listed_id(self.begun, &self.listed, id) => Some(Refusal::AlreadyListed),
             None if self.directory.len() >= MOST_NAMES => Some(Refusal::DirectoryFull),
             _ => None,
+        }
+    }
+
+    /// Why a record of a symbol is refused, by its moment and its id.
+    #[inline(always)]
+    fn symbol_refusal(&self, moment: Moment, id: u16) -> Option<Refusal>
+        ensures { result ≡ symbol_refusal_of self.now moment id }
+    {
+        if self.day.is_none() {
+            Some(Refusal::NoDay)
+        } else if moment < self.last {
+            Some(Refusal::OutOfOrder)
+        } else if !is_listed_id(self.begun, &self.listed, id) {
+            Some(Refusal::UnknownSymbol)
+        } else if self.capacity <= self.count {
+            Some(Refusal::JournalFull)
+        } else {
+            None
+        }
+    }
+
+    /// Why a record that names no symbol by an id is refused.
+    #[inline(never)]
+    fn other_refusal(&self, x: &Record) -> Option<Refusal>
+        requires { symbol_of x.now ≡ None }
+        ensures { result ≡ refusal_of self.now x.now }
+    {
+        if is_before_day(self.day, x) {
+            Some(Refusal::NoDay)
+        } else if is_out_of_order(self.day, self.last, x) {
+            Some(Refusal::OutOfOrder)
+        } else if let Some(refusal) = self.name_refusal(x) {
+            Some(refusal)
+        } else if self.capacity <= self.count {
+            Some(Refusal::JournalFull)
+        } else {
+            None
         }
     }
 
@@ -227,18 +242,9 @@ impl Admission {
     fn refusal(&self, x: &Record) -> Option<Refusal>
         ensures { result ≡ refusal_of self.now x.now }
     {
-        if is_before_day(self.day, x) {
-            Some(Refusal::NoDay)
-        } else if is_out_of_order(self.day, self.last, x) {
-            Some(Refusal::OutOfOrder)
-        } else if names_unlisted(self.day, &self.listed_on, x) {
-            Some(Refusal::UnknownSymbol)
-        } else if let Some(refusal) = self.name_refusal(x) {
-            Some(refusal)
-        } else if self.capacity <= self.count {
-            Some(Refusal::JournalFull)
-        } else {
-            None
+        match x.symbol() {
+            Some(id) => self.symbol_refusal(x.moment(), id),
+            None => self.other_refusal(x),
         }
     }
 
@@ -253,36 +259,40 @@ impl Admission {
         self.refusal(x)
     }
 
-    /// Lists a name on a day.
+    /// Lists a name by the record of that number.
     #[inline(never)]
-    fn list(&mut self, name: [u8; 8], day: &Day)
+    fn list(&mut self, name: [u8; 8], number: u64)
         requires { is_full_for self.old.directory name ≡ false }
         ensures { self.new ≡ record self.old {
           directory = added self.old.directory (position (bytes_eq name) self.old.directory) name;
-          dates = dates_listed day.now self.old.dates (position (bytes_eq name) self.old.directory);
+          listed = set_at self.old.listed (position (bytes_eq name) self.old.directory) number;
         } }
     {
         match self.directory.id(name) {
-            Some(id) => self.listed_on[id as usize] = Some(day.date),
+            Some(id) => self.listed[id as usize] = number,
             None => {
                 self.directory.push(name);
-                self.listed_on.push(Some(day.date)).unwrap();
+                self.listed.push_reserved(number);
             }
         }
     }
 
-    /// Takes a record's day, name and date in.
+    /// Takes a record's day and name in.
     fn take_in(&mut self, x: &Record)
         requires { refusal_of self.old x.now ≡ None }
         ensures { self.new ≡ record self.old {
           day = day_after self.old.day x.now;
+          begun = begun_after self.old x.now;
           directory = directory_after self.old.directory x.now;
-          dates = dates_after self.old x.now;
+          listed = listed_after self.old x.now;
         } }
     {
-        match (*x, self.day) {
-            (Record::Day { day, .. }, _) => self.day = Some(day),
-            (Record::Listing { name, .. }, Some(day)) => self.list(name, &day),
+        match *x {
+            Record::Day { day, .. } => {
+                self.day = Some(day);
+                self.begun = self.count + 1;
+            }
+            Record::Listing { name, .. } => self.list(name, self.count + 1),
             _ => {}
         }
     }
@@ -299,7 +309,7 @@ impl Admission {
         ensures succeeds { IsOk result }
     {
         self.take_in(x);
-        self.last = Some(x.moment());
+        self.last = x.moment();
         self.count += 1;
         Ok(())
     }

@@ -41,7 +41,7 @@ fresh_admits limit {capacity} fresh next same none is r =
     let s = r.stands in
     subst (λ (b : Option Base). Admits capacity b [] next) (sym none) (record {
       limit = ap (λ (a : AdmissionState). a.capacity) is ∙ same;
-      stands = subst (λ (a : AdmissionState). Stands a []) (sym is) (record { day = s.day; last = s.last; directory = s.directory; listed = s.listed; dated = s.dated });
+      stands = subst (λ (a : AdmissionState). Stands a []) (sym is) (record { day = s.day; last = s.last; directory = s.directory; listed = s.listed; begun = s.begun; numbers = s.numbers });
       count = ap (λ (a : AdmissionState). a.count) is ∙ r.count;
       lawful = tt;
     })
