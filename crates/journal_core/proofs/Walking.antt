@@ -326,18 +326,6 @@ module _ (walk : Walk) (disk : List ℕ) (h : HasWalked walk disk) (closed : IsC
           walk = subst (λ (l : List Mark). IsWalkedThrough walk.capacity l disk) marks_are through;
         }
 
--- The body of a base in what was read from its gate on, and what follows it.
-
-pub body_is : (gate count n : ℕ) (items ahead rest disk : List ℕ) → n ≡ count → items ≡ ahead → 5 + count ≤ length ahead → drop gate disk ≡ ahead ++ rest → take n (drop 5 items) ≡ take count (drop (gate + 5) disk)
-body_is gate count n items ahead rest disk counts same long is =
-    (λ i. take (counts i) (drop 5 (same i)))
-    ∙ sym (take-append-le count (drop 5 ahead) rest (omega (arith, long, length-drop 5 ahead)))
-    ∙ ap (take count) (sym (drop-append-le 5 ahead rest (omega (arith, long))) ∙ ap (drop 5) (sym is) ∙ drop-drop 5 gate disk)
-
-pub behind_is : (gate count : ℕ) (ahead rest disk : List ℕ) → 5 + count ≤ length ahead → drop gate disk ≡ ahead ++ rest → drop (gate + 5 + count) disk ≡ drop (5 + count) ahead ++ rest
-behind_is gate count ahead rest disk long is =
-    ap (λ (k : ℕ). drop k disk) (omega arith) ∙ sym (drop-drop (5 + count) gate disk) ∙ ap (drop (5 + count)) is ∙ drop-append-le (5 + count) ahead rest long
-
 -- what a call answers is right whatever its disk is
 pub whenever_known : {T E : Type 0} (result : Result T E) (known : Option (List ℕ)) (P : T → List ℕ → Type 0) → ((disk : List ℕ) → known ≡ Some disk → IfOk result (λ x. P x disk))
     → IfOk result (λ x. (disk : List ℕ) → known ≡ Some disk → P x disk)

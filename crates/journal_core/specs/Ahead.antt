@@ -5,4 +5,4 @@ use Rattle.std.specs.Prelude.{◌≡◌, ℕ, ◌≤◌, List, length}
 pub record IsWithin (start end : ℕ) (buffer : List ℕ) : Type 0 where
   pub order : start ≤ end
   pub room : end ≤ length buffer
-  pub size : length buffer ≡ 262144
+  pub size : length buffer ≡ 65536

@@ -1,16 +1,17 @@
 //! A disk is read in large pieces.
 
-ghost use Rattle.std.specs.Prelude.{◌≡◌, ◌≤◌, ◌<◌, ◌+◌, ◌^◌, [], ℕ, List, length, min, take, drop, Some, IfOk, OnOk, OnErr};
+ghost use Rattle.std.specs.Prelude.{◌≡◌, ◌≢◌, ◌⊎◌, ◌≤◌, ◌<◌, ◌+◌, ◌^◌, [], ℕ, List, length, min, take, drop, Some, Err, IfOk, OnOk, OnErr};
 ghost use Rattle.host_core.specs.Outside.{Outside, Rose};
 ghost use Rattle.host_core.specs.Frames.{OnlyReadsDisk};
 
+use crate::error::ScanError;
 use host_core::{Failed, Host};
 use price_core::NoMemory;
 use std::alloc::Global;
 use std::marker::Model;
 
-/// The most bytes of one read: 256 KiB, more than a hundred of the greatest batches.
-pub const PIECE_MAX: usize = 262_144;
+/// The most bytes of one read: 64 KiB, some thirty of the greatest batches. What is passed over stays in a near cache then.
+pub const PIECE_MAX: usize = 65_536;
 
 /// Bytes that were read ahead, in a buffer whose room is taken when it is made.
 #[derive(Debug, Drop)]
@@ -96,4 +97,24 @@ fn read_prefix<H: Host>(
     ensures faultless { OnOk result ((H.outside host.new).disk_faults ≡ (H.outside host.old).disk_faults) }
 {
     host.disk_read(at, &mut buffer[..count])
+}
+
+/// So many bytes of the disk from an offset on, in a list of their own.
+pub fn read_apart<H: Host>(
+    alloc: Global,
+    host: &mut H,
+    at: u64,
+    count: usize,
+) -> Result<Vec<u8>, ScanError>
+    requires within { (disk : List ℕ) → (H.outside host.old).disk ≡ Some disk → at + count ≤ length disk }
+    requires fits { at + count < 2 ^ 63 }
+    ensures bytes { (disk : List ℕ) → (H.outside host.old).disk ≡ Some disk → IfOk result (λ bytes. bytes.items ≡ take count (drop at disk)) }
+    ensures only { (error : _) → result ≡ Err error → (error ≡ ScanError.NoMemory) ⊎ (error ≡ ScanError.DiskFault) }
+    ensures keeps { OnlyReadsDisk (H.outside host.old) (H.outside host.new) }
+    ensures cause { result ≡ Err ScanError.DiskFault → Rose (H.outside host.old).disk_faults (H.outside host.new).disk_faults }
+    ensures faultless { result ≢ Err ScanError.DiskFault → (H.outside host.new).disk_faults ≡ (H.outside host.old).disk_faults }
+{
+    let mut bytes = Vec::from_elem(alloc, 0, count)?;
+    host.disk_read(at, &mut bytes)?;
+    Ok(bytes)
 }

@@ -11,7 +11,7 @@ ghost use Rattle.journal_core.specs.Scan.{HasRead, IsBegun};
 ghost use Rattle.journal_core.specs.Walk.{HasBase, HasHeader, HasNoHeader, IsBrokenAt, IsUnreadableAt};
 ghost use Rattle.journal_core.specs.declared.mark.Mark.{Mark};
 
-use crate::ahead::{Ahead, PIECE_MAX};
+use crate::ahead::{Ahead, read_apart};
 use crate::error::ScanError;
 use crate::header::{FIRST_GATE, limit_of};
 use crate::mark::{MARK_BYTES, Mark};
@@ -19,9 +19,6 @@ use crate::scan::Scan;
 use host_core::{Failed, Host};
 use std::alloc::Global;
 use wire_in::{Base, BaseError, get_base};
-
-/// How many bytes a walk reads at once: what it passes over stays in the nearest cache then.
-const AT_ONCE: u64 = 65_536;
 
 /// A base that a walk has passed: the offset of its gate, and how many bytes its body has.
 #[derive(Clone, Copy, Debug, PartialEq, Eq)]
@@ -82,7 +79,7 @@ impl Walk {
         if size < 17 {
             return Err(ScanError::NoJournal);
         }
-        ahead.read(host, 0, size.min(AT_ONCE))?;
+        ahead.read(host, 0, size)?;
         let Some(capacity) = limit_of(ahead.bytes()) else {
             return Err(ScanError::NoJournal);
         };
@@ -160,8 +157,7 @@ impl Walk {
         let end = self.start + self.ahead.bytes().len() as u64;
         if end < self.size.min(self.gate + MARK_BYTES as u64) {
             self.start = self.gate;
-            self.ahead
-                .read(host, self.gate, (self.size - self.gate).min(AT_ONCE))?;
+            self.ahead.read(host, self.gate, self.size - self.gate)?;
         }
         Ok(())
     }
@@ -297,7 +293,7 @@ impl Walk {
         ensures keeps { OnlyReadsDisk (H.outside host.old) (H.outside host.new) }
     {
         let (capacity, size) = (self.capacity, self.size);
-        let ahead = self.read_from(host, FIRST_GATE, 0)?;
+        let ahead = self.read_from(host, FIRST_GATE)?;
         Ok(Scan::at_gate(capacity, None, size, FIRST_GATE, ahead))
     }
 
@@ -322,20 +318,19 @@ impl Walk {
         ensures keeps { OnlyReadsDisk (H.outside host.old) (H.outside host.new) }
     {
         let (capacity, size) = (self.capacity, self.size);
-        let end = MARK_BYTES + base.count as usize;
-        let mut ahead = self.read_from(host, base.gate, end)?;
-        let found = base_in(alloc, &ahead.bytes()[MARK_BYTES..end], capacity, base.gate)?;
-        ahead.skip(end);
-        Ok(Scan::at_gate(capacity, Some(found), size, base.gate + end as u64, ahead))
+        let begin = base.gate + MARK_BYTES as u64;
+        let end = begin + u64::from(base.count);
+        let body = read_apart(alloc, host, begin, base.count as usize)?;
+        let found = base_in(alloc, &body, capacity, base.gate)?;
+        let ahead = self.read_from(host, end)?;
+        Ok(Scan::at_gate(capacity, Some(found), size, end, ahead))
     }
 
-    /// What stands from an offset on, at least so many bytes: what was read ahead, or what is read now.
-    fn read_from<H: Host>(self, host: &mut H, at: u64, count: usize) -> Result<Ahead, Failed>
+    /// What stands from an offset on: what was read ahead, or what is read now.
+    fn read_from<H: Host>(self, host: &mut H, at: u64) -> Result<Ahead, Failed>
         requires walking { IsWalking self }
-        requires within { at + count < self.size }
-        requires few { count ≤ PIECE_MAX }
+        requires within { at < self.size }
         requires size { HasBytes self.size (H.outside host.old).disk }
-        ensures long { IfOk result (λ ahead. count ≤ length ahead) }
         ensures within { IfOk result (λ ahead. at + length ahead ≤ self.size) }
         ensures bytes { (disk : List ℕ) → (H.outside host.old).disk ≡ Some disk → HasWalked self disk → IfOk result (λ ahead. (rest : List ℕ) × (drop at disk ≡ ahead ++ rest)) }
         ensures keeps { OnlyReadsDisk (H.outside host.old) (H.outside host.new) }
@@ -349,7 +344,7 @@ impl Walk {
             ..
         } = self;
         let end = start + ahead.bytes().len() as u64;
-        if start <= at && at + count as u64 <= end {
+        if start <= at && at <= end {
             ahead.skip((at - start) as usize);
             return Ok(ahead);
         }

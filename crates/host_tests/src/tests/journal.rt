@@ -326,7 +326,7 @@ fn is_read_fast(alloc: Global, mut kept: Kept, batch: &Batch) -> bool
     requires gate { HasBytes (kept.journal.gate + 1) (known kept.host).disk }
 {
     fill(&mut kept.host, &mut kept.journal, batch, 8_000).is_ok()
-        && is_read_in(alloc, &mut kept.host, 8_000, 9)
+        && is_read_in(alloc, &mut kept.host, 8_000, 12)
 }
 
 #[test]
