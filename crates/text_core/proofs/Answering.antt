@@ -46,16 +46,16 @@ module _ {task : Task} {kind : Kind} {begin : Option (List ℕ)} {writer : Write
   answers_more prefix bad answers = answers_same (still_bad (output_of task kind) prefix (sym answers.bad_is ∙ bad)) answers
 
   -- one unit more, which has a value
-  pub answered_good : {units : List (List ℕ)} → Answers task kind begin units writer waiting sent → writer.bad ≡ false → (unit : List ℕ) {output outbox : List ℕ} {now : Option (List ℕ)} → output_of task kind unit ≡ Some output
-      → Expects begin now outbox (text_of task kind units ++ output) → Answers task kind begin (units ++ unit ∷ []) (record { number = writer.number + 1; bad = writer.bad }) outbox now
+  pub answered_good : {units : List (List ℕ)} → Answers task kind begin units writer waiting sent → writer.bad ≡ false → (unit : List ℕ) {output outbox written : List ℕ} {now : Option (List ℕ)} → output_of task kind unit ≡ Some output
+      → Expects begin now outbox (text_of task kind units ++ output) → Answers task kind begin (units ++ unit ∷ []) (record { number = writer.number + 1; bad = writer.bad; output = written }) outbox now
   unfolding text_of
   answered_good {units} answers going unit {output} is expects =
       answers_by (one_more (output_of task kind) units unit (sym answers.bad_is ∙ going) is)
       (omega (arith, answers.number_is, length-append (outputs (output_of task kind) units) (output ∷ []))) going (rw (concat-append, append-nil output) expects)
 
   -- or one that has none
-  pub answered_bad : {units : List (List ℕ)} → Answers task kind begin units writer waiting sent → writer.bad ≡ false → (unit : List ℕ) → output_of task kind unit ≡ None
-      → Answers task kind begin (units ++ unit ∷ []) (record { number = writer.number; bad = true }) waiting sent
+  pub answered_bad : {units : List (List ℕ)} → Answers task kind begin units writer waiting sent → writer.bad ≡ false → (unit : List ℕ) {written : List ℕ} → output_of task kind unit ≡ None
+      → Answers task kind begin (units ++ unit ∷ []) (record { number = writer.number; bad = true; output = written }) waiting sent
   unfolding text_of
   answered_bad {units} answers going unit is =
       let same : outcome (output_of task kind) (units ++ unit ∷ []) ≡ (outputs (output_of task kind) units, true) =

@@ -16,7 +16,7 @@ use Rattle.text_core.proofs.Reading.{within_prefix}
 use Rattle.text_core.proofs.Units.{outcome}
 
 abbrev pub fresh : Translator
-fresh = record { cutter = []; line = []; writer = record { number = 0; bad = false } }
+fresh = record { cutter = []; line = []; writer = record { number = 0; bad = false; output = [] } }
 
 none_read : (task : Task) → (units_of task [] ≡ []) × Begins task fresh (rest_of task [])
 unfolding units_of rest_of

@@ -57,7 +57,7 @@ pub fn line_len(piece: &[u8]) -> Option<usize>
 impl Translator {
     /// Nothing was read yet.
     pub fn new() -> Translator
-        ensures { result ≡ record { cutter = []; line = []; writer = record { number = 0; bad = false } } }
+        ensures { result ≡ record { cutter = []; line = []; writer = record { number = 0; bad = false; output = [] } } }
     {
         Translator {
             cutter: Cutter::new(),

@@ -15,21 +15,23 @@ use crate::task::Task;
 use host_core::{Fault, Host};
 use stream_core::Outbox;
 
-/// How many units were answered, and whether the one behind them was bad.
+/// How many units were answered, whether the one behind them was bad, and the room in which an answer is written.
 #[derive(Drop)]
 pub struct Writer {
     pub number: u64,
     pub bad: bool,
+    pub output: Line,
 }
 
 impl Writer {
     /// Nothing was answered yet.
     pub fn new() -> Writer
-        ensures { result ≡ record { number = 0; bad = false } }
+        ensures { result ≡ record { number = 0; bad = false; output = [] } }
     {
         Writer {
             number: 0,
             bad: false,
+            output: Line::new(),
         }
     }
 
@@ -52,12 +54,12 @@ impl Writer {
         ensures few { OnOk result (self.new.number ≤ self.old.number + 1) }
         ensures outside { Sent result (H.outside host.old) (H.outside host.new) }
     {
-        let mut output = Line::new();
-        if !write_output(&mut output, task, kind, unit) {
+        self.output.clear();
+        if !write_output(&mut self.output, task, kind, unit) {
             self.bad = true;
             return Ok(());
         }
-        outbox.append_bytes(host, output.as_slice())?;
+        outbox.append_bytes(host, self.output.as_slice())?;
         self.number += 1;
         Ok(())
     }
