@@ -15,7 +15,7 @@ ghost use Rattle.market_core.specs.AdmissionState.{refusal_of};
 ghost use Rattle.market_core.specs.Kinds.{TakesMemory};
 ghost use Rattle.market_core.specs.MarketState.{most_messages};
 ghost use Rattle.shard_core.specs.Block.{AreAdmissible};
-ghost use Rattle.evaluator_core.specs.Evaluating.{workers_of, HasRoomFor, IsAhead, IsIdle, IsWorking};
+ghost use Rattle.evaluator_core.specs.Evaluating.{shares_out, workers_of, HasRoomFor, IsAhead, IsIdle, IsWorking};
 
 use evaluator_core::Evaluator;
 use market_core::{Admission, MOST_MESSAGES};
@@ -169,7 +169,9 @@ impl Engine {
     }
 
     /// Whether many accepted records would be shared out to several workers.
-    pub fn shares_out(&self) -> bool {
+    pub fn shares_out(&self) -> bool
+        ensures { result ≡ shares_out self.now.evaluator }
+    {
         self.evaluator.shares_out()
     }
 

@@ -13,3 +13,7 @@ RepresentsResting resting evaluated = IfSome resting.market (λ market. markets.
 abbrev pub names_in : Option MarketState → ℕ
 names_in (Some market) = length market.directory
 names_in None = 0
+
+-- of how many names a block's records are worth threads
+abbrev pub fewest_names : ℕ
+fewest_names = 2048

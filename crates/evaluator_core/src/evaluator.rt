@@ -32,7 +32,7 @@ pub enum Evaluator {
 }
 
 impl Evaluator {
-    ghost use Rattle.evaluator_core.specs.Evaluating.{HasRoomFor, IsAhead, IsIdle, IsWorking, Represents, names_of, workers_of};
+    ghost use Rattle.evaluator_core.specs.Evaluating.{HasRoomFor, IsAhead, IsIdle, IsWorking, Represents, names_of, shares_out, workers_of};
 
     /// A market of no records, for so many workers, from 1 to 64.
     pub fn new(alloc: Global, workers: u32) -> Result<Evaluator, NoMemory>
@@ -112,7 +112,9 @@ impl Evaluator {
     }
 
     /// Whether a block of many records would be shared out to several workers.
-    pub fn shares_out(&self) -> bool {
+    pub fn shares_out(&self) -> bool
+        ensures { result ≡ shares_out self.now }
+    {
         match self {
             Evaluator::One(_) => false,
             Evaluator::Resting(resting) => resting.has_many_names(),

@@ -1,6 +1,6 @@
 //! A market of several workers that rest: its records are evaluated one by one, until a block outweighs the start of threads.
 
-ghost use Rattle.std.specs.Prelude.{◌≡◌, ◌==◌, ◌+◌, false, ◌<◌, ◌≤◌, ◌++◌, ◌∷◌, ℕ, [], true, List, None, Some, IfOk, IsOk, IsSome, OnOk, length, vec_len, vec_capacity};
+ghost use Rattle.std.specs.Prelude.{◌≡◌, ◌==◌, ◌+◌, false, ◌<◌, ◌≤◌, ◌++◌, ◌∷◌, ℕ, [], true, List, None, Some, IfOk, IsOk, IsSome, OnOk, length, nat_le, vec_len, vec_capacity};
 ghost use Rattle.wire_in.specs.declared.record.Record.{Record};
 ghost use Rattle.rulebook.specs.Admission.{most_names, verdict};
 ghost use Rattle.rulebook.specs.Book.{newest_messages};
@@ -36,7 +36,7 @@ pub struct Resting {
 }
 
 impl Resting {
-    ghost use Rattle.evaluator_core.specs.RestingState.{RepresentsResting, names_in};
+    ghost use Rattle.evaluator_core.specs.RestingState.{RepresentsResting, fewest_names, names_in};
 
     /// A market of several workers, from 2 to 64, that rest.
     pub(crate) fn of(alloc: Global, workers: u32, market: Market) -> Resting
@@ -71,7 +71,9 @@ impl Resting {
     }
 
     /// Whether it has so many names that a block of many records is worth threads.
-    pub(crate) fn has_many_names(&self) -> bool {
+    pub(crate) fn has_many_names(&self) -> bool
+        ensures { result ≡ nat_le fewest_names (names_in self.now.market) }
+    {
         self.names() >= FEWEST_NAMES
     }
 
