@@ -11,7 +11,7 @@ use crate::draws::Draws;
 use crate::modulus::Modulus;
 use crate::plan::DayPlan;
 use crate::start::close_of;
-use price_core::{Index, Price};
+use price_core::{Index, OptionalPrice, Price};
 use session_core::{Moment, SESSION_OPEN};
 use wire_in::Record;
 
@@ -97,8 +97,8 @@ fn quote(moment: Moment, symbols: &Modulus, draws: &mut Draws) -> Record
     Record::Quote {
         moment,
         symbol,
-        bid: Some(Price::of(middle - 100)),
-        offer: Some(Price::of(middle + 100)),
+        bid: OptionalPrice::of(Some(Price::of(middle - 100))),
+        offer: OptionalPrice::of(Some(Price::of(middle + 100))),
         bid_size: 100,
         offer_size: 100,
     }

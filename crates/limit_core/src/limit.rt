@@ -26,14 +26,14 @@ pub fn at_limit(q: &Quotation, b: &Bands) -> Option<Side>
 pub fn is_at_lower(q: &Quotation, b: &Bands) -> bool
     ensures { result ≡ is_at_lower q.now b.now }
 {
-    !is_crossed(q) && q.offer.is_some_and(|offer| offer <= b.lower)
+    !is_crossed(q) && q.offer.get().is_some_and(|offer| offer <= b.lower)
 }
 
 /// Whether a quotation is at the upper band: not crossed, with a bid at it or above it (LULD Plan, Section VI).
 pub fn is_at_upper(q: &Quotation, b: &Bands) -> bool
     ensures { result ≡ is_at_upper q.now b.now }
 {
-    !is_crossed(q) && q.bid.is_some_and(|bid| b.upper <= bid)
+    !is_crossed(q) && q.bid.get().is_some_and(|bid| b.upper <= bid)
 }
 
 /// Whether a quotation straddles the bands: a bid below the lower band or an offer above the upper (LULD Plan,
@@ -41,14 +41,15 @@ pub fn is_at_upper(q: &Quotation, b: &Bands) -> bool
 pub fn straddles(q: &Quotation, b: &Bands) -> bool
     ensures { result ≡ straddles q.now b.now }
 {
-    q.bid.is_some_and(|bid| bid < b.lower) || q.offer.is_some_and(|offer| b.upper < offer)
+    q.bid.get().is_some_and(|bid| bid < b.lower)
+        || q.offer.get().is_some_and(|offer| b.upper < offer)
 }
 
 /// Whether a bid is above its own offer.
 fn is_crossed(q: &Quotation) -> bool
     ensures { result ≡ is_crossed q.now }
 {
-    match (q.bid, q.offer) {
+    match (q.bid.get(), q.offer.get()) {
         (Some(bid), Some(offer)) => offer < bid,
         _ => false,
     }

@@ -1,3 +1,4 @@
 pub mod Ranges
+pub mod Absence
 pub mod Rounding
 pub mod Moves

@@ -9,4 +9,4 @@ mod value;
 pub use arithmetic::{fell, mean, moved_one_percent, round_cent};
 pub use error::{NoMemory, OutOfRange};
 pub use quote::{Bands, Category, Cause, Collars, Quotation, Side, Tier, Unmatched};
-pub use value::{Index, Leverage, Price};
+pub use value::{Index, Leverage, OptionalPrice, Price};

@@ -1,6 +1,6 @@
 //! What is said of a stock's prices: its tier and category, its price bands, quotations and collars.
 
-use crate::value::Price;
+use crate::value::{OptionalPrice, Price};
 
 /// The tier of a stock (LULD Plan, Appendix A).
 #[derive(Clone, Copy, Debug, PartialEq, Eq)]
@@ -60,6 +60,6 @@ pub struct Collars {
 /// The best bid and the best offer, each where there is one.
 #[derive(Clone, Copy, Debug, PartialEq, Eq)]
 pub struct Quotation {
-    pub bid: Option<Price>,
-    pub offer: Option<Price>,
+    pub bid: OptionalPrice,
+    pub offer: OptionalPrice,
 }

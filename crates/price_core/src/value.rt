@@ -1,6 +1,7 @@
 //! Prices, in ten-thousandths of a dollar.
 
-ghost use Rattle.std.specs.Prelude.{◌≡◌, ◌↔◌, IsOk, IfOk};
+ghost use Rattle.std.specs.Prelude.{◌≡◌, ◌≤◌, ◌↔◌, IsOk, IfOk, IfSome};
+ghost use Rattle.price_core.specs.Absence.{price_or_none, units_or_zero};
 ghost use Rattle.price_core.specs.Ranges.{IsPrice, IsIndex, IsLeverage};
 
 use crate::error::OutOfRange;
@@ -49,6 +50,70 @@ impl Price {
     pub fn units(self) -> u64
         ensures value { result ≡ self }
         ensures range { IsPrice result }
+    {
+        self.units
+    }
+}
+
+/// A price that may be absent, in one word.
+#[derive(Clone, Copy, Debug, PartialEq, Eq)]
+pub struct OptionalPrice {
+    /// 0 where the price is absent.
+    units: u64,
+}
+
+impl Model for OptionalPrice {
+    ghost use Rattle.std.specs.Prelude.{ℕ, ◌≤◌, Option};
+    ghost use Rattle.price_core.specs.Absence.{price_or_none, units_or_zero, units_again};
+
+    ghost Value = { Option ℕ };
+
+    ghost view = { λ price. price_or_none price.units };
+
+    ghost invariant = { λ price. price.units ≤ 99999999999 };
+
+    ghost inverse = { λ price. record { units = units_or_zero price } };
+
+    ghost inverse_ok = { λ price _ i. record { units = units_again price.units i } };
+}
+
+impl OptionalPrice {
+    /// The price of a number of ten-thousandths of a dollar, absent at 0; an error exactly where the number is neither 0 nor
+    /// in the range.
+    pub fn new(units: u64) -> Result<OptionalPrice, OutOfRange>
+        ensures range { IsOk result ↔ (units ≤ 99999999999) }
+        ensures value { IfOk result (λ price. price ≡ price_or_none units) }
+    {
+        if units > 99_999_999_999 {
+            return Err(OutOfRange);
+        }
+        Ok(OptionalPrice { units })
+    }
+
+    /// A price, or that it is absent.
+    pub fn of(price: Option<Price>) -> OptionalPrice
+        ensures { result ≡ price }
+    {
+        OptionalPrice {
+            units: price.map_or(0, Price::units),
+        }
+    }
+
+    /// The price, where it isn't absent.
+    pub fn get(self) -> Option<Price>
+        ensures { result ≡ self }
+    {
+        if self.units == 0 {
+            None
+        } else {
+            Some(Price { units: self.units })
+        }
+    }
+
+    /// The price in ten-thousandths of a dollar, or 0 where it is absent.
+    pub fn units(self) -> u64
+        ensures value { result ≡ units_or_zero self }
+        ensures range { IfSome self IsPrice }
     {
         self.units
     }

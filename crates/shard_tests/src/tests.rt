@@ -9,7 +9,7 @@ mod order;
 mod parts;
 mod yard;
 
-use price_core::{Index, Leverage, Price, Tier};
+use price_core::{Index, Leverage, OptionalPrice, Price, Tier};
 use session_core::{Close, Date, Day, Moment, Profile};
 use std::test::Fail;
 use wire_in::Record;
@@ -72,8 +72,8 @@ fn quote(moment: Moment, symbol: u16, bid: u64, offer: u64) -> Record {
     Record::Quote {
         moment,
         symbol,
-        bid: Some(price(bid)),
-        offer: Some(price(offer)),
+        bid: OptionalPrice::of(Some(price(bid))),
+        offer: OptionalPrice::of(Some(price(offer))),
         bid_size: 1,
         offer_size: 1,
     }

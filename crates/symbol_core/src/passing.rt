@@ -102,7 +102,7 @@ fn is_within(quote: &Quotation, band: &Option<Banded>) -> bool
     ensures high { result ≡ true → at_band Phase.LimitHigh (Some quote.now) band.now ≡ false }
     ensures straddles { result ≡ true → meets straddles (Some quote.now) band.now ≡ false }
 {
-    match (band, quote.bid, quote.offer) {
+    match (band, quote.bid.get(), quote.offer.get()) {
         (Some(last), Some(bid), Some(offer)) => lies_within(bid, offer, &last.bands),
         _ => false,
     }

@@ -1,6 +1,6 @@
 //! Lines of a day, in few words. Prices are ten-thousandths of a dollar. The stock of most lines is ABC, with the id 0.
 
-use price_core::{Cause, Index, Leverage, Price, Tier, Unmatched};
+use price_core::{Cause, Index, Leverage, OptionalPrice, Price, Tier, Unmatched};
 use session_core::{Close, Date, Day, Level, Moment, Phase, Profile};
 use wire_in::{Record, Refusal};
 use wire_out::Message;
@@ -108,8 +108,8 @@ pub fn quote_of(symbol: u16, moment: Moment, bid: u64, offer: u64) -> Line {
     Line::Record(Record::Quote {
         moment,
         symbol,
-        bid: Some(price(bid)),
-        offer: Some(price(offer)),
+        bid: OptionalPrice::of(Some(price(bid))),
+        offer: OptionalPrice::of(Some(price(offer))),
         bid_size: 1,
         offer_size: 1,
     })

@@ -4,7 +4,7 @@ ghost use Rattle.std.specs.Prelude.{◌≡◌, ◌↔◌, ◌≤◌, ◌-◌, �
 ghost use Rattle.wire_core.specs.Names.{is_name};
 ghost use Rattle.text_core.specs.Reading.{word_len, word_at, behind, next_number, number_in, number8_in, number16_of, number16_in, number32_of, number32_in, moment_of, moment_in, price_of, price_in, optional_price_of, optional_price_in, index_in, date_in, leverage_in, name_in, hex_value, flags_in};
 
-use price_core::{Index, Leverage, Price};
+use price_core::{Index, Leverage, OptionalPrice, Price};
 use session_core::{Date, Moment};
 use wire_core::name_at;
 
@@ -192,13 +192,10 @@ pub fn price(word: &[u8]) -> Option<Price>
 
 /// The price of so many units, or that it is absent, where they are none.
 #[tactic(auto, unfolding(crate::specs::Reading::optional_price_of))]
-pub fn optional_price_of(units: u64) -> Option<Option<Price>>
+pub fn optional_price_of(units: u64) -> Option<OptionalPrice>
     ensures { result ≡ optional_price_of units }
 {
-    match units {
-        0 => Some(None),
-        units => Price::new(units).ok().map(Some),
-    }
+    OptionalPrice::new(units).ok()
 }
 
 /// The price that a word prints, in dollars, or that it is absent; of a word that prints neither any of these or none.
@@ -206,7 +203,7 @@ pub fn optional_price_of(units: u64) -> Option<Option<Price>>
 pub fn optional_price(word: &[u8]) -> Option<Option<Price>>
     ensures { result ≡ optional_price_in word.now }
 {
-    optional_price_of(number(word))
+    Some(optional_price_of(number(word))?.get())
 }
 
 /// The index value of a word.

@@ -9,7 +9,7 @@ ghost use Rattle.text_core.specs.Lines.{line_of_record, PrintsRecord};
 
 use crate::line::Line;
 use crate::word::{close_word, notice_word, profile_word, tier_word, unmatched_word};
-use price_core::{Index, Leverage, NoMemory, Price, Tier, Unmatched};
+use price_core::{Index, Leverage, NoMemory, OptionalPrice, Price, Tier, Unmatched};
 use session_core::{Day, Moment};
 use std::alloc::Global;
 use wire_in::{NoticeKind, Record};
@@ -89,8 +89,8 @@ fn write_quote(
     line: &mut Line,
     moment: Moment,
     symbol: u16,
-    bid: Option<Price>,
-    offer: Option<Price>,
+    bid: OptionalPrice,
+    offer: OptionalPrice,
     bid_size: u32,
     offer_size: u32,
 )
@@ -102,8 +102,8 @@ fn write_quote(
     line.begin("quote");
     line.time(moment);
     line.number(u64::from(symbol));
-    line.optional_price(bid);
-    line.optional_price(offer);
+    line.optional_price(bid.get());
+    line.optional_price(offer.get());
     line.number(u64::from(bid_size));
     line.number(u64::from(offer_size));
 }

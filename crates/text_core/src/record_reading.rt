@@ -65,7 +65,7 @@ fn listing(line: &[u8]) -> Option<Record>
         name,
         tier,
         leverage,
-        close,
+        close: close.get(),
     })
 }
 

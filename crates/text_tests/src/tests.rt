@@ -6,7 +6,7 @@ mod pictures;
 mod streams;
 mod words;
 
-use price_core::{Cause, Index, Leverage, Price, Tier, Unmatched};
+use price_core::{Cause, Index, Leverage, OptionalPrice, Price, Tier, Unmatched};
 use session_core::{Close, Date, Day, Level, Moment, Phase, Profile};
 use std::alloc::Global;
 use std::process::Abort;
@@ -149,8 +149,8 @@ fn the_lines_of_trades_and_quotes(rt: HostRuntime) -> Result<(), Fail> {
                 Record::Quote {
                     moment,
                     symbol: 7,
-                    bid: Some(price),
-                    offer: None,
+                    bid: OptionalPrice::of(Some(price)),
+                    offer: OptionalPrice::of(None),
                     bid_size: 100,
                     offer_size: 0,
                 },

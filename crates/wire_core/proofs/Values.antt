@@ -4,9 +4,10 @@ use Rattle.std.specs.Prelude.{IfSome, IsTrue, ◌==◌}
 use Rattle.std.specs.Int.{w32, w64}
 use Rattle.std.proofs.lemmas.Bool.Decides.{nat_tests}
 use Rattle.std.proofs.lemmas.List.{length-take, length-drop}
+use Rattle.price_core.specs.Absence.{units_or_zero}
 use Rattle.price_core.specs.Ranges.{IsPrice, IsIndex}
 use Rattle.session_core.specs.Moments.{IsMoment}
-use Rattle.wire_core.specs.Fields.{number, checked, is_moment, is_price, is_index, moment_at, price_at, optional_price_at, index_at, units_or_zero}
+use Rattle.wire_core.specs.Fields.{number, checked, is_moment, is_price, is_index, moment_at, price_at, optional_price_at, index_at}
 use Rattle.wire_core.specs.Names.{is_name, name_at}
 use Rattle.wire_core.proofs.Steps.{checked_some}
 

@@ -39,8 +39,3 @@ optional_price_at at body =
 -- an index value in hundredths of a point, of four bytes
 unfoldable pub index_at : ℕ → List ℕ → Option ℕ
 index_at at body = checked (is_index (number w32 at body)) (number w32 at body)
-
--- how a price is written that may be absent
-abbrev pub units_or_zero : Option ℕ → ℕ
-units_or_zero None = 0
-units_or_zero (Some units) = units

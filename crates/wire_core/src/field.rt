@@ -5,11 +5,11 @@ ghost use Rattle.std.specs.List.{list_all};
 ghost use Rattle.std.specs.Int.{w16, w32, w64};
 ghost use Rattle.price_core.specs.Ranges.{IsPrice, IsIndex};
 ghost use Rattle.session_core.specs.Moments.{IsMoment};
-ghost use Rattle.wire_core.specs.Fields.{number, moment_at, price_at, optional_price_at, index_at, units_or_zero};
+ghost use Rattle.wire_core.specs.Fields.{number, moment_at, price_at, optional_price_at, index_at};
 ghost use Rattle.wire_core.specs.Names.{is_name, name_at, visible_count};
 
 use byteorder::{BigEndian, ByteOrder};
-use price_core::{Index, Price};
+use price_core::{Index, OptionalPrice, Price};
 use session_core::Moment;
 
 /// The number of two bytes at an offset.
@@ -59,14 +59,11 @@ pub fn price_at(body: &[u8], at: usize) -> Option<Price>
 /// The price at an offset that may be absent, in eight bytes of ten-thousandths of a dollar, 0 where it is absent; none
 /// exactly where the number is neither 0 nor in the range.
 #[tactic(auto, unfolding(crate::specs::Fields::optional_price_at))]
-pub fn optional_price_at(body: &[u8], at: usize) -> Option<Option<Price>>
+pub fn optional_price_at(body: &[u8], at: usize) -> Option<OptionalPrice>
     requires { at + 8 ≤ length body.now }
     ensures { result ≡ optional_price_at at body.now }
 {
-    match u64_at(body, at) {
-        0 => Some(None),
-        units => Price::new(units).ok().map(Some),
-    }
+    OptionalPrice::new(u64_at(body, at)).ok()
 }
 
 /// The index value at an offset, in four bytes of hundredths of an index point; none exactly outside the range.
@@ -114,11 +111,4 @@ pub fn name_at(body: &[u8], at: usize) -> Option<[u8; 8]>
     let mut name = [0; 8];
     name.copy_from_slice(&body[at..at + 8]);
     is_name(&name).then_some(name)
-}
-
-/// A price in ten-thousandths of a dollar, or 0 where there is none.
-pub fn units_or_zero(price: Option<Price>) -> u64
-    ensures { result ≡ units_or_zero price }
-{
-    price.map_or(0, Price::units)
 }

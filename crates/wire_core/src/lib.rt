@@ -9,5 +9,4 @@ mod tests;
 pub use buffer::{put, put_u16, put_u32, put_u64};
 pub use field::{
     index_at, moment_at, name_at, optional_price_at, price_at, u16_at, u32_at, u64_at,
-    units_or_zero,
 };

@@ -1,6 +1,7 @@
 //! Fields at the edges of their ranges.
 
 use super::*;
+use price_core::OptionalPrice;
 
 /// The eight bytes of a number, behind one other byte.
 fn behind_one(n: u64) -> [u8; 9] {
@@ -32,7 +33,7 @@ fn fields_stand_in_their_ranges(rt: HostRuntime) {
         assert!(rt; moment_at(&body, 1).is_some() == is_moment, "of {n}");
         assert!(rt; price_at(&body, 1).is_some() == is_price, "of {n}");
         assert!(rt; optional.is_some() == (is_price || n == 0), "of {n}");
-        assert!(rt; optional.map_or(n, units_or_zero) == n, "of {n}");
+        assert!(rt; optional.map_or(n, OptionalPrice::units) == n, "of {n}");
     }
 }
 

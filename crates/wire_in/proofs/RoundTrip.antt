@@ -4,10 +4,10 @@ use Rattle.std.specs.Int.{w64, from_be_bytes, to_be_bytes}
 use Rattle.std.proofs.lemmas.Grind.{common_steps}
 use Rattle.std.proofs.lemmas.List.{length-append, take_at}
 use Rattle.std.proofs.Math.Seq.{drop-append-add}
+use Rattle.price_core.specs.Absence.{units_or_zero}
 use Rattle.price_core.specs.declared.quote.Tier.{Tier}
 use Rattle.price_core.specs.declared.quote.Unmatched.{Unmatched}
 use Rattle.session_core.specs.declared.day.Day.{Day as DayOf}
-use Rattle.wire_core.specs.Fields.{units_or_zero}
 use Rattle.wire_core.proofs.Cells.{wide16, wide32, wide64}
 use Rattle.wire_core.proofs.Values.{moment_again, price_again, optional_again, optional_below, index_again, name_again}
 use Rattle.wire_in.specs.Codes.{tier_byte}

@@ -1,10 +1,10 @@
 -- The one body of each record.
 use Rattle.std.specs.Prelude.{◌≡◌, ℕ, ◌<◌, ◌≤◌, ◌^◌, IsTrue, List, [], ◌∷◌, ◌++◌, length, IfSome}
 use Rattle.std.specs.Int.{w16, w32, w64, to_be_bytes}
+use Rattle.price_core.specs.Absence.{units_or_zero}
 use Rattle.price_core.specs.Ranges.{IsPrice, IsIndex, IsLeverage}
 use Rattle.session_core.specs.Dates.{Civil, IsCivil}
 use Rattle.session_core.specs.Moments.{IsMoment}
-use Rattle.wire_core.specs.Fields.{units_or_zero}
 use Rattle.wire_core.specs.Names.{is_name}
 use Rattle.wire_in.specs.Codes.{close_byte, profile_byte, tier_byte, kind_byte, unmatched_byte}
 use Rattle.wire_in.specs.declared.record.Record.{Record}

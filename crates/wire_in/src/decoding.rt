@@ -72,7 +72,7 @@ fn listing(body: &[u8], into: &mut Record) -> Result<(), Refusal>
         name,
         tier,
         leverage,
-        close,
+        close: close.get(),
     };
     Ok(())
 }

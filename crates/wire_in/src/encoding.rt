@@ -8,9 +8,9 @@ ghost use Rattle.wire_in.specs.declared.record.Record.TheVariants as records;
 
 use crate::code::{close_byte, kind_byte, profile_byte, tier_byte, unmatched_byte};
 use crate::record::{NoticeKind, Record};
-use price_core::{Index, Leverage, Price, Tier, Unmatched};
+use price_core::{Index, Leverage, OptionalPrice, Price, Tier, Unmatched};
 use session_core::{Day, Moment};
-use wire_core::{put, put_u16, put_u32, put_u64, units_or_zero};
+use wire_core::{put, put_u16, put_u32, put_u64};
 
 fn put_day(into: &mut [u8; 64], moment: Moment, day: Day, index_close: Index) -> usize
     ensures types { HasTypes (records.Day moment day index_close) }
@@ -43,7 +43,7 @@ fn put_listing(
     let at = put_u64(into, at, moment.nanos());
     let at = put(into, at, &name);
     let at = put(into, at, &[tier_byte(tier), leverage.tenths()]);
-    put_u64(into, at, units_or_zero(close))
+    put_u64(into, at, OptionalPrice::of(close).units())
 }
 
 fn put_trade(
@@ -81,8 +81,8 @@ fn put_quote(
     into: &mut [u8; 64],
     moment: Moment,
     symbol: u16,
-    bid: Option<Price>,
-    offer: Option<Price>,
+    bid: OptionalPrice,
+    offer: OptionalPrice,
     bid_size: u32,
     offer_size: u32,
 ) -> usize
@@ -92,8 +92,8 @@ fn put_quote(
     let at = put(into, 0, &[35, 5]);
     let at = put_u64(into, at, moment.nanos());
     let at = put_u16(into, at, symbol);
-    let at = put_u64(into, at, units_or_zero(bid));
-    let at = put_u64(into, at, units_or_zero(offer));
+    let at = put_u64(into, at, bid.units());
+    let at = put_u64(into, at, offer.units());
     let at = put_u32(into, at, bid_size);
     put_u32(into, at, offer_size)
 }

@@ -2,7 +2,7 @@
 
 ghost use Rattle.std.specs.Prelude.{◌≡◌};
 
-use price_core::{Index, Leverage, Price, Tier, Unmatched};
+use price_core::{Index, Leverage, OptionalPrice, Price, Tier, Unmatched};
 use session_core::{Day, Moment};
 use thiserror::Error;
 
@@ -63,8 +63,8 @@ pub enum Record {
     Quote {
         moment: Moment,
         symbol: u16,
-        bid: Option<Price>,
-        offer: Option<Price>,
+        bid: OptionalPrice,
+        offer: OptionalPrice,
         bid_size: u32,
         offer_size: u32,
     },

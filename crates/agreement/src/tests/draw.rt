@@ -2,7 +2,7 @@
 
 ghost use Rattle.std.specs.Prelude.{◌<◌};
 
-use price_core::{Index, Leverage, Price, Tier, Unmatched};
+use price_core::{Index, Leverage, OptionalPrice, Price, Tier, Unmatched};
 use session_core::{Close, Date, Day, Moment, Profile};
 use wire_in::{NoticeKind, Record};
 
@@ -112,8 +112,8 @@ impl Draw {
         Record::Quote {
             moment,
             symbol: self.symbol(),
-            bid: Some(self.price()),
-            offer: Some(self.price()),
+            bid: OptionalPrice::of(Some(self.price())),
+            offer: OptionalPrice::of(Some(self.price())),
             bid_size: 1,
             offer_size: 1,
         }

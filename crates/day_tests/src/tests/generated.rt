@@ -181,8 +181,8 @@ fn is_drawn(index: u32, record: &Record) -> bool {
             502,
             Record::Quote {
                 symbol,
-                bid: Some(bid),
-                offer: Some(offer),
+                bid,
+                offer,
                 ..
             },
         ) => {

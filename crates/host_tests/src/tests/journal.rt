@@ -11,7 +11,7 @@ use super::bases::kept_day;
 use host_core::{Failed, Host, JournalFile, Opens, RealHost, Stream, SystemFiles};
 use journal_core::{AppendError, Batch, FormatError, Journal, Scan, ScanError, format};
 use memory_host::{MemoryHost, Pick};
-use price_core::{Index, Price};
+use price_core::{Index, OptionalPrice, Price};
 use session_core::{Close, Date, Day, Moment, Profile};
 use std::alloc::Global;
 use std::test::Fail;
@@ -70,8 +70,8 @@ fn quotes(alloc: Global, count: usize) -> Result<Batch, Fail>
         batch.push(Record::Quote {
             moment,
             symbol: 7,
-            bid: Some(bid),
-            offer: None,
+            bid: OptionalPrice::of(Some(bid)),
+            offer: OptionalPrice::of(None),
             bid_size: 100,
             offer_size: 0,
         });

@@ -4,7 +4,7 @@ use super::script::{Step, check};
 use super::values::{moment, price};
 use Row::{Expires, Quote};
 use limit_core::{LimitTimer, at_limit, straddles};
-use price_core::{Bands, Price, Quotation, Side};
+use price_core::{Bands, OptionalPrice, Price, Quotation, Side};
 
 /// A row with the wanted answer. Prices are in ten-thousandths of a dollar, and times nanoseconds of the day.
 #[derive(Clone, Copy)]
@@ -28,8 +28,8 @@ impl Step<()> for Row {
             Quote(bid, offer, side, straddling) => {
                 let bands = bands();
                 let quotation = Quotation {
-                    bid: Price::new(bid).ok(),
-                    offer: Price::new(offer).ok(),
+                    bid: OptionalPrice::of(Price::new(bid).ok()),
+                    offer: OptionalPrice::of(Price::new(offer).ok()),
                 };
                 bands.lower.units() < bands.upper.units()
                     && at_limit(&quotation, &bands) == side

@@ -3,13 +3,16 @@
 use super::script::{Step, check};
 use super::values::{index, price};
 use Arithmetic::{Fell, Mean, Moved, RoundCent};
-use Number::{OfIndex, OfLeverage, OfPrice};
-use price_core::{Index, Leverage, OutOfRange, Price, fell, mean, moved_one_percent, round_cent};
+use Number::{OfIndex, OfLeverage, OfOptionalPrice, OfPrice};
+use price_core::{
+    Index, Leverage, OptionalPrice, OutOfRange, Price, fell, mean, moved_one_percent, round_cent,
+};
 
 /// A number, and whether it stands in the range of a type.
 #[derive(Clone, Copy)]
 enum Number {
     OfPrice(u64, bool),
+    OfOptionalPrice(u64, bool),
     OfIndex(u32, bool),
     OfLeverage(u8, bool),
 }
@@ -18,6 +21,20 @@ enum Number {
 fn is_price(units: u64, stands: bool) -> bool {
     match Price::new(units) {
         Ok(price) => stands && price.units() == units,
+        Err(OutOfRange) => !stands,
+    }
+}
+
+/// Whether there is a price that may be absent of a number, which it then has, and which is absent at 0 alone.
+fn is_optional_price(units: u64, stands: bool) -> bool {
+    match OptionalPrice::new(units) {
+        Ok(price) => {
+            let there = Price::new(units).ok();
+            stands
+                && price.units() == units
+                && price.get() == there
+                && price == OptionalPrice::of(there)
+        }
         Err(OutOfRange) => !stands,
     }
 }
@@ -40,6 +57,7 @@ impl Step<()> for Number {
     fn holds(&self, _: &mut ()) -> bool {
         match *self {
             OfPrice(units, stands) => is_price(units, stands),
+            OfOptionalPrice(units, stands) => is_optional_price(units, stands),
             OfIndex(hundredths, stands) => is_index(hundredths, stands),
             OfLeverage(tenths, stands) => is_leverage(tenths, stands),
         }
@@ -91,6 +109,10 @@ fn values_stand_in_their_ranges(rt: HostRuntime) {
             OfPrice(1, true),
             OfPrice(99_999_999_999, true),
             OfPrice(100_000_000_000, false),
+            OfOptionalPrice(0, true),
+            OfOptionalPrice(1, true),
+            OfOptionalPrice(99_999_999_999, true),
+            OfOptionalPrice(100_000_000_000, false),
             OfIndex(0, false),
             OfIndex(1, true),
             OfIndex(99_999_999, true),

@@ -7,6 +7,7 @@ use Step::{
     Begin, Clock, Day, DueAt, Halt, InPhase, IsListed, Listing, NeverDue, Opening, Quote,
     StopMarket, Trade,
 };
+use price_core::OptionalPrice;
 use session_core::Phase;
 use std::process::Abort;
 use wire_in::{NoticeKind, Record};
@@ -38,8 +39,8 @@ fn quote(seconds: u64, bid: u64, offer: u64) -> Record {
     Record::Quote {
         moment: at(seconds),
         symbol: 0,
-        bid: Some(price(bid)),
-        offer: Some(price(offer)),
+        bid: OptionalPrice::of(Some(price(bid))),
+        offer: OptionalPrice::of(Some(price(offer))),
         bid_size: 1,
         offer_size: 1,
     }
