@@ -9,27 +9,28 @@ use price_core::{Category, Price, Tier};
 use session_core::{Day, END_OF_FIRST_15_MINUTES, Moment, Profile, Span, last_25};
 
 /// The percentages of a reference price (after the LULD Plan, Appendix A), by the tier, the price category and the part of
-/// the session, first since Amendment 18 and then before it.
+/// the session, first since Amendment 18 and then before it. The first rows are those of most stocks, since a search ends at
+/// the row that matches.
 const ROWS: [Case; 19] = cases! {
-    52 4 => 75; // below $0.75, not in the last 25 minutes
-    52 20 => 150; // below $0.75, in the last 25 minutes
+    55 0 => 5; // above $3.00, Tier 1, not in the last 25 minutes
+    39 1 => 10; // above $3.00, Tier 2
+    55 16 => 10; // above $3.00, Tier 1, in the last 25 minutes
     54 2 => 20; // from $0.75 to $3.00, not in the last 25 minutes
     54 18 => 40; // from $0.75 to $3.00, in the last 25 minutes
-    55 0 => 5; // above $3.00, Tier 1, not in the last 25 minutes
-    55 16 => 10; // above $3.00, Tier 1, in the last 25 minutes
-    39 1 => 10; // above $3.00, Tier 2
-    60 36 => 75; // before, below $0.75, between the first 15 and the last 25 minutes
-    60 44 => 150; // before, below $0.75, in the first 15 minutes
-    52 52 => 150; // before, below $0.75, in the last 25 minutes
-    62 34 => 20; // before, from $0.75 to $3.00, between
-    62 42 => 40; // before, from $0.75 to $3.00, in the first 15 minutes
-    54 50 => 40; // before, from $0.75 to $3.00, in the last 25 minutes
-    63 32 => 5; // before, above $3.00, Tier 1, between
+    52 4 => 75; // below $0.75, not in the last 25 minutes
+    52 20 => 150; // below $0.75, in the last 25 minutes
+    63 32 => 5; // before, above $3.00, Tier 1, between the first 15 and the last 25 minutes
     63 40 => 10; // before, above $3.00, Tier 1, in the first 15 minutes
     55 48 => 10; // before, above $3.00, Tier 1, in the last 25 minutes
     63 33 => 10; // before, above $3.00, Tier 2, between
     63 41 => 20; // before, above $3.00, Tier 2, in the first 15 minutes
     55 49 => 20; // before, above $3.00, Tier 2, in the last 25 minutes
+    62 34 => 20; // before, from $0.75 to $3.00, between
+    62 42 => 40; // before, from $0.75 to $3.00, in the first 15 minutes
+    54 50 => 40; // before, from $0.75 to $3.00, in the last 25 minutes
+    60 36 => 75; // before, below $0.75, between
+    60 44 => 150; // before, below $0.75, in the first 15 minutes
+    52 52 => 150; // before, below $0.75, in the last 25 minutes
 };
 
 const PERCENTAGES: Cases<19> = Cases {
