@@ -10,7 +10,7 @@ ghost use Rattle.wire_out.specs.declared.message.Message.TheVariants as messages
 ghost use Rattle.wire_out.specs.declared.message.Frame.TheVariants as frames;
 
 use crate::code::{cause_byte, kind_byte, level_byte, phase_byte, straddle_byte};
-use crate::message::{Frame, Message, ShortKind};
+use crate::message::{Frame, Message, ShortKind, Stamped};
 use price_core::{Cause, Index, Price};
 use session_core::{Level, Moment, Phase};
 use wire_core::{put, put_u16, put_u32, put_u64};
@@ -147,12 +147,12 @@ fn put_market_resume(into: &mut [u8; 64], number: u64, moment: Moment) -> usize
     put_head(into, 17, 0x19, number, moment)
 }
 
-fn put_numbered(into: &mut [u8; 64], number: u64, moment: Moment, message: Message) -> usize
+fn put_message(into: &mut [u8; 64], number: u64, moment: Moment, message: &Message) -> usize
     ensures moment { IsMoment moment }
-    ensures types { IsTyped message }
-    ensures frame { Frames (framed (numbered_body number moment message)) into.old result into.new }
+    ensures types { IsTyped message.now }
+    ensures frame { Frames (framed (numbered_body number moment message.now)) into.old result into.new }
 {
-    match message {
+    match *message {
         Message::Listed { symbol, name } => put_listed(into, number, moment, symbol, name),
         Message::State { symbol, phase } => put_state(into, number, moment, symbol, phase),
         Message::Band {
@@ -204,20 +204,20 @@ fn put_any(f: &Frame, into: &mut [u8; 64]) -> usize
     ensures types { HasTypes f.now }
     ensures frame { Frames (framed (body_of f.now)) into.old result into.new }
 {
-    match *f {
-        Frame::Hello { inputs, messages } => put_hello(into, inputs, messages),
-        Frame::Numbered { number, stamped } => put_numbered(
+    match f {
+        Frame::Hello { inputs, messages } => put_hello(into, *inputs, *messages),
+        Frame::Numbered { number, stamped } => put_message(
             into,
-            number,
+            *number,
             stamped.moment,
-            stamped.message,
+            &stamped.message,
         ),
-        Frame::Ack { input } => put_ack(into, input),
+        Frame::Ack { input } => put_ack(into, *input),
         Frame::Refused {
             frame_number,
             code,
             field,
-        } => put_refused(into, frame_number, code, field),
+        } => put_refused(into, *frame_number, *code, *field),
     }
 }
 
@@ -231,4 +231,15 @@ pub fn put_frame(f: &Frame, into: &mut [u8; 64]) -> usize
     ensures read { InRange f.now → frame_of (body_of f.now) ≡ Some f.now }
 {
     put_any(f, into)
+}
+
+/// As put_frame, of the frame of a numbered message, which need not be made for it.
+#[tactic(auto, unfolding(crate::specs::Spelling::spelling))]
+pub fn put_numbered(number: u64, stamped: &Stamped, into: &mut [u8; 64]) -> usize
+    ensures types { HasTypes (frames.Numbered number stamped.now) }
+    ensures frame { Frames (spelling (frames.Numbered number stamped.now)) into.old result into.new }
+    ensures bound { result ≤ 64 }
+    ensures read { InRange (frames.Numbered number stamped.now) → frame_of (body_of (frames.Numbered number stamped.now)) ≡ Some (frames.Numbered number stamped.now) }
+{
+    put_message(into, number, stamped.moment, &stamped.message)
 }

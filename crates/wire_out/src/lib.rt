@@ -8,6 +8,6 @@ mod law;
 mod message;
 
 pub use decoding::{BadFrame, get_frame};
-pub use encoding::put_frame;
+pub use encoding::{put_frame, put_numbered};
 pub use law::{frames_differ, frames_fit};
 pub use message::{Frame, Message, ShortKind, Stamped};
