@@ -23,7 +23,8 @@ pub(crate) fn append(out: &mut Vec<Stamped>, moment: Moment, message: Message)
     out.push(Stamped { moment, message }).unwrap();
 }
 
-/// Appends messages of one moment to a list that has room for them.
+/// Appends messages of one moment to a list that has room for them. Most records bring none.
+#[inline(always)]
 fn stamp(said: &[Message], moment: Moment, out: &mut Vec<Stamped>)
     requires { vec_len out.old + length said.now ≤ vec_capacity out.old }
     ensures items { out.new.items ≡ out.old.items ++ stamped moment said.now }

@@ -26,8 +26,8 @@ fn date_at(body: &[u8], at: usize) -> Result<Date, Refusal>
     }
 }
 
-// Each of the readers below stays a call of its own, which writes its record where it is wanted. Joined into one, they would
-// bring every record's fields together by parts first.
+// The readers of trades and quotations, which most records are, stand where they are called. Each of the others stays a call of
+// its own: joined into one, they would bring every record's fields together by parts first.
 #[tactic(auto, unfolding(crate::specs::Reading::day_of))]
 #[inline(never)]
 fn day(body: &[u8], into: &mut Record) -> Result<(), Refusal>
@@ -78,7 +78,7 @@ fn listing(body: &[u8], into: &mut Record) -> Result<(), Refusal>
 }
 
 #[tactic(auto, unfolding(crate::specs::Reading::trade_of))]
-#[inline(never)]
+#[inline(always)]
 fn trade(body: &[u8], into: &mut Record) -> Result<(), Refusal>
     ensures { placed into.new result ≡ trade_of body.now }
 {
@@ -117,7 +117,7 @@ fn cancel(body: &[u8], into: &mut Record) -> Result<(), Refusal>
 }
 
 #[tactic(auto, unfolding(crate::specs::Reading::quote_of))]
-#[inline(never)]
+#[inline(always)]
 fn quote(body: &[u8], into: &mut Record) -> Result<(), Refusal>
     ensures { placed into.new result ≡ quote_of body.now }
 {
