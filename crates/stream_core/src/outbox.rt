@@ -1,9 +1,10 @@
 //! Bytes that wait to be sent together.
 
-ghost use Rattle.std.specs.Prelude.{◌≡◌, ◌+◌, ◌≤◌, ◌++◌, [], ℕ, List, Option, length, OnOk, OnErr, IfOk, IsOk};
+ghost use Rattle.std.specs.Prelude.{◌≡◌, ◌+◌, ◌≤◌, ◌++◌, [], ℕ, List, Option, length, take, OnOk, OnErr, IfOk, IsOk};
 ghost use Rattle.std.specs.Io.KnownBytes.{append_known};
 ghost use Rattle.host_core.specs.Outside.{Elapses};
 ghost use Rattle.wire_out.specs.Spelling.{spelling};
+ghost use Rattle.wire_out.specs.declared.message.Frame.TheVariants as frames;
 ghost use Rattle.stream_core.specs.Outcomes.{Sent};
 ghost use Rattle.stream_core.specs.Pending.{Expects, SendsPrefix};
 
@@ -11,7 +12,7 @@ use host_core::{Fault, Host, send_all};
 use price_core::NoMemory;
 use std::alloc::Global;
 use std::marker::Model;
-use wire_out::{Frame, put_frame};
+use wire_out::{Frame, Stamped, put_frame, put_numbered};
 
 /// How many bytes may wait.
 const CAPACITY: usize = 65_536;
@@ -19,23 +20,46 @@ const CAPACITY: usize = 65_536;
 /// The most bytes that are appended at once.
 const SHORT: usize = 256;
 
-/// The most bytes of one frame.
-const FRAME: usize = 64;
-
-/// The bytes of frames and lines that wait to be sent in one piece.
+/// The bytes of frames and lines that wait to be sent in one piece. How many there are is a number of its own, so that a
+/// frame is written where it is sent from.
 #[derive(Drop)]
 pub struct Outbox {
-    bytes: Vec<u8>,
+    room: Vec<u8>,
+    count: usize,
 }
 
 impl Model for Outbox {
-    ghost use Rattle.std.specs.Prelude.{ℕ, List, ◌≤◌, vec_len, vec_capacity};
+    ghost use Rattle.std.specs.Prelude.{◌≡◌, ◌≤◌, ℕ, List, length, take};
 
     ghost Value = { List ℕ };
 
-    ghost view = { λ outbox. outbox.bytes.items };
+    ghost view = { λ outbox. take outbox.count outbox.room.items };
 
-    ghost invariant = { λ outbox. 65536 ≤ vec_capacity outbox.bytes };
+    ghost invariant = { λ outbox. (length outbox.room.items ≡ 65536) × (outbox.count ≤ 65536) };
+}
+
+/// Writes a frame at the begin of the room, and answers how many bytes it has.
+fn put_first(room: &mut [u8], frame: &Frame) -> usize
+    requires { 64 ≤ length room.old }
+    ensures fits { result ≤ 64 }
+    ensures bytes { take result room.new ≡ spelling frame.now }
+{
+    let Some(cell) = room.first_chunk_mut() else {
+        unreachable!()
+    };
+    put_frame(frame, cell)
+}
+
+/// As put_first, of a numbered message.
+fn put_first_numbered(room: &mut [u8], number: u64, stamped: &Stamped) -> usize
+    requires { 64 ≤ length room.old }
+    ensures fits { result ≤ 64 }
+    ensures bytes { take result room.new ≡ spelling (frames.Numbered number stamped.now) }
+{
+    let Some(cell) = room.first_chunk_mut() else {
+        unreachable!()
+    };
+    put_numbered(number, stamped, cell)
 }
 
 impl Outbox {
@@ -44,7 +68,8 @@ impl Outbox {
         ensures { IfOk result (λ outbox. outbox ≡ []) }
     {
         Ok(Outbox {
-            bytes: Vec::with_capacity(alloc, CAPACITY)?,
+            room: Vec::from_elem(alloc, 0, CAPACITY)?,
+            count: 0,
         })
     }
 
@@ -58,11 +83,11 @@ impl Outbox {
             → Elapses (H.outside host.old) (H.outside host.new) (SendsPrefix begin text (H.outside host.old)) }
         ensures outside { Sent result (H.outside host.old) (H.outside host.new) }
     {
-        if self.bytes.is_empty() {
+        if self.count == 0 {
             return Ok(());
         }
-        send_all(host, &self.bytes).map_err(|_| Fault::Send)?;
-        self.bytes.clear();
+        send_all(host, &self.room[..self.count]).map_err(|_| Fault::Send)?;
+        self.count = 0;
         Ok(())
     }
 
@@ -75,7 +100,7 @@ impl Outbox {
             → Elapses (H.outside host.old) (H.outside host.new) (SendsPrefix begin text (H.outside host.old)) }
         ensures outside { Sent result (H.outside host.old) (H.outside host.new) }
     {
-        if self.bytes.len() + SHORT <= CAPACITY {
+        if self.count + SHORT <= CAPACITY {
             return Ok(());
         }
         self.flush(host)
@@ -86,8 +111,25 @@ impl Outbox {
         requires { length self.old + length piece.now ≤ 65536 }
         ensures { self.new ≡ self.old ++ piece.now }
     {
-        // It has room for them.
-        self.bytes.extend_from_slice(piece).unwrap();
+        let end = self.count + piece.len();
+        self.room[self.count..end].copy_from_slice(piece);
+        self.count = end;
+    }
+
+    /// Writes a frame behind the bytes that wait.
+    fn write_frame(&mut self, frame: &Frame)
+        requires { length self.old + 64 ≤ 65536 }
+        ensures { self.new ≡ self.old ++ spelling frame.now }
+    {
+        self.count += put_first(&mut self.room[self.count..], frame);
+    }
+
+    /// Writes a numbered message behind the bytes that wait.
+    fn write_numbered(&mut self, number: u64, stamped: &Stamped)
+        requires { length self.old + 64 ≤ 65536 }
+        ensures { self.new ≡ self.old ++ spelling (frames.Numbered number stamped.now) }
+    {
+        self.count += put_first_numbered(&mut self.room[self.count..], number, stamped);
     }
 
     /// Appends at most 256 bytes to those that wait, and sends these first where there is no room. After an error the
@@ -114,8 +156,26 @@ impl Outbox {
             → Elapses (H.outside host.old) (H.outside host.new) (SendsPrefix begin text (H.outside host.old)) }
         ensures outside { Sent result (H.outside host.old) (H.outside host.new) }
     {
-        let mut cell = [0; FRAME];
-        let len = put_frame(frame, &mut cell);
-        self.append_bytes(host, &cell[..len])
+        self.make_room(host)?;
+        self.write_frame(frame);
+        Ok(())
+    }
+
+    /// Appends the frame of a numbered message, as append does that of any frame.
+    pub fn append_numbered<H: Host>(
+        &mut self,
+        host: &mut H,
+        number: u64,
+        stamped: &Stamped,
+    ) -> Result<(), Fault>
+        ensures pending { (begin : Option (List ℕ)) (text : List ℕ) → Expects begin (H.outside host.old).sent self.old text
+            → OnOk result (Expects begin (H.outside host.new).sent self.new (text ++ spelling (frames.Numbered number stamped.now))) }
+        ensures moments { (begin : Option (List ℕ)) (text : List ℕ) → Expects begin (H.outside host.old).sent self.old text
+            → Elapses (H.outside host.old) (H.outside host.new) (SendsPrefix begin text (H.outside host.old)) }
+        ensures outside { Sent result (H.outside host.old) (H.outside host.new) }
+    {
+        self.make_room(host)?;
+        self.write_numbered(number, stamped);
+        Ok(())
     }
 }
