@@ -25,4 +25,3 @@ pub mod Unmoved
 pub mod Quiet
 pub mod Quoted
 pub mod Dealt
-pub mod Near

@@ -4,7 +4,7 @@ ghost use Rattle.std.specs.Prelude.{◌≡◌, ◌+◌, ◌≤◌, [], true, fal
 ghost use Rattle.std.specs.Option.{option_map_or};
 ghost use Rattle.price_core.specs.Moves.{moved_one_percent};
 ghost use Rattle.pause_core.specs.Phases.{is_done, is_trading};
-ghost use Rattle.window_core.specs.Deals.{AreNear, live, mean_of};
+ghost use Rattle.window_core.specs.Deals.{live, mean_of};
 ghost use Rattle.refprice_core.specs.Prices.{observed};
 ghost use Rattle.rulebook.specs.Auction.{is_paused};
 ghost use Rattle.rulebook.specs.Rules as rules;
@@ -45,16 +45,6 @@ fn differs(a: &Bands, b: &Bands) -> bool
 }
 
 impl OpenStep {
-    /// Whether the price of its own deal is at least one per cent away from a reference price.
-    fn deal_is_far(&self, reference: Price) -> bool
-        ensures { result ≡ option_map_or (λ d. moved_one_percent d.price reference) self.now.deal false }
-    {
-        match &self.deal {
-            Some(deal) => moved_one_percent(deal.price, reference),
-            None => false,
-        }
-    }
-
     /// The price at which it released the symbol, where the run has taken none yet.
     fn released_first(&self, reference: &Reference) -> Option<Price>
         ensures { result ≡ pricing.released_first self.now.released reference.now.last }
@@ -118,21 +108,10 @@ impl Kept {
         }
     }
 
-    /// Whether the price of each deal of the window, the open step's own too, is known to be less than one per cent away
-    /// from a reference price.
-    fn stays_near(&self, opened: &OpenStep, deals: &Window, reference: Price) -> bool
-        ensures { result ≡ true → AreNear reference (window (in_step self.now opened.now) deals.now.deals) }
-    {
-        deals.stays_near(reference) && !opened.deal_is_far(reference)
-    }
-
     /// Whether the mean of the window, with the open step's own deal, is at least one per cent away from a reference price.
     fn mean_has_moved(&self, t: Moment, opened: &OpenStep, deals: &Window, reference: Price) -> bool
         ensures { result ≡ option_map_or (λ m. moved_one_percent m reference) (mean_of (live t (window (in_step self.now opened.now) deals.now.deals))) false }
     {
-        if self.stays_near(opened, deals, reference) {
-            return false;
-        }
         let last = if self.run.is_some() {
             opened.deal
         } else {

@@ -1,9 +1,7 @@
-pub mod Bounded
 pub mod Deals
 pub mod Lasting
 pub mod Leaves
 pub mod Moves
-pub mod Near
 pub mod Order
 pub mod RepresentsCalls
 pub mod Sums

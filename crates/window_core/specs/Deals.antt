@@ -1,5 +1,5 @@
 -- Deals, the oldest first, and their mean (LULD Plan, Section V).
-use Rattle.std.specs.Prelude.{◌≡◌, ℕ, Bool, false, Option, Some, None, List, [], ◌∷◌, ◌+◌, ◌==◌, All, nat_lt, if◌then◌else◌, not, min, length, filter, sum_by}
+use Rattle.std.specs.Prelude.{ℕ, Bool, false, Option, Some, None, List, [], ◌∷◌, ◌+◌, ◌==◌, nat_lt, if◌then◌else◌, not, min, length, filter, sum_by}
 use Rattle.std.specs.Option.{option_map_or}
 use Rattle.price_core.specs.Moves.{moved_one_percent}
 use Rattle.price_core.specs.Rounding.{mean}
@@ -36,7 +36,3 @@ mean_has_moved reference deals = option_map_or (λ m. moved_one_percent m refere
 abbrev pub least_moment : List Deal → Option ℕ
 least_moment [] = None
 least_moment (d ∷ later) = Some (option_map_or (min d.moment) (least_moment later) d.moment)
-
--- none of their prices is as far as one per cent away from a reference price (LULD Plan, Section V)
-abbrev pub AreNear : ℕ → List Deal → Type 0
-AreNear reference deals = All (λ d. moved_one_percent d.price reference ≡ false) deals

@@ -3,5 +3,4 @@ pub mod Calls
 pub mod WindowState
 pub mod Tallies
 pub mod Leaving
-pub mod Bounds
 pub mod Summed

@@ -1,10 +1,8 @@
--- Deals with the sum of their prices and bounds on them. Private words: no public clause cites them.
+-- Deals with the sum of their prices. Private words: no public clause cites them.
 use Rattle.std.specs.Prelude.{◌≡◌, ℕ, ◌+◌, ◌≤◌, Bool, true, List, [], ◌∷◌, All, length}
 use Rattle.price_core.specs.Ranges.{IsPrice}
 use Rattle.session_core.specs.Durations.{five_minutes}
-use Rattle.window_core.specs.declared.bounds.PriceBounds.{PriceBounds}
 use Rattle.window_core.specs.declared.window.Deal.{Deal}
-use Rattle.window_core.specs.Bounds.{AreBounded}
 use Rattle.window_core.specs.Tallies.{Tallies}
 
 -- none of the deals is before a moment
@@ -38,8 +36,7 @@ pub record IsSummed (sum newest : ℕ) (is_ordered : Bool) (deals : List Deal) :
 abbrev pub LastUntil : ℕ → List Deal → Type 0
 LastUntil until deals = All (λ d. until ≤ d.moment + five_minutes) deals
 
--- and their prices are within bounds, and none of them is five minutes old before a moment
-pub record AccountsFor (sum newest : ℕ) (is_ordered : Bool) (bounds : PriceBounds) (until : ℕ) (deals : List Deal) : Type 0 where
+-- and none of them is five minutes old before a moment
+pub record AccountsFor (sum newest : ℕ) (is_ordered : Bool) (until : ℕ) (deals : List Deal) : Type 0 where
   pub summed : IsSummed sum newest is_ordered deals
-  pub bounded : AreBounded bounds deals
   pub lasting : LastUntil until deals

@@ -1,7 +1,6 @@
 //! The window of five minutes, whose mean is a stock's reference price (LULD Plan, Section V).
 #![tactic(auto)]
 
-mod bounds;
 mod leaving;
 mod queue;
 mod tally;

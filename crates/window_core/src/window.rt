@@ -4,11 +4,10 @@ ghost use Rattle.std.specs.Prelude.{◌≡◌, ℕ, true, false, ◌+◌, ◌≤
 ghost use Rattle.std.specs.Option.{option_map_or};
 ghost use Rattle.price_core.specs.Moves.{moved_one_percent};
 ghost use Rattle.window_core.specs.Calls.{Call, Advance, Add, Cancel, Restart, moment_in, window};
-ghost use Rattle.window_core.specs.Deals.{AreNear, is_live, is_numbered, least_moment, live, mean_has_moved, mean_of, stays};
+ghost use Rattle.window_core.specs.Deals.{is_live, is_numbered, least_moment, live, mean_has_moved, mean_of, stays};
 ghost use Rattle.window_core.specs.Tallies.{Tallies};
 ghost use Rattle.window_core.specs.WindowState.{Represents};
 
-use crate::bounds::PriceBounds;
 use crate::leaving::{FEW, few_move_from, many_move_from};
 use crate::queue::{
     first, keep_live, later, make_room, push_deal, remove, stays_ordered, total_of,
@@ -39,15 +38,13 @@ impl Deal {
 }
 
 /// The deals of the last five minutes (LULD Plan, Section V), and beside them the sum of their prices, a moment that none of
-/// them is after, whether they are known to be in order, bounds on their prices, and until when none of them is five minutes
-/// old.
+/// them is after, whether they are known to be in order, and until when none of them is five minutes old.
 #[derive(Debug, Drop)]
 pub struct Window {
     items: VecDeque<Deal>,
     sum: u128,
     newest: Moment,
     is_ordered: bool,
-    bounds: PriceBounds,
     /// In nanoseconds of the day, and without an end where there are no deals. The first deal tells it too, but lies elsewhere
     /// in memory, where a record that asks no more of the deals needn't look.
     until: u64,
@@ -63,7 +60,7 @@ impl Model for Window {
 
     ghost view = { λ w. record { deals = w.items.items; spare = deque_capacity w.items - deque_len w.items } };
 
-    ghost invariant = { λ w. AccountsFor w.sum w.newest w.is_ordered w.bounds w.until w.items.items };
+    ghost invariant = { λ w. AccountsFor w.sum w.newest w.is_ordered w.until w.items.items };
 }
 
 impl Window {
@@ -78,7 +75,6 @@ impl Window {
             sum: 0,
             newest: midnight(),
             is_ordered: true,
-            bounds: PriceBounds::none(),
             until: u64::MAX,
         })
     }
@@ -105,7 +101,6 @@ impl Window {
         self.sum += u128::from(d.price.units());
         self.is_ordered = stays_ordered(self.is_ordered, self.newest, &d);
         self.newest = later(self.newest, d.moment);
-        self.bounds = self.bounds.with(d.price);
         self.until = self.until.min(d.moment.nanos() + FIVE_MINUTES);
         push_deal(d, &mut self.items);
     }
@@ -137,7 +132,7 @@ impl Window {
         }
     }
 
-    /// Removes the first deal where it is five minutes old, and says whether it did.
+    /// Removes the first deal where it is five minutes old, and says whether it did. Else it finds anew until when none is.
     fn drop_first(&mut self, t: Moment) -> bool
         ensures live { live t self.new.deals ≡ live t self.old.deals }
         ensures spare { self.old.spare ≤ self.new.spare }
@@ -148,7 +143,10 @@ impl Window {
                 let _ = self.items.pop_front();
                 true
             }
-            _ => false,
+            _ => {
+                self.renew_until();
+                false
+            }
         }
     }
 
@@ -171,18 +169,6 @@ impl Window {
         }
     }
 
-    /// Forgets prices of deals that have left, where each that is kept is less than five minutes old.
-    fn narrow(&mut self, t: Moment)
-        requires { live t self.old.deals ≡ self.old.deals }
-        ensures { self.new ≡ self.old }
-    {
-        self.bounds = if self.items.is_empty() {
-            PriceBounds::none()
-        } else {
-            self.bounds.turned(t, self.newest)
-        };
-    }
-
     /// Takes a later moment: deals that are five minutes old leave. While deals are in order it looks at those and one more,
     /// however many there are.
     pub fn advance(&mut self, t: Moment)
@@ -193,14 +179,12 @@ impl Window {
         if self.are_live(t) {
             return;
         }
-        for _ in 0..self.items.len() {
+        for _ in 0..=self.items.len() {
             if !self.drop_first(t) {
                 break;
             }
         }
-        self.renew_until();
         self.drop_others(t);
-        self.narrow(t);
     }
 
     fn tally_number(&self, number: u32) -> Tally
@@ -235,7 +219,6 @@ impl Window {
         self.sum = 0;
         self.newest = midnight();
         self.is_ordered = true;
-        self.bounds = PriceBounds::none();
         self.until = u64::MAX;
     }
 
@@ -306,24 +289,12 @@ impl Window {
         self.tally().has_moved(reference)
     }
 
-    /// Whether each price is known to be less than one per cent away from a reference price (LULD Plan, Section V). Then the
-    /// mean is too, whichever deals leave. It takes two comparisons, however many deals there are. It may not know it of
-    /// prices near the reference price where one of the last ten minutes or so was farther away.
-    pub fn stays_near(&self, reference: Price) -> bool
-        ensures { result ≡ true → AreNear reference self.now.deals }
-    {
-        self.bounds.are_near(reference)
-    }
-
     /// From when on, at a moment or after it, the mean of those deals that are then less than five minutes old may be at least one
     /// per cent away from a reference price, where no deal is added (LULD Plan, Section V); both in nanoseconds of the day.
-    /// It looks at none where each price is known to be nearer, and else at a few deals, or at the first of many.
+    /// It looks at a few deals, or at the first of many.
     pub fn moves_from(&self, from: u64, reference: Price) -> u64
         ensures near { (u : ℕ) → from ≤ u → u < result → mean_has_moved reference (live u self.now.deals) ≡ false }
     {
-        if self.stays_near(reference) {
-            return u64::MAX;
-        }
         if !self.is_ordered {
             return from;
         }

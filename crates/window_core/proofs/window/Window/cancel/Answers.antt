@@ -3,7 +3,6 @@ use Rattle.window_core.specs.declared.window.Deal.{Deal}
 use Rattle.window_core.specs.Deals.{is_numbered, stays}
 use Rattle.window_core.specs.WindowState.{WindowState}
 use Rattle.window_core.specs.Tallies.{Tallies}
-use Rattle.window_core.proofs.Bounded.{bounded_some}
 use Rattle.window_core.proofs.Lasting.{lasts_some}
 use Rattle.window_core.proofs.RepresentsCalls.{represents-cancelled}
 use Rattle.window_core.proofs.Sums.{none_numbered, numbered_most, summed_removed}
@@ -26,7 +25,6 @@ invariant_of-self c =
     record {
       summed = summed_removed c.args.number removed.sum removed.count c.self.inside.newest c.self.inside.sum c.self.inside.is_ordered c.self.inside.items.items c.remove.new.deals.items
           c.remove.ensures.items gone c.self.invariant.summed;
-      bounded = bounded_some c.self.inside.bounds (stays c.args.number) c.self.inside.items.items c.remove.new.deals.items c.remove.ensures.items c.self.invariant.bounded;
       lasting = lasts_some c.self.inside.until (stays c.args.number) c.self.inside.items.items c.remove.new.deals.items c.remove.ensures.items c.self.invariant.lasting;
     }
 

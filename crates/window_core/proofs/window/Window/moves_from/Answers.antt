@@ -6,13 +6,7 @@ use Rattle.window_core.specs.Leaving.{IsQueue}
 use Rattle.window_core.specs.Tallies.{Tallies}
 use Rattle.window_core.specs.WindowState.{WindowState}
 use Rattle.window_core.proofs.Leaves.{first_stays}
-use Rattle.window_core.proofs.Near.{near_live_mean}
 use Rattle.window_core.proofs.window.Window.moves_from.Goals as goal
-
-pub returns-then-stays_near : goal.returns-then-stays_near
-returns-then-stays_near c = record {
-  near = λ u le before. near_live_mean c.args.reference u c.args.self.now.deals (c.stays_near.ensures c.if-stays_near.true);
-}
 
 pub few_move_from-requires-clause-queue : goal.few_move_from-requires-clause-queue
 few_move_from-requires-clause-queue c = record {

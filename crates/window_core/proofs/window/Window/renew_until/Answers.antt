@@ -9,7 +9,6 @@ invariant_of-self c =
     let deals = c.self.inside.items.items in
     record {
       summed = c.self.invariant.summed;
-      bounded = c.self.invariant.bounded;
       lasting = elim c.match-first.branch as (λ w. LastUntil c.match-first.self deals) [
         | in-Some w ↦ lasts_by_first c.match-first.self deals w.in-Some.deal (c.self.invariant.summed.order c.if-self.true) (sym c.first.ensures ∙ w.in-Some.is) (omega arith)
         | in-None w ↦ lasts_none c.match-first.self deals (sym c.first.ensures ∙ w.in-None.is)
