@@ -1,7 +1,8 @@
 -- The outcomes of a round, and the records that it accepts.
 use Rattle.std.proofs.Common.{rules, ◌≡◌, Bool, not, is_some, ℕ, ◌+◌, ◌<◌, ◌≤◌, List, [], ◌∷◌, ◌++◌, length, get_or, map, drop, Option, Some, None, Ok, Err, Result, IfOk, OnOk, All, refl, sym, ap, ◌∙◌, append_assoc, length-append, arith}
 use Rattle.std.specs.Int.{from_bool}
-use Rattle.std.proofs.lemmas.List.{reverse-append, map-append, length-map, get_or-map, drop_more, drop-drop, length-drop}
+use Rattle.std.proofs.Math.ListN.{set}
+use Rattle.std.proofs.lemmas.List.{reverse-append, map-append, length-map, get_or-map, set_at, drop_more, drop-drop, length-drop}
 use Rattle.std.proofs.lemmas.List.Elements.{All-append}
 use Rattle.wire_in.specs.declared.record.Record.{Record}
 use Rattle.wire_in.specs.declared.record.Refusal.{Refusal}
@@ -88,16 +89,19 @@ record_range : (outcome : Outcome) → IfOk outcome InRange → All InRange (rec
 record_range (Ok x) range = search rules
 record_range (Err refusal) range = search rules
 
--- a round with one frame more
-pub one_more : {round : RoundState} {verdicts next_verdicts : List (Option Refusal)} {accepted next_accepted : List Record} {most reserved more reserved_records more_records : ℕ} (x : Record) (verdict : Option Refusal)
+-- A round with one frame more, whose record was put in its place behind the accepted ones, and stays there where it is accepted.
+pub one_more : {round : RoundState} {verdicts next_verdicts : List (Option Refusal)} {accepted places next_accepted : List Record} {most place reserved more reserved_records placed_records more_records : ℕ} (x blank : Record) (verdict : Option Refusal)
     → record { outcomes = joined verdicts accepted; most = most } ≡ round → IsRound (record { outcomes = joined verdicts accepted; most = most }) verdicts accepted reserved reserved_records
     → length round.outcomes < round.most → IfOk (record_or_refusal x verdict) InRange
-    → next_verdicts ≡ verdicts ++ verdict ∷ [] → next_accepted ≡ accepted ++ records_in (record_or_refusal x verdict ∷ []) → more ≡ reserved → reserved_records ≤ more_records
+    → next_verdicts ≡ verdicts ++ verdict ∷ [] → places ≡ accepted ++ blank ∷ [] → length accepted ≡ place
+    → ((before : List Record) (y : Record) → set places place x ≡ before ++ y ∷ [] → next_accepted ≡ before ++ records_in (record_or_refusal y verdict ∷ []))
+    → more ≡ reserved → placed_records ≡ reserved_records → more_records ≡ placed_records
     → (record { outcomes = joined next_verdicts next_accepted; most = most } ≡ record round { outcomes = round.outcomes ++ record_or_refusal x verdict ∷ [] })
     × IsRound (record { outcomes = joined next_verdicts next_accepted; most = most }) next_verdicts next_accepted more more_records
-one_more {verdicts = verdicts} {next_verdicts = next_verdicts} {accepted = accepted} {next_accepted = next_accepted} {most = most} x verdict view was room range verdicts_are accepted_are reserve reserve_records =
+one_more {verdicts = verdicts} {next_verdicts = next_verdicts} {accepted = accepted} {next_accepted = next_accepted} {most = most} {place = place} x blank verdict view was room range verdicts_are places_are last settled reserve placed_room settled_room =
     let outcomes = joined verdicts accepted in
     let one = record_or_refusal x verdict ∷ [] in
+    let accepted_are = settled accepted x (ap (λ (records : List Record). set records place x) places_are ∙ set_at accepted blank [] x place last) in
     let all_verdicts : next_verdicts ≡ map verdict_in (outcomes ++ one) = verdicts_are ∙ (λ i. was.verdicts_are i ++ verdict_of x verdict i ∷ []) ∙ sym (map-append verdict_in outcomes one) in
     let all_accepted : next_accepted ≡ records_in (outcomes ++ one) = accepted_are ∙ ap (λ (records : List Record). records ++ records_in one) was.accepted_are ∙ sym (records-append outcomes one) in
     let whole : joined next_verdicts next_accepted ≡ outcomes ++ one = (λ i. joined (all_verdicts i) (all_accepted i)) ∙ joined_parts (outcomes ++ one) in (
@@ -106,7 +110,7 @@ one_more {verdicts = verdicts} {next_verdicts = next_verdicts} {accepted = accep
         few = omega (arith, ap length whole, length-append outcomes one, room, ap (λ (r : RoundState). length r.outcomes) view, ap (λ (r : RoundState). r.most) view);
         within = was.within;
         reserve = omega (arith, was.reserve, reserve);
-        reserve_records = omega (arith, was.reserve_records, reserve_records);
+        reserve_records = omega (arith, was.reserve_records, placed_room, settled_room);
         verdicts_are = all_verdicts ∙ ap (map verdict_in) (sym whole);
         accepted_are = all_accepted ∙ ap records_in (sym whole);
         ranges = rw accepted_are (All-append InRange _ _ was.ranges (record_range (record_or_refusal x verdict) range));

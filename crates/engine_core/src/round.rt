@@ -1,15 +1,19 @@
-//! Frames that were judged and wait to be kept and answered together.
+//! Frames that are judged, and then wait to be kept and answered together.
 
-ghost use Rattle.std.specs.Prelude.{◌≡◌, ◌<◌, ◌≤◌, ◌+◌, ◌++◌, ◌∷◌, [], All, IfOk, length, map, vec_len, vec_capacity};
-ghost use Rattle.rulebook.specs.Sent.{record_or_refusal};
+ghost use Rattle.std.specs.Prelude.{◌≡◌, ◌<◌, ◌≤◌, ◌+◌, ◌++◌, ◌∷◌, [], ℕ, List, Option, None, All, IfOk, length, map, vec_len, vec_capacity};
+ghost use Rattle.wire_in.specs.declared.record.Record.{Record};
 ghost use Rattle.wire_in.specs.Spelling.{InRange};
+ghost use Rattle.rulebook.specs.Sent.{judged, record_or_refusal, with_record};
+ghost use Rattle.market_core.specs.AdmissionState as admissions;
+ghost use Rattle.market_core.specs.AdmissionState.{refusal_of};
+ghost use Rattle.engine_core.specs.EngineState.{Represents};
 ghost use Rattle.engine_core.specs.Rounds.{records_in, verdict_in};
 
+use crate::engine::{Engine, judge};
 use price_core::NoMemory;
 use std::alloc::Global;
 use std::marker::Model;
-use std::slice;
-use wire_in::{Record, Refusal};
+use wire_in::{Record, Refusal, blank, decode_into};
 
 /// The most frames of a round.
 pub const ROUND_MAX: usize = 65_536;
@@ -37,18 +41,70 @@ impl Model for Round {
     ghost invariant = { λ round. IsRound (record { outcomes = joined round.verdicts.items round.accepted.items; most = round.most }) round.verdicts.items round.accepted.items (vec_capacity round.verdicts) (vec_capacity round.accepted) };
 }
 
-/// Adds the record of a frame, where it is accepted, to a list that has room.
-fn accept(accepted: &mut Vec<Record>, x: &Record, verdict: Option<Refusal>)
-    requires room { vec_len accepted.old < vec_capacity accepted.old }
-    ensures items { accepted.new.items ≡ accepted.old.items ++ records_in (record_or_refusal x.now verdict ∷ []) }
-    ensures capacity { vec_capacity accepted.old ≤ vec_capacity accepted.new }
+/// Admits the record of a frame by its verdict, where it is accepted.
+fn admit(engine: &mut Engine, x: &Record, verdict: Option<Refusal>)
+    requires admissible { verdict ≡ None → refusal_of engine.old.admission x.now ≡ None }
+    ensures represents { (capacity : ℕ) (accepted evaluated : List Record) → Represents engine.old capacity accepted evaluated
+        → Represents engine.new capacity (with_record accepted (record_or_refusal x.now verdict)) evaluated }
+    ensures rest { engine.new ≡ record engine.old { admission = engine.new.admission } }
+    ensures count { engine.new.admission.count ≡ engine.old.admission.count + length (records_in (record_or_refusal x.now verdict ∷ [])) }
+    ensures within { engine.old.admission.count ≤ engine.old.admission.capacity → engine.new.admission.count ≤ engine.new.admission.capacity }
+    ensures capacity { engine.new.admission.capacity ≡ engine.old.admission.capacity }
 {
-    if verdict.is_none() {
-        accepted.extend_from_slice(slice::from_ref(x)).unwrap();
+    match verdict {
+        None => engine.admit(x),
+        Some(_) => {}
+    }
+}
+
+/// Judges the frame of a body, whose record is put in a place, and admits the record where it is accepted.
+#[inline(always)]
+#[tactic(auto, using(crate::proofs::Rounds::placed_range))]
+fn judge_in(engine: &mut Engine, place: &mut Record, body: &[u8]) -> Option<Refusal>
+    requires short { length body.now ≤ 255 }
+    ensures exact { (held : List Record) → admissions.Represents engine.old.admission held
+        → record_or_refusal place.new result ≡ judged engine.old.admission.capacity held body.now }
+    ensures represents { (capacity : ℕ) (accepted evaluated : List Record) → Represents engine.old capacity accepted evaluated
+        → Represents engine.new capacity (with_record accepted (record_or_refusal place.new result)) evaluated }
+    ensures rest { engine.new ≡ record engine.old { admission = engine.new.admission } }
+    ensures count { engine.new.admission.count ≡ engine.old.admission.count + length (records_in (record_or_refusal place.new result ∷ [])) }
+    ensures within { engine.old.admission.count ≤ engine.old.admission.capacity → engine.new.admission.count ≤ engine.new.admission.capacity }
+    ensures capacity { engine.new.admission.capacity ≡ engine.old.admission.capacity }
+    ensures range { IfOk (record_or_refusal place.new result) InRange }
+{
+    let read = decode_into(body, place);
+    let verdict = judge(&engine.admission, place, read);
+    admit(engine, place, verdict);
+    verdict
+}
+
+/// Adds a copy of a value behind the others of a list that has room.
+#[inline(always)]
+fn push_copy<T: Copy>(list: &mut Vec<T>, x: &T)
+    requires room { vec_len list.old < vec_capacity list.old }
+    ensures items { list.new.items ≡ list.old.items ++ x.now ∷ [] }
+    ensures capacity { vec_capacity list.new ≡ vec_capacity list.old }
+{
+    list.push_reserved(*x);
+}
+
+/// Removes the last record of a list where its frame is refused.
+#[inline(always)]
+fn settle(records: &mut Vec<Record>, verdict: Option<Refusal>)
+    ensures items { (before : List Record) (x : Record) → records.old.items ≡ before ++ x ∷ []
+        → records.new.items ≡ before ++ records_in (record_or_refusal x verdict ∷ []) }
+    ensures capacity { vec_capacity records.new ≡ vec_capacity records.old }
+{
+    if verdict.is_some() {
+        records.pop();
     }
 }
 
 impl Round {
+    ghost use Rattle.engine_core.specs.Sessions.{Start};
+    ghost use Rattle.engine_core.specs.Answering.{Answers};
+    ghost use Rattle.engine_core.specs.Serving.{IsSound};
+
     /// A round of no frames, which takes up to so many.
     pub fn new(alloc: Global, most: usize) -> Result<Round, NoMemory>
         requires most { most ≤ ROUND_MAX }
@@ -62,14 +118,25 @@ impl Round {
         })
     }
 
-    /// Adds a frame by its verdict behind the others. Where it is accepted, its record is that one.
-    pub fn push(&mut self, x: &Record, verdict: Option<Refusal>)
+    /// Judges the frame of a body, and admits its record where it is accepted. The record is read into its place behind the
+    /// accepted ones. The frame waits to be answered.
+    #[inline(always)]
+    pub fn judge(&mut self, engine: &mut Engine, body: &[u8])
+        requires short { length body.now ≤ 255 }
         requires room { length self.old.outcomes < self.old.most }
-        requires range { IfOk (record_or_refusal x.now verdict) InRange }
-        ensures { self.new ≡ record self.old { outcomes = self.old.outcomes ++ record_or_refusal x.now verdict ∷ [] } }
+        ensures answers { (start : Start) (answered all after : List (List ℕ)) (number : ℕ) (outbox : List ℕ) (sent : Option (List ℕ)) → after ≡ all ++ body.now ∷ []
+            → Answers start answered all number self.old.outcomes [] engine.old outbox sent → Answers start answered after number self.new.outcomes [] engine.new outbox sent }
+        ensures more { length self.new.outcomes ≡ length self.old.outcomes + 1 }
+        ensures most { self.new.most ≡ self.old.most }
+        ensures sound { (answered : ℕ) → IsSound engine.old self.old.outcomes answered → IsSound engine.new self.new.outcomes answered }
+        ensures rest { engine.new ≡ record engine.old { admission = engine.new.admission } }
+        ensures capacity { engine.new.admission.capacity ≡ engine.old.admission.capacity }
     {
-        accept(&mut self.accepted, x, verdict);
         // It has room for them all.
+        let place = self.accepted.len();
+        push_copy(&mut self.accepted, &blank());
+        let verdict = judge_in(engine, &mut self.accepted[place], body);
+        settle(&mut self.accepted, verdict);
         self.verdicts.push_reserved(verdict);
     }
 

@@ -1,6 +1,6 @@
 //! A session: from pieces of the input to what is kept and sent.
 
-ghost use Rattle.std.specs.Prelude.{◌≡◌, ◌≢◌, ◌-◌, ◌+◌, ◌*◌, ◌<◌, ◌≤◌, ◌^◌, ◌++◌, ◌∷◌, [], ℕ, List, Option, None, Err, OnOk, IfOk, IfSome, IsSome, length, take, drop};
+ghost use Rattle.std.specs.Prelude.{◌≡◌, ◌≢◌, ◌-◌, ◌+◌, ◌*◌, ◌<◌, ◌≤◌, ◌^◌, ◌++◌, ◌∷◌, [], ℕ, List, Option, None, Err, OnOk, IfSome, IsSome, length, take, drop};
 ghost use Rattle.host_core.specs.Outside.{Elapses};
 ghost use Rattle.host_core.specs.Frames.{OnlyWrites};
 ghost use Rattle.host_core.specs.Faults.{Causes};
@@ -9,23 +9,20 @@ ghost use Rattle.wire_core.specs.Frames.{framed};
 ghost use Rattle.wire_in.specs.Cutting.{pending};
 ghost use Rattle.stream_core.specs.Outcomes.{SentOrStarved};
 ghost use Rattle.journal_core.specs.Layout.{with_batch};
-ghost use Rattle.rulebook.specs.Sent.{record_or_refusal, with_record};
-ghost use Rattle.market_core.specs.AdmissionState.{refusal_of};
-ghost use Rattle.engine_core.specs.EngineState.{Represents};
 ghost use Rattle.engine_core.specs.Rounds.{Outcome, lent, records_in, verdict_in};
 ghost use Rattle.engine_core.specs.Sessions.{Start};
 ghost use Rattle.engine_core.specs.Answering.{Answers, Replies};
 ghost use Rattle.engine_core.specs.Unwritten.{WritesNothing};
 ghost use Rattle.engine_core.specs.Serving.{Serves, Runs, IsSound, IsReady, Keeps, OnlyAnswers};
 
-use crate::engine::{Engine, judge};
+use crate::engine::Engine;
 use crate::keeper::Keeper;
 use crate::reply::answer;
 use crate::round::{Outcome, Round};
 use host_core::{Fault, Host};
 use std::thread::Threads;
 use stream_core::Outbox;
-use wire_in::{Cutter, Record, Refusal, blank, decode_into};
+use wire_in::{Cutter, Record, Refusal};
 use yard_core::Gate;
 
 /// How many frames are judged before they are answered where no records are shared out: what is kept of them stays in the
@@ -43,22 +40,6 @@ pub struct Session {
     pub answered: u64,
 }
 
-/// Admits the record of a frame by its verdict, where it is accepted.
-fn admit(engine: &mut Engine, x: &Record, verdict: Option<Refusal>)
-    requires admissible { verdict ≡ None → refusal_of engine.old.admission x.now ≡ None }
-    ensures represents { (capacity : ℕ) (accepted evaluated : List Record) → Represents engine.old capacity accepted evaluated
-        → Represents engine.new capacity (with_record accepted (record_or_refusal x.now verdict)) evaluated }
-    ensures rest { engine.new ≡ record engine.old { admission = engine.new.admission } }
-    ensures count { engine.new.admission.count ≡ engine.old.admission.count + length (records_in (record_or_refusal x.now verdict ∷ [])) }
-    ensures within { engine.old.admission.count ≤ engine.old.admission.capacity → engine.new.admission.count ≤ engine.new.admission.capacity }
-    ensures capacity { engine.new.admission.capacity ≡ engine.old.admission.capacity }
-{
-    match verdict {
-        None => engine.admit(x),
-        Some(_) => {}
-    }
-}
-
 /// The body of the whole frame that a piece begins with, where none was begun before. It is judged where it lies.
 fn whole_frame<'a>(cutter: &Cutter, piece: &'a [u8]) -> Option<&'a [u8]>
     ensures between { IsSome result → pending cutter.now ≡ [] }
@@ -71,26 +52,6 @@ fn whole_frame<'a>(cutter: &Cutter, piece: &'a [u8]) -> Option<&'a [u8]>
     }
     let (len, rest) = piece.split_first()?;
     rest.get(..usize::from(*len))
-}
-
-/// Judges the frame of a body, and admits its record where it is accepted. It waits to be answered.
-#[tactic(auto, using(crate::proofs::Rounds::placed_range))]
-fn judge_next(engine: &mut Engine, round: &mut Round, body: &[u8])
-    requires short { length body.now ≤ 255 }
-    requires room { length round.old.outcomes < round.old.most }
-    ensures answers { (start : Start) (answered all after : List (List ℕ)) (number : ℕ) (outbox : List ℕ) (sent : Option (List ℕ)) → after ≡ all ++ body.now ∷ []
-        → Answers start answered all number round.old.outcomes [] engine.old outbox sent → Answers start answered after number round.new.outcomes [] engine.new outbox sent }
-    ensures more { length round.new.outcomes ≡ length round.old.outcomes + 1 }
-    ensures most { round.new.most ≡ round.old.most }
-    ensures sound { (answered : ℕ) → IsSound engine.old round.old.outcomes answered → IsSound engine.new round.new.outcomes answered }
-    ensures rest { engine.new ≡ record engine.old { admission = engine.new.admission } }
-    ensures capacity { engine.new.admission.capacity ≡ engine.old.admission.capacity }
-{
-    let mut x = blank();
-    let read = decode_into(body, &mut x);
-    let verdict = judge(&engine.admission, &x, read);
-    admit(engine, &x, verdict);
-    round.push(&x, verdict);
 }
 
 /// The outcome of the frame of a verdict. Where it is accepted, its record has this place among the accepted ones.
@@ -273,14 +234,14 @@ impl Session {
         ensures answered { self.new.answered ≡ self.old.answered }
     {
         if let Some(body) = whole_frame(&self.cutter, piece) {
-            judge_next(&mut self.engine, &mut self.round, body);
+            self.round.judge(&mut self.engine, body);
             return body.len() + 1;
         }
         let cut = self.cutter.take(piece);
         if !cut.whole {
             return cut.used;
         }
-        judge_next(&mut self.engine, &mut self.round, self.cutter.body());
+        self.round.judge(&mut self.engine, self.cutter.body());
         cut.used
     }
 
