@@ -1,48 +1,12 @@
 -- Bounds stay bounds where a moment is set or added, and where a bound is made exact.
 use Rattle.std.proofs.Common.{◌≡◌, ℕ, zero, suc, Bool, true, false, ◌+◌, ◌-◌, ◌*◌, ◌<◌, ◌≤◌, ◌^◌, List, [], ◌∷◌, ◌++◌, length, replicate, take, drop, min, eqb, slice_index, refl, ap, ◌∙◌, arith, ltb, length-append, length-drop}
-use Rattle.std.specs.Prelude.{Option, IfSome, ◌/◌, slice_set}
+use Rattle.std.specs.Prelude.{◌/◌, slice_set}
 use Rattle.std.proofs.Math.ListN.{get_or-append}
 use Rattle.std.proofs.Math.Seq.{get_or-append_seam}
 use Rattle.std.proofs.lemmas.Bool.Decides.{nat_tests}
 use Rattle.std.proofs.lemmas.List.{get_or-drop, get_or-replicate, get_or-set_other, get_or-set_same, get_or-take, length-replicate, length-set, length-take}
-use Rattle.std.proofs.lemmas.Option.{IfSome_then}
 use Rattle.std.specs.Int.{div_ceil}
 use Rattle.alarms.specs.Bounds.{AreBounds, AreLevels, AtMostEach, IsLeast}
-use Rattle.alarms.specs.Due.{IsFirstDue, NoneDue}
-
--- where none of a block's places is due, none of 8 is
-pub none-of_block : (t first count from : ℕ) (moments : List ℕ) → count ≡ min (length moments - first) 8 → NoneDue t from (first + count) moments → NoneDue t from (first + 8) moments
-none-of_block t first count from moments size none = λ place after before within. none place after (omega arith) within
-
--- where none of a group's blocks has a due place, none of 64 places is due
-pub none-of_group : (t group count from : ℕ) (bounds moments : List ℕ) → AreBounds bounds moments → count ≡ min (length bounds - 8 * group) 8 → NoneDue t from (8 * (8 * group + count)) moments
-    → NoneDue t from (64 * group + 64) moments
-none-of_group t group count from bounds moments are size none = λ place after before within. let enough = are.enough in none place after (omega arith) within
-
--- none of a group is due where its bound isn't
-pub none-below : (t from group : ℕ) (groups bounds moments : List ℕ) → AreLevels groups bounds moments → t < slice_index groups group → NoneDue t from (64 * group) moments
-    → NoneDue t from (64 * (group + 1)) moments
-none-below t from group groups bounds moments are later none = λ place after before within. by place after before within (ltb place (64 * group)) refl where
-  by : (place : ℕ) → from ≤ place → place < 64 * (group + 1) → place < length moments → (b : Bool) → ltb place (64 * group) ≡ b → t < slice_index moments place
-  by place after before within true is = none place after (grind (arith, nat_tests)) within
-  by place after before within false is =
-      let lower : 64 * group ≤ place = grind (arith, nat_tests) in
-      let enough = are.of_places.enough in
-      let own : place / 8 / 8 ≡ group = omega arith in
-      let at : slice_index groups (place / 8 / 8) ≡ slice_index groups group = ap (λ (b : ℕ). slice_index groups b) own in
-      let place_low = are.of_places.below place within in
-      let block_low = are.of_bounds.below (place / 8) (omega arith) in
-      omega arith
-
--- the first due place from one on is that from an earlier one on, where none between is due
-pub first-earlier : (t from start : ℕ) (moments : List ℕ) (found : Option ℕ) → from ≤ start → NoneDue t from start moments → IfSome found (λ place. IsFirstDue t start place moments)
-    → IfSome found (λ place. IsFirstDue t from place moments)
-first-earlier t from start moments found le none some = IfSome_then found some (λ place is. record {
-  after = omega (arith, is.after, le);
-  within = is.within;
-  due = is.due;
-  earlier = λ k after before within. let early = none k after in let late = is.earlier k in grind arith;
-})
 
 -- what a list says behind a set
 set_other : (xs : List ℕ) (at k x : ℕ) → eqb k at ≡ false → slice_index (slice_set xs at x) k ≡ slice_index xs k

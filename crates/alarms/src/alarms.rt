@@ -1,6 +1,6 @@
 //! Moments of many places, searched for those that are due.
 
-ghost use Rattle.std.specs.Prelude.{ℕ, List, ◌≡◌, ◌+◌, ◌*◌, ◌<◌, ◌≤◌, ◌++◌, ◌∷◌, [], None, IfOk, IfSome, OnOk, OnErr, drop, length, replicate, slice_get, slice_index, slice_set, vec_len, vec_capacity};
+ghost use Rattle.std.specs.Prelude.{ℕ, List, ◌≡◌, ◌+◌, ◌*◌, ◌<◌, ◌≤◌, ◌++◌, ◌∷◌, [], None, IfOk, IfSome, OnOk, OnErr, drop, length, max, replicate, slice_get, slice_index, slice_set, vec_len, vec_capacity};
 ghost use Rattle.alarms.specs.Bounds.{AreBounds, AreLevels, IsLeast};
 ghost use Rattle.alarms.specs.Due.{IsFirstDue, NoneDue};
 
@@ -81,95 +81,17 @@ fn first_due(moments: &[u64], from: usize, before: usize, t: u64) -> Option<usiz
     None
 }
 
-/// The first due place of one block from a place of it on. Where none of the rest is due, the bound becomes exact. It stays a
-/// call of its own, as that of a group does.
-#[inline(never)]
-fn first_of_block(
-    moments: &[u64],
-    bounds: &mut [u64],
-    block: usize,
-    from: usize,
-    t: u64,
-) -> Option<usize>
+/// Makes the bound of one block exact.
+fn make_exact(bounds: &mut [u64], moments: &[u64], block: usize)
     requires block { block < length bounds.old }
     requires bounds { AreBounds bounds.old moments.now }
-    requires come { slice_index bounds.old block ≤ t }
-    requires from { 8 * block ≤ from }
     ensures bounds { AreBounds bounds.new moments.now }
     ensures groups { (groups : List ℕ) → AreBounds groups bounds.old → AreBounds groups bounds.new }
     ensures len { length bounds.new ≡ length bounds.old }
-    ensures some { IfSome result (λ place. IsFirstDue t from place moments.now) }
-    ensures none { result ≡ None → NoneDue t from (8 * block + 8) moments.now }
 {
-    let first = PLACES * block;
-    let count = (moments.len() - first).min(PLACES);
-    if let Some(place) = first_due(moments, from, first + count, t) {
-        return Some(place);
-    }
-    let least = least_from(moments, first);
-    bounds[block] = least;
-    None
-}
-
-/// The first due place of one group from a place of it on. Where none of the rest is due, the group's bound becomes exact. It
-/// stays a call of its own: joined into the loop over groups, it would have that loop reckon with its places at each group.
-#[inline(never)]
-fn first_of_group(
-    moments: &[u64],
-    bounds: &mut [u64],
-    groups: &mut [u64],
-    group: usize,
-    from: usize,
-    t: u64,
-) -> Option<usize>
-    requires group { group < length groups.old }
-    requires levels { AreLevels groups.old bounds.old moments.now }
-    requires from { 64 * group ≤ from }
-    ensures levels { AreLevels groups.new bounds.new moments.now }
-    ensures len { length groups.new ≡ length groups.old }
-    ensures some { IfSome result (λ place. IsFirstDue t from place moments.now) }
-    ensures none { result ≡ None → NoneDue t from (64 * group + 64) moments.now }
-{
-    let first = PLACES * group;
-    let count = (bounds.len() - first).min(PLACES);
-    for block in from / PLACES..first + count {
-        if bounds[block] <= t {
-            let start = from.max(PLACES * block);
-            let found = first_of_block(moments, bounds, block, start, t);
-            if found.is_some() {
-                return found;
-            }
-        }
-    }
-    let least = least_from(bounds, first);
-    groups[group] = least;
-    None
-}
-
-/// The first due place from one on, looked for in the groups of the places before an end.
-fn first_of_all(
-    moments: &[u64],
-    bounds: &mut [u64],
-    groups: &mut [u64],
-    from: usize,
-    end: usize,
-    t: u64,
-) -> Option<usize>
-    requires { AreLevels groups.old bounds.old moments.now }
-    ensures levels { AreLevels groups.new bounds.new moments.now }
-    ensures some { IfSome result (λ place. IsFirstDue t from place moments.now) }
-    ensures none { result ≡ None → NoneDue t from end moments.now }
-{
-    for group in from / GROUP..groups.len().min(end.div_ceil(GROUP)) {
-        if groups[group] <= t {
-            let start = from.max(GROUP * group);
-            let found = first_of_group(moments, bounds, groups, group, start, t);
-            if found.is_some() {
-                return found;
-            }
-        }
-    }
-    None
+    // What was read has 64 bits, which isn't known of the list.
+    let _bound = bounds[block];
+    bounds[block] = least_from(moments, PLACES * block);
 }
 
 fn push(moments: &mut Vec<u64>, moment: u64)
@@ -294,6 +216,88 @@ impl Alarms {
         clear_first(&mut self.groups, count.div_ceil(GROUP));
     }
 
+    /// The first due place of one block from a place of it on. Where none of the rest is due, the bound becomes exact. It stays a
+    /// call of its own, as that of a group does.
+    #[inline(never)]
+    fn first_of_block(&mut self, block: usize, from: usize, t: u64) -> Option<usize>
+        requires block { 8 * block < length self.old }
+        requires from { 8 * block ≤ from }
+        ensures some { IfSome result (λ place. IsFirstDue t from place self.old) }
+        ensures none { result ≡ None → NoneDue t from (8 * block + 8) self.old }
+        ensures same { self.new ≡ self.old }
+    {
+        let first = PLACES * block;
+        let count = (self.moments.len() - first).min(PLACES);
+        if let Some(place) = first_due(&self.moments, from, first + count, t) {
+            return Some(place);
+        }
+        make_exact(&mut self.bounds, &self.moments, block);
+        None
+    }
+
+    /// The first due place of one block from a place on. Where the block's bound hasn't come, none is.
+    fn next_of_block(&mut self, block: usize, from: usize, t: u64) -> Option<usize>
+        requires { 8 * block < length self.old }
+        ensures some { IfSome result (λ place. IsFirstDue t (max from (8 * block)) place self.old) }
+        ensures none { result ≡ None → NoneDue t (max from (8 * block)) (8 * block + 8) self.old }
+        ensures same { self.new ≡ self.old }
+    {
+        if t < self.bounds[block] {
+            return None;
+        }
+        self.first_of_block(block, from.max(PLACES * block), t)
+    }
+
+    /// The first due place of one group from a place of it on. Where none of the rest is due, the group's bound becomes exact. It
+    /// stays a call of its own: joined into the loop over groups, it would have that loop reckon with its places at each group.
+    #[inline(never)]
+    fn first_of_group(&mut self, group: usize, from: usize, t: u64) -> Option<usize>
+        requires group { 64 * group < length self.old }
+        requires from { 64 * group ≤ from }
+        ensures some { IfSome result (λ place. IsFirstDue t from place self.old) }
+        ensures none { result ≡ None → NoneDue t from (64 * group + 64) self.old }
+        ensures same { self.new ≡ self.old }
+    {
+        let first = PLACES * group;
+        let count = (self.bounds.len() - first).min(PLACES);
+        for block in from / PLACES..first + count {
+            let found = self.next_of_block(block, from, t);
+            if found.is_some() {
+                return found;
+            }
+        }
+        make_exact(&mut self.groups, &self.bounds, group);
+        None
+    }
+
+    /// The first due place of one group from a place on. Where the group's bound hasn't come, none is.
+    fn next_of_group(&mut self, group: usize, from: usize, t: u64) -> Option<usize>
+        requires { 64 * group < length self.old }
+        ensures some { IfSome result (λ place. IsFirstDue t (max from (64 * group)) place self.old) }
+        ensures none { result ≡ None → NoneDue t (max from (64 * group)) (64 * group + 64) self.old }
+        ensures same { self.new ≡ self.old }
+    {
+        if t < self.groups[group] {
+            return None;
+        }
+        self.first_of_group(group, from.max(GROUP * group), t)
+    }
+
+    /// The first due place from one on, looked for in the groups of the places before an end.
+    fn first_of_all(&mut self, from: usize, end: usize, t: u64) -> Option<usize>
+        ensures some { IfSome result (λ place. IsFirstDue t from place self.old) }
+        ensures none { result ≡ None → NoneDue t from end self.old }
+        ensures same { self.new ≡ self.old }
+    {
+        for group in from / GROUP..self.groups.len().min(end.div_ceil(GROUP)) {
+            let found = self.next_of_group(group, from, t);
+            if found.is_some() {
+                return found;
+            }
+        }
+        None
+    }
+
     /// The first place from one on and before an end whose moment is not after t; None exactly where there is none.
     pub fn next(&mut self, from: usize, end: usize, t: u64) -> Option<usize>
         ensures some { IfSome result (λ place. IsFirstDue t from place self.old) }
@@ -301,14 +305,7 @@ impl Alarms {
         ensures none { result ≡ None → NoneDue t from end self.old }
         ensures same { self.new ≡ self.old }
     {
-        let first = first_of_all(
-            &self.moments,
-            &mut self.bounds,
-            &mut self.groups,
-            from,
-            end,
-            t,
-        );
+        let first = self.first_of_all(from, end, t);
         first.filter(|place| *place < end)
     }
 }
