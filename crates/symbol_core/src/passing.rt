@@ -1,6 +1,7 @@
 //! Quotations that bring nothing but themselves, and trades and ticks that bring nothing but perhaps a new reference price.
 
 ghost use Rattle.std.specs.Prelude.{◌≡◌, ◌<◌, ◌≤◌, ◌++◌, ◌&&◌, [], Bool, None, Some, IfSome, if◌then◌else◌, true, false, is_some, length, nat_le, nat_lt, not, option_to_list, IsOk, OnErr, OnOk};
+ghost use Rattle.wire_in.specs.Records.{is_tick};
 ghost use Rattle.window_core.specs.Deals.{live, mean_of};
 ghost use Rattle.limit_core.specs.Limits.{straddles};
 ghost use Rattle.rulebook.specs.Rules.{at_band, meets};
@@ -21,14 +22,12 @@ use session_core::{Day, Moment, Phase};
 use window_core::{Deal, Window};
 use wire_in::Record;
 
-/// Whether a record is a trade, a clock or an index tick.
-pub fn brings_deal_or_time(x: &Record) -> bool
-    ensures { result ≡ brings_deal_or_time x.now }
+/// Whether a record is a trade.
+pub fn is_trade(x: &Record) -> bool
+    ensures kind { result ≡ true → brings_deal_or_time x.now ≡ true }
+    ensures tick { result ≡ true → is_tick x.now ≡ false }
 {
-    matches!(
-        x,
-        Record::Trade { .. } | Record::IndexTick { .. } | Record::Clock { .. }
-    )
+    matches!(x, Record::Trade { .. })
 }
 
 /// The eligible trade that a record is.

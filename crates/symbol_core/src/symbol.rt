@@ -20,7 +20,7 @@ ghost use Rattle.symbol_core.specs.Ticks.{Idles};
 use crate::due::Due;
 use crate::ingest::{drop_cancelled, keep_deals};
 use crate::messages::Messages;
-use crate::passing::{add_one, brings_deal_or_time, deal_in, drop_old, reserve_deal};
+use crate::passing::{add_one, deal_in, drop_old, is_trade, reserve_deal};
 use crate::record_fields::{quoted_by, traded_price};
 use crate::state::{Kept, OpenStep, Step};
 use price_core::NoMemory;
@@ -175,13 +175,6 @@ impl Symbol {
         self.deals.restart();
     }
 
-    /// Whether the record is a clock or an index tick on a day on which the symbol isn't listed.
-    fn is_away(&self, x: &Record) -> bool
-        ensures { result ≡ is_tick x.now && not (is_some self.now.kept.terms) }
-    {
-        x.is_tick() && !self.kept.terms.is_some()
-    }
-
     fn stay_away(&mut self, t: Moment, market: &MarketView)
         requires { is_some self.old.kept.terms ≡ false }
         ensures { self.new ≡ self.old }
@@ -189,16 +182,17 @@ impl Symbol {
         self.due = Some(Due::without_end(t, market));
     }
 
-    /// Passes over a clock or an index tick that brings nothing, but removes the trades that are five minutes old. False: the
-    /// record is no such tick, and all is as it was.
+    /// Passes over a clock or an index tick that brings nothing, but removes the trades that are five minutes old. False: it is
+    /// no such tick, and all is as it was.
     fn pass(&mut self, x: &Record, market: &MarketView) -> bool
+        requires { is_tick x.now ≡ true }
         ensures nothing { result ≡ true → (before : List Said) → Evaluates market.now x.now self.old self.new before before }
         ensures recent { result ≡ true → live (moment_of x.now) self.new.deals ≡ self.new.deals }
         ensures others { result ≡ false → self.new ≡ self.old }
     {
         let t = x.moment();
         match &mut self.due {
-            Some(due) if x.is_tick() && due.holds(t, market) => {
+            Some(due) if due.holds(t, market) => {
                 due.from = t;
                 drop_old(t, &mut self.deals);
                 true
@@ -316,6 +310,32 @@ impl Symbol {
         }
     }
 
+    /// Evaluates a clock or an index tick. It brings nothing on a day on which the symbol isn't listed.
+    #[inline(always)]
+    fn take_time(
+        &mut self,
+        x: &Record,
+        market: &MarketView,
+        out: &mut Messages,
+    ) -> Result<(), NoMemory>
+        requires kind { is_tick x.now ≡ true }
+        requires room { length out.old + 15 ≤ most_of_symbol }
+        ensures ok { OnOk result (Evaluates market.now x.now self.old self.new out.old out.new) }
+        ensures err { OnErr result ((self.new ≡ self.old) × (out.new ≡ out.old)) }
+        ensures succeeds { traded_price market.now.day self.old.kept.id x.now ≡ None → IsOk result }
+        ensures room { 1 ≤ self.old.spare → IsOk result }
+        ensures recent { is_some self.new.kept.terms ≡ true → OnOk result (live (moment_of x.now) self.new.deals ≡ self.new.deals) }
+    {
+        if !self.is_listed() {
+            self.stay_away(x.moment(), market);
+            return Ok(());
+        }
+        if self.pass(x, market) {
+            return Ok(());
+        }
+        self.take_deal_or_time(x, market, out)
+    }
+
     /// Evaluates a record: leaves what it announces of the symbol and what the rules then give, in place of the messages that
     /// were there. It leaves none at a Day record, which begins the day, nor at a clock or an index tick of a day on which the
     /// symbol isn't listed. Out of memory, it leaves none and doesn't change the symbol; that can't come of a record that is no
@@ -352,19 +372,15 @@ impl Symbol {
         ensures room { 1 ≤ self.old.spare → IsOk result }
         ensures recent { is_some self.new.kept.terms ≡ true → OnOk result (live (moment_of x.now) self.new.deals ≡ self.new.deals) }
     {
+        if is_trade(x) {
+            return self.take_deal_or_time(x, market, out);
+        }
+        if x.is_tick() {
+            return self.take_time(x, market, out);
+        }
         if x.is_day() {
             self.begin_day(x, market);
             return Ok(());
-        }
-        if self.is_away(x) {
-            self.stay_away(x.moment(), market);
-            return Ok(());
-        }
-        if self.pass(x, market) {
-            return Ok(());
-        }
-        if brings_deal_or_time(x) {
-            return self.take_deal_or_time(x, market, out);
         }
         self.obey(x, market, out)
     }

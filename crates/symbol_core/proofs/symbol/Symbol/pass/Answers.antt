@@ -28,7 +28,6 @@ returns-in-Some-clause-nothing c = λ passed before.
     let k = c.self.inside.kept in
     let deals = c.self.inside.deals.deals in
     let due = c.in-Some.due in
-    let tick = sym c.is_tick.ensures ∙ c.if-is_tick.true in
     let from = subst (λ (t : ℕ). due.from ≤ t) c.moment-t.ensures (c.holds.ensures.from c.if-holds.true) in
     let until = subst (λ (t : ℕ). t < due.until) c.moment-t.ensures (c.holds.ensures.until c.if-holds.true) in
     let is = subst (λ (o : Option Due). IsDue o k deals) c.in-Some.is c.self.invariant in
@@ -38,8 +37,8 @@ returns-in-Some-clause-nothing c = λ passed before.
     subst (λ (old : SymbolState). Evaluates market x old (record { kept = k; deals = c.drop_old.new.deals.deals; spare = left }) before before) c.self.view_is
     (subst (λ (ds : List Deal). Evaluates market x held (record { kept = k; deals = ds; spare = left }) before before) (sym gone)
     (evaluated-with market x held (record { kept = k; deals = live (moment_of x) deals; spare = 0 }) held.spare left before before
-    (evaluated-live market x held before tick
-    (evaluated-due market x held due before is tick from until (c.holds.ensures.market c.if-holds.true)))))
+    (evaluated-live market x held before c.requires
+    (evaluated-due market x held due before is c.requires from until (c.holds.ensures.market c.if-holds.true)))))
 
 pub returns-in-Some-clause-recent : goal.returns-in-Some-clause-recent
 returns-in-Some-clause-recent c = λ passed.
