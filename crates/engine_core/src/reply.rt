@@ -90,6 +90,7 @@ fn give_up<H: Host>(outbox: &mut Outbox, host: &mut H) -> Fault
 }
 
 /// Evaluates a record. Where memory is short, what waits is sent before that is told.
+#[inline(always)]
 pub fn evaluate<H: Host>(
     engine: &mut Engine,
     outbox: &mut Outbox,

@@ -191,7 +191,8 @@ impl Ahead {
     }
 
     /// Hands out the messages of the oldest record that is evaluated ahead. It fails where its block, or one before, found
-    /// no memory.
+    /// no memory. It stays a call of its own, so that one worker's way past it is a jump.
+    #[inline(never)]
     pub(crate) fn apply(&mut self, out: &mut Vec<Stamped>) -> Result<(), NoMemory>
         ensures given { (x : Record) (applied later : List Record) → RepresentsAhead self.old applied → HasAhead self.old (x ∷ later)
             → OnOk result (out.new.items ≡ out.old.items ++ newest_messages (x ∷ applied)) }

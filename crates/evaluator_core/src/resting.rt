@@ -105,6 +105,8 @@ impl Resting {
     }
 
     /// Evaluates a record that is admissible after those before. It takes room for its messages, and an error is want of memory.
+    /// It stays a call of its own, so that one worker's way past it is a jump.
+    #[inline(never)]
     pub(crate) fn apply(&mut self, x: &Record, out: &mut Vec<Stamped>) -> Result<(), NoMemory>
         ensures given { (capacity : ℕ) (applied : List Record) → RepresentsResting self.old applied → verdict capacity applied x.now ≡ None
             → OnOk result (out.new.items ≡ out.old.items ++ newest_messages (x.now ∷ applied)) }
