@@ -1,6 +1,6 @@
 //! A session: from pieces of the input to what is kept and sent.
 
-ghost use Rattle.std.specs.Prelude.{◌≡◌, ◌≢◌, ◌-◌, ◌+◌, ◌*◌, ◌<◌, ◌≤◌, ◌^◌, ◌++◌, ◌∷◌, [], ℕ, List, Option, None, Err, OnOk, IfSome, IsSome, length, take, drop};
+ghost use Rattle.std.specs.Prelude.{◌≡◌, ◌≢◌, ◌-◌, ◌+◌, ◌*◌, ◌<◌, ◌≤◌, ◌^◌, ◌++◌, ◌∷◌, [], ℕ, List, Option, None, Err, OnOk, IfSome, length, take, drop};
 ghost use Rattle.host_core.specs.Outside.{Elapses};
 ghost use Rattle.host_core.specs.Frames.{OnlyWrites};
 ghost use Rattle.host_core.specs.Faults.{Causes};
@@ -40,16 +40,12 @@ pub struct Session {
     pub answered: u64,
 }
 
-/// The body of the whole frame that a piece begins with, where none was begun before. It is judged where it lies.
-fn whole_frame<'a>(cutter: &Cutter, piece: &'a [u8]) -> Option<&'a [u8]>
-    ensures between { IsSome result → pending cutter.now ≡ [] }
+/// The body of the whole frame that a piece begins with. It is judged where it lies.
+fn whole_frame<'a>(piece: &'a [u8]) -> Option<&'a [u8]>
     ensures prefix { IfSome result (λ body. framed body.now ≡ take (length body.now + 1) piece.now) }
     ensures within { IfSome result (λ body. length body.now < length piece.now) }
     ensures short { IfSome result (λ body. length body.now ≤ 255) }
 {
-    if cutter.inside() {
-        return None;
-    }
     let (len, rest) = piece.split_first()?;
     rest.get(..usize::from(*len))
 }
@@ -219,13 +215,15 @@ impl Session {
         }
     }
 
-    /// Takes bytes up to the end of a frame or of the piece, and judges the frame if it is whole. Answers how many bytes
-    /// it took.
-    fn advance(&mut self, piece: &[u8]) -> usize
+    /// Takes bytes up to the end of the frame that they go on with, or of the piece, and judges the frame if it is whole.
+    /// Answers how many bytes it took. What a piece cuts comes here, and whole frames don't.
+    #[inline(never)]
+    fn go_on(&mut self, piece: &[u8]) -> usize
         requires room { length self.old.round.outcomes < self.old.round.most }
         ensures used { (result ≤ length piece.now) × (0 < length piece.now → 0 < result) }
         ensures judges { (start : Start) (answered : List (List ℕ)) (read : List ℕ) (sent : Option (List ℕ)) → Judges start answered read sent self.old
             → Judges start answered (read ++ take result piece.now) sent self.new }
+        ensures between { result < length piece.now → pending self.new.cutter ≡ [] }
         ensures more { length self.new.round.outcomes ≤ length self.old.round.outcomes + 1 }
         ensures most { self.new.round.most ≡ self.old.round.most }
         ensures sound { (answered : ℕ) → IsSound self.old.engine self.old.round.outcomes answered → IsSound self.new.engine self.new.round.outcomes answered }
@@ -233,16 +231,57 @@ impl Session {
         ensures evaluated { self.new.engine.evaluated ≡ self.old.engine.evaluated }
         ensures answered { self.new.answered ≡ self.old.answered }
     {
-        if let Some(body) = whole_frame(&self.cutter, piece) {
-            self.round.judge(&mut self.engine, body);
-            return body.len() + 1;
-        }
         let cut = self.cutter.take(piece);
         if !cut.whole {
             return cut.used;
         }
         self.round.judge(&mut self.engine, self.cutter.body());
         cut.used
+    }
+
+    /// Takes bytes of the frame that was begun before, as `go_on`: none where none was.
+    fn finish(&mut self, piece: &[u8]) -> usize
+        requires room { length self.old.round.outcomes < self.old.round.most }
+        requires some { 0 < length piece.now }
+        ensures used { result ≤ length piece.now }
+        ensures judges { (start : Start) (answered : List (List ℕ)) (read : List ℕ) (sent : Option (List ℕ)) → Judges start answered read sent self.old
+            → Judges start answered (read ++ take result piece.now) sent self.new }
+        ensures between { result < length piece.now → pending self.new.cutter ≡ [] }
+        ensures more { length self.new.round.outcomes ≤ length self.old.round.outcomes + result }
+        ensures most { self.new.round.most ≡ self.old.round.most }
+        ensures sound { (answered : ℕ) → IsSound self.old.engine self.old.round.outcomes answered → IsSound self.new.engine self.new.round.outcomes answered }
+        ensures capacity { self.new.engine.admission.capacity ≡ self.old.engine.admission.capacity }
+        ensures evaluated { self.new.engine.evaluated ≡ self.old.engine.evaluated }
+        ensures answered { self.new.answered ≡ self.old.answered }
+    {
+        if self.cutter.inside() {
+            return self.go_on(piece);
+        }
+        0
+    }
+
+    /// Takes the frame that a piece begins with, and judges it if it is whole. None was begun before. Answers how many bytes
+    /// it took.
+    #[inline(always)]
+    fn advance(&mut self, piece: &[u8]) -> usize
+        requires room { length self.old.round.outcomes < self.old.round.most }
+        requires between { pending self.old.cutter ≡ [] }
+        ensures used { (result ≤ length piece.now) × (0 < length piece.now → 0 < result) }
+        ensures judges { (start : Start) (answered : List (List ℕ)) (read : List ℕ) (sent : Option (List ℕ)) → Judges start answered read sent self.old
+            → Judges start answered (read ++ take result piece.now) sent self.new }
+        ensures between { result < length piece.now → pending self.new.cutter ≡ [] }
+        ensures more { length self.new.round.outcomes ≤ length self.old.round.outcomes + 1 }
+        ensures most { self.new.round.most ≡ self.old.round.most }
+        ensures sound { (answered : ℕ) → IsSound self.old.engine self.old.round.outcomes answered → IsSound self.new.engine self.new.round.outcomes answered }
+        ensures capacity { self.new.engine.admission.capacity ≡ self.old.engine.admission.capacity }
+        ensures evaluated { self.new.engine.evaluated ≡ self.old.engine.evaluated }
+        ensures answered { self.new.answered ≡ self.old.answered }
+    {
+        if let Some(body) = whole_frame(piece) {
+            self.round.judge(&mut self.engine, body);
+            return body.len() + 1;
+        }
+        self.go_on(piece)
     }
 
     /// How many frames are judged before they are answered: as many as the round takes, and fewer where their records aren't
@@ -260,6 +299,31 @@ impl Session {
         }
     }
 
+    /// Takes frames of a piece from an offset on, at which none is begun, up to its end or until enough frames wait. Answers
+    /// the offset behind them.
+    fn take_frames(&mut self, piece: &[u8], from: usize) -> usize
+        requires some { 1 ≤ self.old.round.most }
+        requires within { from ≤ length piece.now }
+        requires between { from < length piece.now → pending self.old.cutter ≡ [] }
+        ensures within { result ≤ length piece.now }
+        ensures some { result < length piece.now → 0 < length self.new.round.outcomes }
+        ensures judges { (start : Start) (answered : List (List ℕ)) (read : List ℕ) (sent : Option (List ℕ)) → Judges start answered (read ++ take from piece.now) sent self.old
+            → Judges start answered (read ++ take result piece.now) sent self.new }
+        ensures few { from + length self.new.round.outcomes ≤ result + length self.old.round.outcomes }
+        ensures most { self.new.round.most ≡ self.old.round.most }
+        ensures sound { IsSound self.old.engine self.old.round.outcomes self.old.answered → IsSound self.new.engine self.new.round.outcomes self.new.answered }
+        ensures capacity { self.new.engine.admission.capacity ≡ self.old.engine.admission.capacity }
+        ensures evaluated { self.new.engine.evaluated ≡ self.old.engine.evaluated }
+        ensures answered { self.new.answered ≡ self.old.answered }
+    {
+        let enough = self.enough();
+        let mut at = from;
+        while at < piece.len() && self.round.len() < enough {
+            at += self.advance(&piece[at..]);
+        }
+        at
+    }
+
     /// Takes bytes of a piece from an offset on, up to its end or until enough frames wait. Answers the offset behind them.
     fn fill(&mut self, piece: &[u8], from: usize) -> usize
         requires some { 1 ≤ self.old.round.most }
@@ -275,12 +339,8 @@ impl Session {
         ensures evaluated { self.new.engine.evaluated ≡ self.old.engine.evaluated }
         ensures answered { self.new.answered ≡ self.old.answered }
     {
-        let enough = self.enough();
-        let mut at = from;
-        while at < piece.len() && self.round.len() < enough {
-            at += self.advance(&piece[at..]);
-        }
-        at
+        let begun = self.finish(&piece[from..]);
+        self.take_frames(piece, from + begun)
     }
 }
 
