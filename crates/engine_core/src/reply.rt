@@ -43,11 +43,7 @@ pub fn append_messages<H: Host>(
     let mut number = before;
     for message in messages {
         number += 1;
-        let frame = Frame::Numbered {
-            number,
-            stamped: *message,
-        };
-        outbox.append(host, &frame)?;
+        outbox.append_numbered(host, number, message)?;
     }
     Ok(())
 }

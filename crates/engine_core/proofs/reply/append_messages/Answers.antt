@@ -24,22 +24,22 @@ loop-message-preserved g c =
       number = omega (arith, c.loop-message.invariant.number);
       pending = λ begin text expects.
           let now = c.loop-message.invariant.pending begin text expects in
-          (_, c.in_ok-append.ensures.pending begin now.0 now.1, append_assoc now.0 _ _ ∙ rw split at now.2);
+          (_, c.in_ok-append_numbered.ensures.pending begin now.0 now.1, append_assoc now.0 _ _ ∙ rw split at now.2);
       moments = λ begin text expects.
           let now = c.loop-message.invariant.pending begin text expects in
-          sends_on (c.loop-message.invariant.moments begin text expects) now.0 _ now.2 (c.append.ensures.moments begin now.0 now.1);
-      keeps = onward c.loop-message.invariant.keeps c.append.ensures.outside.keeps;
-      none = faultless c.loop-message.invariant.none c.in_ok-append.ensures.outside.causes;
+          sends_on (c.loop-message.invariant.moments begin text expects) now.0 _ now.2 (c.append_numbered.ensures.moments begin now.0 now.1);
+      keeps = onward c.loop-message.invariant.keeps c.append_numbered.ensures.outside.keeps;
+      none = faultless c.loop-message.invariant.none c.in_ok-append_numbered.ensures.outside.causes;
       empty = λ none. absurd (omega (arith, ap length none, c.loop-message-test.true));
     }
 
-pub returns-in_err-append-clause-moments : goal.returns-in_err-append-clause-moments
-returns-in_err-append-clause-moments g c = λ begin text expects.
+pub returns-in_err-append_numbered-clause-moments : goal.returns-in_err-append_numbered-clause-moments
+returns-in_err-append_numbered-clause-moments g c = λ begin text expects.
     let now = c.loop-message.invariant.pending begin text expects in
-    sends_on (c.loop-message.invariant.moments begin text expects) now.0 _ now.2 (c.append.ensures.moments begin now.0 now.1)
+    sends_on (c.loop-message.invariant.moments begin text expects) now.0 _ now.2 (c.append_numbered.ensures.moments begin now.0 now.1)
 
-pub returns-in_err-append-clause-none : goal.returns-in_err-append-clause-none
-returns-in_err-append-clause-none g c = λ none. absurd (omega (arith, ap length none, c.loop-message-test.true))
+pub returns-in_err-append_numbered-clause-none : goal.returns-in_err-append_numbered-clause-none
+returns-in_err-append_numbered-clause-none g c = λ none. absurd (omega (arith, ap length none, c.loop-message-test.true))
 
 pub returns-clause-none : goal.returns-clause-none
 returns-clause-none g c = λ none. (refl, (c.loop-message.invariant.empty none).0, (c.loop-message.invariant.empty none).1)
