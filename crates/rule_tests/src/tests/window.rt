@@ -2,9 +2,7 @@
 
 use super::script::{Step, play};
 use super::values::{moment, price, price_or_none};
-use Call::{
-    Add, Advance, Cancel, IsLive, IsNear, LiveUntil, Mean, MovesFrom, Oldest, Restart, Trade,
-};
+use Call::{Add, Advance, Cancel, IsLive, LiveUntil, Mean, MovesFrom, Oldest, Restart, Trade};
 use session_core::Moment;
 use std::process::Abort;
 use std::time::{Duration, Instant};
@@ -26,8 +24,6 @@ enum Call {
     /// Whether all deals are live at a time.
     IsLive(u64, bool),
     LiveUntil(Option<u64>),
-    /// Whether all prices are near one.
-    IsNear(u64, bool),
     /// From a time on, against a reference price: when the mean moves, if it does.
     MovesFrom(u64, u64, Option<u64>),
 }
@@ -96,7 +92,6 @@ impl Step<Window> for Call {
             Oldest(want) => is_oldest(window, want),
             IsLive(nanos, want) => window.are_live(after(nanos)) == want,
             LiveUntil(want) => window.live_until() == time_of(want),
-            IsNear(units, want) => window.stays_near(price(units)) == want,
             MovesFrom(nanos, units, want) => {
                 window.moves_from(after(nanos).nanos(), price(units)) == time_of(want)
             }
@@ -264,35 +259,34 @@ fn deals_out_of_order_leave_when_they_are_five_minutes_old(rt: HostRuntime) {
 }
 
 #[test]
-fn prices_are_near_where_none_is_one_per_cent_away(rt: HostRuntime) {
-    for (units, near) in [
-        (495_000, false),
-        (495_001, true),
-        (504_999, true),
-        (505_000, false),
+fn a_price_moves_the_mean_at_one_per_cent(rt: HostRuntime) {
+    for (units, from) in [
+        (495_000, Some(0)),
+        (495_001, None),
+        (504_999, None),
+        (505_000, Some(0)),
     ] {
         follow(
             &rt,
             &[
-                IsNear(500_000, true),
-                Trade(0, 1, 500_000),
-                Trade(1, 2, units),
-                Trade(2, 3, 500_000),
-                IsNear(500_000, near),
+                MovesFrom(0, 500_000, None),
+                Trade(0, 1, units),
+                MovesFrom(0, 500_000, from),
             ],
         );
     }
 }
 
-/// A trade at a price, to which all prices are near then, and not to one a little more than one per cent above.
+/// A trade at a price, near which the mean is then until a trade leaves, and not near one a little more than one per cent above.
 fn is_near_alone(window: &mut Window, nanos: u64, number: u32, units: u64) -> bool {
     let beyond = units.saturating_add(5_100);
+    let now = after(nanos).nanos();
     trade(window, nanos, number, units)
-        && window.stays_near(price(units))
-        && !window.stays_near(price(beyond))
+        && window.moves_from(now, price(units)) > now
+        && window.moves_from(now, price(beyond)) == now
 }
 
-/// Whether prices that drift, a trade every ten seconds, are near the last one and not near the first.
+/// Whether the mean of prices that drift, a trade every ten seconds, is near the last one and not near the first.
 fn drifts(window: &mut Window) -> bool {
     let mut is_right = true;
     for step in 0..96_u32 {
@@ -300,26 +294,28 @@ fn drifts(window: &mut Window) -> bool {
         let nanos = 10_000_000_000 * u64::from(step);
         is_right &= is_near_alone(window, nanos, step, units);
     }
-    is_right && !window.stays_near(price(500_000))
+    let end = after(950_000_000_000).nanos();
+    is_right && window.moves_from(end, price(500_000)) == end
 }
 
 #[test]
-fn prices_that_drift_by_one_per_cent_and_a_half_stay_near_the_last(rt: HostRuntime) {
+fn the_mean_of_prices_that_drift_by_one_per_cent_and_a_half_stays_near_the_last(rt: HostRuntime) {
     let mut window = Window::new(rt.alloc()).unwrap();
     assert!(&rt; drifts(&mut window));
 }
 
 #[test]
-fn a_far_price_is_forgotten_within_ten_minutes(rt: HostRuntime) {
+fn a_far_price_is_forgotten_once_it_has_left(rt: HostRuntime) {
     follow(
         &rt,
         &[
             Trade(0, 1, 600_000),
             Trade(200_000_000_000, 2, 500_000),
-            IsNear(500_000, false),
+            MovesFrom(200_000_000_000, 500_000, Some(200_000_000_000)),
             Trade(400_000_000_000, 3, 500_000),
+            MovesFrom(400_000_000_000, 500_000, None),
             Advance(500_000_000_000),
-            IsNear(500_000, true),
+            MovesFrom(500_000_000_000, 500_000, None),
         ],
     )
 }
@@ -331,17 +327,17 @@ fn a_far_price_is_forgotten_with_the_last_deal(rt: HostRuntime) {
         &[
             Trade(0, 1, 600_000),
             Advance(300_000_000_000),
-            IsNear(500_000, true),
+            MovesFrom(300_000_000_000, 500_000, None),
             Trade(300_000_000_001, 2, 600_000),
             Restart,
             Trade(0, 1, 500_000),
-            IsNear(500_000, true),
+            MovesFrom(0, 500_000, None),
         ],
     )
 }
 
 #[test]
-fn prices_of_deals_out_of_order_stay_known(rt: HostRuntime) {
+fn deals_out_of_order_may_move_the_mean_at_any_time(rt: HostRuntime) {
     follow(
         &rt,
         &[
@@ -349,7 +345,7 @@ fn prices_of_deals_out_of_order_stay_known(rt: HostRuntime) {
             Add(60_000_000_000, 2, 600_000),
             Add(0, 3, 500_000),
             Advance(300_000_000_000),
-            IsNear(500_000, false),
+            MovesFrom(300_000_000_000, 500_000, Some(300_000_000_000)),
             Advance(360_000_000_000),
             Mean(Some(500_000)),
         ],
