@@ -143,8 +143,9 @@ fn a_mean_moves_when_a_deal_leaves(rt: HostRuntime) {
     )
 }
 
-/// Nine deals, a nanosecond one after the other, of which the last has a price of its own.
-fn nine<R: Abort + AllocGlobal>(rt: &R, last: u64, moves: Option<u64>) {
+/// Nine deals, a nanosecond one after the other, of which the last has a price of its own. The first of them leaves after five
+/// minutes.
+fn nine<R: Abort + AllocGlobal>(rt: &R, last: u64) {
     follow(
         rt,
         &[
@@ -157,19 +158,15 @@ fn nine<R: Abort + AllocGlobal>(rt: &R, last: u64, moves: Option<u64>) {
             Trade(6, 6, 500_000),
             Trade(7, 7, 500_000),
             Trade(8, 8, last),
-            MovesFrom(0, 500_000, moves),
+            MovesFrom(0, 500_000, Some(300_000_000_000)),
         ],
     )
 }
 
 #[test]
 fn of_nine_deals_the_first_alone_is_looked_at(rt: HostRuntime) {
-    nine(&rt, 510_000, Some(300_000_000_000))
-}
-
-#[test]
-fn nine_deals_near_the_reference_price_move_at_no_time(rt: HostRuntime) {
-    nine(&rt, 504_999, None)
+    nine(&rt, 510_000);
+    nine(&rt, 504_999);
 }
 
 #[test]
