@@ -2,3 +2,4 @@ pub mod Behind
 pub mod Recovering
 pub mod OneDamage
 pub mod Held
+mod Room

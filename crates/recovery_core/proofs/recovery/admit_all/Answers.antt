@@ -2,9 +2,11 @@ use Rattle.std.proofs.Common.{◌≡◌, ◌≢◌, ◌+◌, List, ◌++◌, Non
 use Rattle.std.proofs.lemmas.List.{take_all, take-append-drop}
 use Rattle.wire_in.specs.declared.record.Record.{Record}
 use Rattle.journal_core.specs.Layout.{with_batch}
+use Rattle.engine_core.specs.declared.engine.Engine.{Engine}
 use Rattle.engine_core.proofs.Answering.{drop_one}
 use Rattle.recovery_core.specs.Recoveries.{Admits}
 use Rattle.recovery_core.proofs.Recovering.{judges, with_next}
+use Rattle.recovery_core.proofs.Room.{has_room}
 use Rattle.recovery_core.proofs.recovery.admit_all.Goals as goal
 
 pub loop-x-init : goal.loop-x-init
@@ -33,7 +35,17 @@ loop-x-preserved c =
             lawful = (sym (judges a x c.verdict.ensures.exact_at) ∙ none, a.lawful);
           });
       rest = search rules;
-      small = search rules;
+      small =
+          let before = c.loop-x.invariant.small in
+          let room = has_room c.loop-x.engine.admission x (sym c.verdict.ensures.kept ∙ none) in
+          let evaluated : c.admit.new.self.evaluated ≡ c.loop-x.engine.evaluated = ap (λ (e : Engine). e.evaluated) c.admit.ensures.rest in
+          let published : c.admit.new.self.published ≡ c.loop-x.engine.published = ap (λ (e : Engine). e.published) c.admit.ensures.rest in
+          record {
+            range = omega (arith, before.range, c.admit.ensures.capacity);
+            within = omega (arith, room, c.admit.ensures.count, c.admit.ensures.capacity);
+            evaluated = omega (arith, before.evaluated, evaluated, c.admit.ensures.count);
+            few = omega (arith, before.few, evaluated, published);
+          };
       count = search rules;
       capacity = c.admit.ensures.capacity ∙ c.loop-x.invariant.capacity;
     }
