@@ -9,7 +9,6 @@ use Rattle.wire_in.specs.declared.record.Refusal.TheVariants.{UnknownType}
 use Rattle.journal_core.specs.Layout.{with_batch}
 use Rattle.rulebook.specs.Admission.{verdict}
 use Rattle.rulebook.specs.Base as bases
-use Rattle.rulebook.proofs.Lawful.{passes}
 use Rattle.rulebook.proofs.Origins.{verdict-over, verdict_after-same}
 use Rattle.market_core.specs.AdmissionState as admissions
 use Rattle.market_core.specs.AdmissionState.{AdmissionState, Stands}
@@ -45,15 +44,7 @@ none_of_type kind rest other = shut (nat_le 10 (length (kind ∷ rest))) (kind =
 
 -- a record that isn't refused finds a place under the capacity
 pub has_place : (a : AdmissionState) (x : Record) → admissions.refusal_of a x ≡ None → a.count + 1 ≤ a.capacity
-has_place a x e =
-    let after_day = (passes _ _ _ e).1 in
-    let after_order = (passes (admissions.is_out_of_order a.day a.last x) _ _ after_day).1 in
-    let after_unknown = (passes (admissions.names_unlisted a.day a.dates x) _ _ after_order).1 in
-    let after_again = (passes (admissions.lists_twice a.day a.dates a.directory x) _ _ after_unknown).1 in
-    at a.capacity a.count (passes (nat_le a.capacity a.count) _ None (passes (admissions.lacks_room a.directory x) _ _ after_again).1).0
-  where
-    at : (c n : ℕ) → nat_le c n ≡ false → n + 1 ≤ c
-    at c n full = grind (arith, nat_tests)
+has_place a x e = grind (arith, nat_tests)
 
 -- a frame brings no new record, or one that isn't refused
 pub by_new : (P : List Record → Type 0) (a : AdmissionState) (part : Result (ℕ × Record) Refusal) → P [] → ((x : Record) → admissions.refusal_of a x ≡ None → P (x ∷ [])) → P (new_by a part)

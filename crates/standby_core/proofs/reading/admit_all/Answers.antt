@@ -5,6 +5,7 @@ use Rattle.journal_core.specs.Layout.{with_batch}
 use Rattle.recovery_core.proofs.Recovering.{with_next}
 use Rattle.standby_core.specs.Reading.{Admits}
 use Rattle.standby_core.proofs.Admitting.{drop_one, judges}
+use Rattle.standby_core.proofs.OneFrame.{has_place}
 use Rattle.standby_core.proofs.reading.admit_all.Goals as goal
 
 pub loop-x-init : goal.loop-x-init
@@ -30,7 +31,7 @@ loop-x-preserved c =
             count = omega (arith, c.admit.ensures.count, a.count);
             lawful = (sym (judges a x c.verdict.ensures.exact_at) ∙ none, a.lawful);
           });
-      within = search rules;
+      within = omega (arith, has_place c.loop-x.admission x (sym c.verdict.ensures.kept ∙ none), c.admit.ensures.count, c.admit.ensures.capacity);
       count = search rules;
       capacity = c.admit.ensures.capacity ∙ c.loop-x.invariant.capacity;
     }
