@@ -1,10 +1,10 @@
 -- Bounds stay bounds where a moment is set or added, and where a bound is made exact.
-use Rattle.std.proofs.Common.{◌≡◌, ℕ, zero, suc, Bool, true, false, ◌+◌, ◌-◌, ◌*◌, ◌<◌, ◌≤◌, ◌^◌, List, [], ◌∷◌, ◌++◌, length, replicate, take, drop, min, eqb, slice_index, refl, ap, ◌∙◌, arith, ltb, length-append, length-drop}
+use Rattle.std.proofs.Common.{◌≡◌, ℕ, zero, suc, Bool, true, false, ◌+◌, ◌-◌, ◌*◌, ◌<◌, ◌≤◌, ◌^◌, List, [], ◌∷◌, ◌++◌, length, replicate, take, drop, min, eqb, slice_index, refl, ap, subst, ◌∙◌, arith, ltb, length-append, length-drop}
 use Rattle.std.specs.Prelude.{◌/◌, slice_set}
 use Rattle.std.proofs.Math.ListN.{get_or-append}
 use Rattle.std.proofs.Math.Seq.{get_or-append_seam}
 use Rattle.std.proofs.lemmas.Bool.Decides.{nat_tests}
-use Rattle.std.proofs.lemmas.List.{get_or-drop, get_or-replicate, get_or-set_other, get_or-set_same, get_or-take, length-replicate, length-set, length-take}
+use Rattle.std.proofs.lemmas.List.{get_or-drop, get_or-replicate, get_or-set_other, get_or-set_same, get_or-take, length-replicate, length-set, length-take, set-set}
 use Rattle.std.specs.Int.{div_ceil}
 use Rattle.alarms.specs.Bounds.{AreBounds, AreLevels, AtMostEach, IsLeast}
 
@@ -76,6 +76,15 @@ set_both bounds moments place low moment are lt low_bound low_moment =
     } in
     let at = get_or-set_same bounds (place / 8) low 0 block in
     set_place (slice_set bounds (place / 8) low) moments place moment lowered (omega arith)
+
+-- a moment is set, and its bound is made exact
+pub set_exact : (bounds moments : List ℕ) (place least moment : ℕ) → AreBounds bounds moments → place < length moments → IsLeast least (8 * (place / 8)) (8 * (place / 8) + 8) (slice_set moments place moment)
+    → AreBounds (slice_set bounds (place / 8) least) (slice_set moments place moment)
+set_exact bounds moments place least moment are lt is =
+    let block : place / 8 < length bounds = omega (arith, lt, are.enough) in
+    let any : AreBounds (slice_set bounds (place / 8) 0) (slice_set moments place moment) = set_both bounds moments place 0 moment are lt (omega arith) (omega arith) in
+    subst (λ (b : List ℕ). AreBounds b (slice_set moments place moment)) (set-set bounds (place / 8) 0 least)
+    (exact (place / 8) least (slice_set bounds (place / 8) 0) (slice_set moments place moment) any (omega (arith, block, length-set bounds (place / 8) 0)) is)
 
 -- a bound of a group stays one where a bound below it rises to the least of its places
 pub raised : (block least : ℕ) (groups bounds moments : List ℕ) → AreBounds bounds moments → AreBounds groups bounds → block < length bounds → slice_index bounds block < 2 ^ 64

@@ -206,6 +206,20 @@ impl Alarms {
         }
     }
 
+    /// Sets the moment of a place that was due, and makes its bounds exact. `set` leaves them at the moment that has come, and the
+    /// next search would look at all these places in vain.
+    #[inline(never)]
+    pub fn put_off(&mut self, place: usize, moment: u64)
+        requires { place < length self.old }
+        ensures { self.new ≡ slice_set self.old place moment }
+    {
+        let block = place / PLACES;
+        let group = block / PLACES;
+        self.moments[place] = moment;
+        self.bounds[block] = least_from(&self.moments, PLACES * block);
+        self.groups[group] = least_from(&self.bounds, PLACES * group);
+    }
+
     /// Makes the first places, so many, due at every moment.
     pub fn make_due(&mut self, count: usize)
         requires { count ≤ length self.old }

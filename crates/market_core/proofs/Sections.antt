@@ -1,10 +1,9 @@
 -- Stocks that a tick brings nothing are left as they are, and are evaluated all the same.
-use Rattle.std.proofs.Common.{◌≡◌, ◌≢◌, ℕ, Bool, true, false, zero, suc, ◌+◌, ◌-◌, ◌<◌, ◌≤◌, List, [], ◌∷◌, ◌++◌, length, Option, Some, None, Result, Ok, Err, refl, sym, ap, subst, ◌∙◌, add-one, arith}
-use Rattle.std.specs.Prelude.{OnOk, drop, nat_le, replicate, slice_get, slice_index, slice_set}
+use Rattle.std.proofs.Common.{◌≡◌, ◌≢◌, ℕ, Bool, true, false, zero, suc, ◌+◌, ◌-◌, ◌<◌, ◌≤◌, List, [], ◌∷◌, ◌++◌, length, Option, Some, None, refl, sym, ap, subst, ◌∙◌, add-one, arith}
+use Rattle.std.specs.Prelude.{drop, nat_le, replicate, slice_get, slice_index, slice_set}
 use Rattle.std.proofs.lemmas.Bool.Decides.{nat_tests}
 use Rattle.std.proofs.lemmas.List.{append-nil, get_or-set_other, get_or-set_same}
 use Rattle.std.proofs.lemmas.Option.{slice_get_within}
-use Rattle.price_core.specs.declared.error.NoMemory.{NoMemory}
 use Rattle.alarms.specs.Due.{NoneDue}
 use Rattle.wire_in.specs.declared.record.Record.{Record}
 use Rattle.wire_in.specs.Records.{is_tick, moment_of}
@@ -138,22 +137,15 @@ below_others (suc n) s market x old new next before after le others (middle, ear
 )
 
 -- and from one stock that is due to the next
-pub next_on : (r : Result (Unit {0}) NoMemory) (y : Unit {0}) (i j : ℕ) (market : MarketView) (x : Record) (old now next new : List SymbolState) (before middle after : List Stamped) → ((k : ℕ) → i ≤ k → slice_get now k ≡ slice_get old k)
-    → AppendsBelow i market x old now before middle → r ≡ Ok y → OnOk r (AppendsOne i market x now next middle after) → new ≡ next → i + 1 ≤ j → j ≤ length next → NoneMoves market x (i + 1) j next
-    → AppendsBelow j market x old new before after
-next_on (Err u) y i j market x old now next new before middle after later earlier e one same le within none = absurd cc
-next_on (Ok u) y i j market x old now next new before middle after later earlier e one same le within none =
+pub next_on : (i j : ℕ) (market : MarketView) (x : Record) (old now next new : List SymbolState) (before middle after : List Stamped) → ((k : ℕ) → i ≤ k → slice_get now k ≡ slice_get old k)
+    → AppendsBelow i market x old now before middle → AppendsOne i market x now next middle after → new ≡ next → i + 1 ≤ j → j ≤ length next → NoneMoves market x (i + 1) j next → AppendsBelow j market x old new before after
+next_on i j market x old now next new before middle after later earlier one same le within none =
     let at = one.at in
     let own : AppendsBelow (i + 1) market x old next before after = subst (λ (n : ℕ). AppendsBelow n market x old next before after) (sym (add-one i))
     (middle, below_others i i market x old now next before middle (omega arith) one.others earlier, record { was = at.was; is = at.is; found = sym (later i (omega arith)) ∙ at.found; left = at.left; appends = at.appends }) in
     subst (λ (stocks : List SymbolState). AppendsBelow j market x old stocks before after) (sym same)
     (skip_to (i + 1) j market x old next before after le within (λ k from. one.others k (omega arith) ∙ later k (omega arith)) none own)
 
-pub later_on : (r : Result (Unit {0}) NoMemory) (y : Unit {0}) (i j : ℕ) (market : MarketView) (x : Record) (old now next new : List SymbolState) (middle after : List Stamped) → ((k : ℕ) → i ≤ k → slice_get now k ≡ slice_get old k)
-    → r ≡ Ok y → OnOk r (AppendsOne i market x now next middle after) → new ≡ next → i + 1 ≤ j → (k : ℕ) → j ≤ k → slice_get new k ≡ slice_get old k
-later_on (Err u) y i j market x old now next new middle after later e one same le = absurd cc
-later_on (Ok u) y i j market x old now next new middle after later e one same le = λ k from. ap (λ (stocks : List SymbolState). slice_get stocks k) same ∙ one.others k (omega arith) ∙ later k (omega arith)
-
-pub count_on : (r : Result (Unit {0}) NoMemory) (y : Unit {0}) (i : ℕ) (market : MarketView) (x : Record) (now next : List SymbolState) (middle after : List Stamped) → r ≡ Ok y → OnOk r (AppendsOne i market x now next middle after) → length next ≡ length now
-count_on (Err u) y i market x now next middle after e one = absurd cc
-count_on (Ok u) y i market x now next middle after e one = one.count
+pub later_on : (i j : ℕ) (market : MarketView) (x : Record) (old now next new : List SymbolState) (middle after : List Stamped) → ((k : ℕ) → i ≤ k → slice_get now k ≡ slice_get old k)
+    → AppendsOne i market x now next middle after → new ≡ next → i + 1 ≤ j → (k : ℕ) → j ≤ k → slice_get new k ≡ slice_get old k
+later_on i j market x old now next new middle after later one same le = λ k from. ap (λ (stocks : List SymbolState). slice_get stocks k) same ∙ one.others k (omega arith) ∙ later k (omega arith)

@@ -286,6 +286,30 @@ impl Section {
         first_due(&mut self.alarms, from, self.symbols.len(), x.moment())
     }
 
+    /// Evaluates a clock or an index tick for a stock that is due. A tick is no quotation, which the stock might pass over.
+    #[inline(always)]
+    fn evaluate_due(
+        &mut self,
+        index: usize,
+        x: &Record,
+        market: &MarketView,
+        out: &mut Vec<Stamped>,
+    )
+        requires tick { is_tick x.now ≡ true }
+        requires index { index < length self.old.symbols }
+        requires room { vec_len out.old + most_of_symbol ≤ vec_capacity out.old }
+        ensures one { AppendsOne index market.now x.now self.old.symbols self.new.symbols out.old.items out.new.items }
+        ensures spare { self.old.spare ≤ self.new.spare }
+        ensures since { self.new.since ≡ self.old.since }
+        ensures room { vec_capacity out.old ≤ vec_capacity out.new }
+        ensures len { vec_len out.new ≤ vec_len out.old + most_of_symbol }
+    {
+        let symbol = &mut self.symbols[index];
+        evaluate(symbol, x, market, &mut self.said, out).unwrap();
+        let alarm = alarm_of(symbol, &self.since);
+        self.alarms.put_off(index, alarm);
+    }
+
     /// Evaluates a clock or an index tick for each stock to which it may bring something, in order of ids.
     pub fn tick(&mut self, x: &Record, market: &MarketView, out: &mut Vec<Stamped>)
         requires tick { is_tick x.now ≡ true }
@@ -300,7 +324,7 @@ impl Section {
         let count = self.len();
         let mut index = self.next_due(0, x, market);
         while index < count {
-            self.evaluate(index, x, market, out).unwrap();
+            self.evaluate_due(index, x, market, out);
             index = self.next_due(index + 1, x, market);
         }
     }

@@ -1,7 +1,7 @@
 //! Alarms of many places.
 
 use super::script::{Step, play};
-use Call::{First, FirstBefore, Get, Length, MakeDue, Set};
+use Call::{First, FirstBefore, Get, Length, MakeDue, PutOff, Set};
 use alarms::Alarms;
 use std::process::Abort;
 
@@ -10,6 +10,8 @@ use std::process::Abort;
 enum Call {
     /// A place gets a moment.
     Set(usize, u64),
+    /// A place that was due gets a moment.
+    PutOff(usize, u64),
     /// The first places, so many, become due at every moment.
     MakeDue(usize),
     Length(usize),
@@ -30,6 +32,15 @@ fn set(alarms: &mut Alarms, place: usize, moment: u64) -> bool {
     is_there
 }
 
+/// Puts off a place. Whether there is the place.
+fn put_off(alarms: &mut Alarms, place: usize, moment: u64) -> bool {
+    let is_there = place < alarms.len();
+    if is_there {
+        alarms.put_off(place, moment);
+    }
+    is_there
+}
+
 /// Makes the first places due, so many. Whether there are as many.
 fn make_due(alarms: &mut Alarms, count: usize) -> bool {
     let are_there = count <= alarms.len();
@@ -43,6 +54,7 @@ impl Step<Alarms> for Call {
     fn holds(&self, alarms: &mut Alarms) -> bool {
         match *self {
             Set(place, moment) => set(alarms, place, moment),
+            PutOff(place, moment) => put_off(alarms, place, moment),
             MakeDue(count) => make_due(alarms, count),
             Length(want) => alarms.len() == want,
             Get(place, want) => alarms.get(place) == want,
@@ -138,6 +150,32 @@ fn each_of_64_places_may_have_the_lowest_moment(rt: HostRuntime) {
             ],
         );
     }
+}
+
+#[test]
+fn places_are_put_off_one_after_the_other(rt: HostRuntime) {
+    let mut alarms = all_at(&rt, 130, 10);
+    for place in 0..130 {
+        play(
+            &rt,
+            &mut alarms,
+            &[
+                First(0, 10, Some(place)),
+                PutOff(place, 20),
+                Get(place, Some(20)),
+            ],
+        );
+    }
+    play(
+        &rt,
+        &mut alarms,
+        &[
+            First(0, 19, None),
+            First(0, 20, Some(0)),
+            PutOff(129, 5),
+            First(0, 5, Some(129)),
+        ],
+    );
 }
 
 #[test]

@@ -1,7 +1,7 @@
 use Rattle.std.proofs.Common.{ℕ, List, Some, length, ap, ◌∙◌, arith}
 use Rattle.std.specs.Prelude.{slice_get}
 use Rattle.symbol_core.specs.Rests.{SymbolState}
-use Rattle.market_core.proofs.Sections.{count_on, first_on, later_on, next_on}
+use Rattle.market_core.proofs.Sections.{first_on, later_on, next_on}
 use Rattle.market_core.proofs.section.Section.tick.Goals as goal
 
 pub loop-index-init : goal.loop-index-init
@@ -27,18 +27,18 @@ loop-index-preserved c =
     let market = c.args.market.now in
     let x = c.args.x.now in
     let old = c.args.self.now.symbols in
-    let one = c.evaluate.new.self.symbols in
-    let counted = count_on c.evaluate.result c.unwrap.result now.index market x now.self.symbols one now.out.items c.evaluate.new.out.items c.unwrap.ensures c.evaluate.ensures.ok in
+    let due = c.evaluate_due in
+    let one = due.new.self.symbols in
     let begun = ap length c.begin_tick.ensures.symbols in
     record {
-      appends = next_on c.evaluate.result c.unwrap.result now.index next.result market x old now.self.symbols one next.new.self.symbols c.args.out.now.items now.out.items c.evaluate.new.out.items
-          now.invariant.later now.invariant.appends c.unwrap.ensures c.evaluate.ensures.ok next.ensures.symbols next.ensures.from next.ensures.end next.ensures.none;
-      later = later_on c.evaluate.result c.unwrap.result now.index next.result market x old now.self.symbols one next.new.self.symbols now.out.items c.evaluate.new.out.items
-          now.invariant.later c.unwrap.ensures c.evaluate.ensures.ok next.ensures.symbols next.ensures.from;
-      count = ap length next.ensures.symbols ∙ counted ∙ now.invariant.count;
-      within = omega (arith, next.ensures.end, counted, now.invariant.count, c.len-count.ensures, begun);
-      since = next.ensures.since ∙ c.evaluate.ensures.since market now.invariant.since ∙ now.invariant.since;
-      spare = omega (arith, now.invariant.spare, c.evaluate.ensures.spare, next.ensures.spare);
-      room = omega (arith, now.invariant.room, c.evaluate.ensures.room);
-      len = omega (arith, now.invariant.len, c.evaluate.ensures.len, next.ensures.from);
+      appends = next_on now.index next.result market x old now.self.symbols one next.new.self.symbols c.args.out.now.items now.out.items due.new.out.items
+          now.invariant.later now.invariant.appends due.ensures.one next.ensures.symbols next.ensures.from next.ensures.end next.ensures.none;
+      later = later_on now.index next.result market x old now.self.symbols one next.new.self.symbols now.out.items due.new.out.items
+          now.invariant.later due.ensures.one next.ensures.symbols next.ensures.from;
+      count = ap length next.ensures.symbols ∙ due.ensures.one.count ∙ now.invariant.count;
+      within = omega (arith, next.ensures.end, due.ensures.one.count, now.invariant.count, c.len-count.ensures, begun);
+      since = next.ensures.since ∙ due.ensures.since ∙ now.invariant.since;
+      spare = omega (arith, now.invariant.spare, due.ensures.spare, next.ensures.spare);
+      room = omega (arith, now.invariant.room, due.ensures.room);
+      len = omega (arith, now.invariant.len, due.ensures.len, next.ensures.from);
     }
