@@ -20,12 +20,13 @@ pub(crate) fn append(out: &mut Vec<Stamped>, moment: Moment, message: Message)
     ensures room { vec_capacity out.old ≤ vec_capacity out.new }
     ensures len { vec_len out.new ≡ vec_len out.old + 1 }
 {
-    out.push(Stamped { moment, message }).unwrap();
+    out.push_reserved(Stamped { moment, message });
 }
 
-/// Appends messages of one moment to a list that has room for them. Most records bring none.
-#[inline(always)]
-fn stamp(said: &[Message], moment: Moment, out: &mut Vec<Stamped>)
+/// Appends messages of one moment to a list that has room for them. It stays a call of its own, for which the records that bring
+/// none make no room.
+#[inline(never)]
+fn stamp_each(said: &[Message], moment: Moment, out: &mut Vec<Stamped>)
     requires { vec_len out.old + length said.now ≤ vec_capacity out.old }
     ensures items { out.new.items ≡ out.old.items ++ stamped moment said.now }
     ensures room { vec_capacity out.old ≤ vec_capacity out.new }
@@ -33,6 +34,19 @@ fn stamp(said: &[Message], moment: Moment, out: &mut Vec<Stamped>)
 {
     for message in said {
         append(out, moment, *message);
+    }
+}
+
+/// As `stamp_each`. Most records bring no message.
+#[inline(always)]
+fn stamp(said: &[Message], moment: Moment, out: &mut Vec<Stamped>)
+    requires { vec_len out.old + length said.now ≤ vec_capacity out.old }
+    ensures items { out.new.items ≡ out.old.items ++ stamped moment said.now }
+    ensures room { vec_capacity out.old ≤ vec_capacity out.new }
+    ensures len { vec_len out.new ≡ vec_len out.old + length said.now }
+{
+    if !said.is_empty() {
+        stamp_each(said, moment, out);
     }
 }
 

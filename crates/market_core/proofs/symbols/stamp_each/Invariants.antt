@@ -1,6 +1,6 @@
 use Rattle.std.proofs.Common.{◌≡◌, ◌+◌, ◌≤◌, ◌++◌, take, vec_len, vec_capacity}
 use Rattle.market_core.specs.Ruled.{stamped}
-use Rattle.market_core.proofs.symbols.stamp.Given as goal
+use Rattle.market_core.proofs.symbols.stamp_each.Given as goal
 
 abbrev pub invariant-loop-message : goal.invariant-loop-message
 invariant-loop-message l = record {
