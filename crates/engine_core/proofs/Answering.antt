@@ -1,15 +1,22 @@
 -- Frames that are judged one after the other, and a round of them that is answered.
-use Rattle.std.proofs.Common.{◌≡◌, ℕ, ◌+◌, ◌<◌, List, [], ◌∷◌, ◌++◌, length, get_or, drop, sym, ap, subst, ◌∙◌, append_assoc, append-nil, length-append, arith}
+use Rattle.std.proofs.Common.{◌≡◌, ℕ, Option, ◌+◌, ◌<◌, List, [], ◌∷◌, ◌++◌, length, get_or, drop, sym, ap, subst, ◌∙◌, append_assoc, append-nil, length-append, arith}
 use Rattle.std.proofs.lemmas.List.{drop_more}
 use Rattle.host_core.specs.Outside.{Outside, Elapses}
+use Rattle.wire_in.specs.declared.record.Record.{Record}
 use Rattle.rulebook.specs.Sent.{spelled, reply, judged, with_record}
+use Rattle.rulebook.proofs.Sending.{accepted_of-append}
+use Rattle.market_core.specs.AdmissionState as admissions
+use Rattle.market_core.specs.AdmissionState.{AdmissionState}
 use Rattle.shard_core.specs.Block.{AreAdmissible}
+use Rattle.evaluator_core.specs.Evaluating.{workers_of, IsAhead}
 use Rattle.stream_core.specs.Pending.{SendsPrefix}
 use Rattle.stream_core.proofs.Sending.{sends_longer}
 use Rattle.engine_core.specs.Rounds.{Outcome, outcomes_of, records_in, IsAdmissible}
 use Rattle.engine_core.specs.Sessions.{Start, held_after, expected, with_acknowledgements, Starved}
-use Rattle.engine_core.specs.Answering.{Waits, IsShort}
-use Rattle.engine_core.proofs.Rounds.{judged_first, no_outcome, admissible_judged, admissible_records}
+use Rattle.engine_core.specs.Answering.{Waits, Answers, IsShort}
+use Rattle.engine_core.specs.EngineState.{Represents}
+use Rattle.engine_core.specs.declared.engine.Engine.{Engine}
+use Rattle.engine_core.proofs.Rounds.{judged_first, no_outcome, admissible_judged, admissible_records, outcomes-append}
 use Rattle.engine_core.proofs.Expecting.{added, expected-more, expected-one, held-one}
 
 -- what stands at an index, and what stands behind it
@@ -61,3 +68,28 @@ module _ {start : Start} {answered all : List (List ℕ)} {number : ℕ} {outcom
     short = record { body = first.0; later = first.1; first = first.2; x = at.x; accepted = sym first.3 ∙ at.is; takes = λ one. at.takes (same ∙ one) };
     sent = at.sent;
   }
+
+-- one frame more was judged, and waits behind the others
+pub judged_one : {start : Start} {answered all after : List (List ℕ)} {number : ℕ} {outcomes : List Outcome} {engine next : Engine} {outbox : List ℕ} {sent : Option (List ℕ)} (body : List ℕ) (outcome : Outcome) → after ≡ all ++ body ∷ []
+    → ((held : List Record) → admissions.Represents engine.admission held → outcome ≡ judged engine.admission.capacity held body)
+    → ((capacity : ℕ) (accepted evaluated : List Record) → Represents engine capacity accepted evaluated → Represents next capacity (with_record accepted outcome) evaluated)
+    → next ≡ record engine { admission = next.admission } → Answers start answered all number outcomes [] engine outbox sent → Answers start answered after number (outcomes ++ outcome ∷ []) [] next outbox sent
+judged_one {start} {answered} {all} {next = next} body outcome whole judges represents rest answers =
+    let held = held_after start all in
+    let engine_is = answers.evaluates.engine_is in
+    let waits = answers.waits in
+    let is : outcome ≡ judged start.capacity held body = judges held (record { count = engine_is.count; stands = engine_is.stands.admission }) ∙ (λ i. judged (engine_is.stands.within i) held body) in
+    record {
+      waits = record {
+        waiting = waits.waiting ++ body ∷ [];
+        whole = sym (append_assoc answered waits.waiting (body ∷ [])) ∙ ap (λ (b : List (List ℕ)). b ++ body ∷ []) waits.whole ∙ sym whole;
+        number_is = waits.number_is;
+        outcomes_are = (λ i. waits.outcomes_are i ++ (is ∙ ap (λ (b : List (List ℕ)). judged start.capacity (held_after start b) body) (sym waits.whole)) i ∷ []) ∙ simp (outcomes-append, accepted_of-append);
+      };
+      evaluates = record {
+        engine_is = rw (ap (with_record held) is ∙ sym (held-one start all body) ∙ ap (held_after start) (sym whole)) at (represents start.capacity held _ engine_is);
+        workers = ap (λ (e : Engine). workers_of e.evaluator) rest ∙ answers.evaluates.workers;
+        ahead = subst (λ (e : Engine). IsAhead e.evaluator []) (sym rest) answers.evaluates.ahead;
+      };
+      pending_is = answers.pending_is;
+    }

@@ -5,6 +5,7 @@
 mod engine;
 mod input;
 mod keeper;
+mod refused;
 mod reply;
 mod round;
 mod session;
@@ -12,6 +13,7 @@ mod session;
 pub use engine::{Engine, judge};
 pub use input::serve_input;
 pub use keeper::Keeper;
+pub use refused::Refused;
 pub use reply::{append_messages, evaluate};
 pub use round::{ROUND_MAX, Round};
 pub use session::Session;

@@ -7,7 +7,7 @@ ghost use Rattle.host_core.specs.Frames.{OnlySends};
 ghost use Rattle.host_core.specs.Faults.{HasCause};
 ghost use Rattle.wire_in.specs.declared.record.Record.{Record};
 ghost use Rattle.rulebook.specs.Admission.{verdict};
-ghost use Rattle.rulebook.specs.Sent.{spelled, numbered, refused, accepted, reply, with_record};
+ghost use Rattle.rulebook.specs.Sent.{spelled, numbered, refused, accepted};
 ghost use Rattle.rulebook.specs.Book.{newest_messages};
 ghost use Rattle.market_core.specs.MarketState.{most_messages};
 ghost use Rattle.stream_core.specs.Outcomes.{Sent, SentOrStarved};
@@ -15,11 +15,9 @@ ghost use Rattle.stream_core.specs.Pending.{Expects, SendsPrefix};
 ghost use Rattle.engine_core.specs.EngineState.{Represents, Stands, IsRoomy};
 ghost use Rattle.engine_core.specs.Answering.{IsShort, Appends};
 ghost use Rattle.evaluator_core.specs.Evaluating.{workers_of, IsAhead, IsWorking};
-ghost use Rattle.engine_core.specs.Rounds.{Outcome, IsAdmissible, lent, records_in};
 ghost use Rattle.engine_core.specs.Sessions.{with_acknowledgements};
 
 use crate::engine::Engine;
-use crate::round::Outcome;
 use host_core::{Fault, Host};
 use stream_core::Outbox;
 use wire_in::{Record, Refusal};
@@ -144,7 +142,7 @@ fn append_accepted<H: Host>(
 }
 
 /// Evaluates an accepted record, and appends its messages and its acknowledgement.
-fn answer_record<H: Host>(
+pub fn answer_record<H: Host>(
     engine: &mut Engine,
     outbox: &mut Outbox,
     host: &mut H,
@@ -181,7 +179,7 @@ fn answer_record<H: Host>(
 }
 
 /// Appends the refusal of the frame of that number.
-fn refuse<H: Host>(
+pub fn refuse<H: Host>(
     outbox: &mut Outbox,
     host: &mut H,
     number: u64,
@@ -199,36 +197,4 @@ fn refuse<H: Host>(
         field: refusal.field(),
     };
     outbox.append(host, &frame)
-}
-
-/// Appends what is sent for the frame of that number: messages and an acknowledgement, or its refusal.
-pub fn answer<H: Host>(
-    engine: &mut Engine,
-    outbox: &mut Outbox,
-    host: &mut H,
-    acknowledges: bool,
-    number: u64,
-    outcome: Outcome,
-) -> Result<(), Fault>
-    requires room { engine.old.published + 2 * most_messages < 2 ^ 64 }
-    requires count { engine.old.evaluated + 1 < 2 ^ 64 }
-    ensures represents { (capacity : ℕ) (accepted evaluated : List Record) (later : List Outcome) → Represents engine.old capacity accepted evaluated → IsAhead engine.old.evaluator (records_in (lent outcome.entry ∷ later)) → IsAdmissible capacity evaluated (lent outcome.entry)
-        → OnOk result (Represents engine.new capacity accepted (with_record evaluated (lent outcome.entry))) }
-    ensures appends { (capacity : ℕ) (accepted evaluated : List Record) (later : List Outcome) (begin : Option (List ℕ)) (text : List ℕ) → Represents engine.old capacity accepted evaluated
-        → IsAhead engine.old.evaluator (records_in (lent outcome.entry ∷ later)) → IsAdmissible capacity evaluated (lent outcome.entry) → Expects begin (H.outside host.old).sent outbox.old text
-        → Appends result begin (text ++ spelled (with_acknowledgements acknowledges (reply number evaluated (lent outcome.entry)))) outbox.new (H.outside host.old) (H.outside host.new) }
-    ensures ahead { (later : List Outcome) → IsAhead engine.old.evaluator (records_in (lent outcome.entry ∷ later)) → OnOk result (IsAhead engine.new.evaluator (records_in later)) }
-    ensures workers { workers_of engine.new.evaluator ≡ workers_of engine.old.evaluator }
-    ensures admission { engine.new.admission ≡ engine.old.admission }
-    ensures evaluated { OnOk result (engine.new.evaluated ≡ engine.old.evaluated + length (records_in (lent outcome.entry ∷ []))) }
-    ensures published { OnOk result (engine.new.published ≤ engine.old.published + most_messages * length (records_in (lent outcome.entry ∷ []))) }
-    ensures outside { SentOrStarved result (H.outside host.old) (H.outside host.new) }
-    ensures roomy { IsRoomy engine.old → OnOk result (IsRoomy engine.new) }
-    ensures starved { (begin : Option (List ℕ)) (text : List ℕ) → IsRoomy engine.old → Expects begin (H.outside host.old).sent outbox.old text
-        → result ≡ Err Fault.Memory → IsShort (workers_of engine.old.evaluator) (lent outcome.entry) begin (H.outside host.new).sent text }
-{
-    match outcome {
-        Ok(x) => answer_record(engine, outbox, host, acknowledges, x),
-        Err(refusal) => refuse(outbox, host, number, refusal),
-    }
 }

@@ -1,15 +1,16 @@
 //! Frames that are judged, and then wait to be kept and answered together.
 
-ghost use Rattle.std.specs.Prelude.{◌≡◌, ◌<◌, ◌≤◌, ◌+◌, ◌++◌, ◌∷◌, [], ℕ, List, Option, None, All, IfOk, length, map, vec_len, vec_capacity};
+ghost use Rattle.std.specs.Prelude.{◌≡◌, ◌<◌, ◌≤◌, ◌+◌, ◌++◌, ◌∷◌, [], ℕ, List, Option, None, All, IfOk, length, vec_len, vec_capacity};
 ghost use Rattle.wire_in.specs.declared.record.Record.{Record};
 ghost use Rattle.wire_in.specs.Spelling.{InRange};
-ghost use Rattle.rulebook.specs.Sent.{judged, record_or_refusal, with_record};
+ghost use Rattle.rulebook.specs.Sent.{judged, record_or_refusal};
 ghost use Rattle.market_core.specs.AdmissionState as admissions;
 ghost use Rattle.market_core.specs.AdmissionState.{refusal_of};
-ghost use Rattle.engine_core.specs.EngineState.{Represents};
-ghost use Rattle.engine_core.specs.Rounds.{records_in, verdict_in};
+ghost use Rattle.engine_core.specs.Rounds.{joined, records_in, Rise};
 
 use crate::engine::{Engine, judge};
+use crate::refused::Refused;
+use market_core::Admission;
 use price_core::NoMemory;
 use std::alloc::Global;
 use std::marker::Model;
@@ -18,14 +19,11 @@ use wire_in::{Record, Refusal, blank, decode_into};
 /// The most frames of a round.
 pub const ROUND_MAX: usize = 65_536;
 
-/// What was found of a frame: its record, which is accepted, or the first refusal that applies.
-pub type Outcome<'a> = Result<&'a Record, Refusal>;
-
-/// The outcomes of up to so many frames, the oldest first: why each is refused, if it is, and the records of the accepted
-/// ones, which stand here alone. Its room is taken when it is made.
+/// The outcomes of up to so many frames, the oldest first: of the accepted ones the records, and the refused ones among them.
+/// Its room is taken when it is made.
 #[derive(Drop)]
 pub struct Round {
-    verdicts: Vec<Option<Refusal>>,
+    refused: Vec<Refused>,
     accepted: Vec<Record>,
     most: usize,
 }
@@ -36,46 +34,23 @@ impl Model for Round {
 
     ghost Value = { RoundState };
 
-    ghost view = { λ round. record { outcomes = joined round.verdicts.items round.accepted.items; most = round.most } };
+    ghost view = { λ round. record { outcomes = joined 0 round.refused.items round.accepted.items; most = round.most } };
 
-    ghost invariant = { λ round. IsRound (record { outcomes = joined round.verdicts.items round.accepted.items; most = round.most }) round.verdicts.items round.accepted.items (vec_capacity round.verdicts) (vec_capacity round.accepted) };
+    ghost invariant = { λ round. IsRound (record { outcomes = joined 0 round.refused.items round.accepted.items; most = round.most }) round.refused.items round.accepted.items (vec_capacity round.refused) (vec_capacity round.accepted) };
 }
 
-/// Admits the record of a frame by its verdict, where it is accepted.
-fn admit(engine: &mut Engine, x: &Record, verdict: Option<Refusal>)
-    requires admissible { verdict ≡ None → refusal_of engine.old.admission x.now ≡ None }
-    ensures represents { (capacity : ℕ) (accepted evaluated : List Record) → Represents engine.old capacity accepted evaluated
-        → Represents engine.new capacity (with_record accepted (record_or_refusal x.now verdict)) evaluated }
-    ensures rest { engine.new ≡ record engine.old { admission = engine.new.admission } }
-    ensures count { engine.new.admission.count ≡ engine.old.admission.count + length (records_in (record_or_refusal x.now verdict ∷ [])) }
-    ensures within { engine.old.admission.count ≤ engine.old.admission.capacity → engine.new.admission.count ≤ engine.new.admission.capacity }
-    ensures capacity { engine.new.admission.capacity ≡ engine.old.admission.capacity }
-{
-    match verdict {
-        None => engine.admit(x),
-        Some(_) => {}
-    }
-}
-
-/// Judges the frame of a body, whose record is put in a place, and admits the record where it is accepted.
+/// Why the frame of a body, whose record is put in a place, isn't accepted next, if it isn't.
 #[inline(always)]
 #[tactic(auto, using(crate::proofs::Rounds::placed_range))]
-fn judge_in(engine: &mut Engine, place: &mut Record, body: &[u8]) -> Option<Refusal>
+fn judge_in(admission: &Admission, place: &mut Record, body: &[u8]) -> Option<Refusal>
     requires short { length body.now ≤ 255 }
-    ensures exact { (held : List Record) → admissions.Represents engine.old.admission held
-        → record_or_refusal place.new result ≡ judged engine.old.admission.capacity held body.now }
-    ensures represents { (capacity : ℕ) (accepted evaluated : List Record) → Represents engine.old capacity accepted evaluated
-        → Represents engine.new capacity (with_record accepted (record_or_refusal place.new result)) evaluated }
-    ensures rest { engine.new ≡ record engine.old { admission = engine.new.admission } }
-    ensures count { engine.new.admission.count ≡ engine.old.admission.count + length (records_in (record_or_refusal place.new result ∷ [])) }
-    ensures within { engine.old.admission.count ≤ engine.old.admission.capacity → engine.new.admission.count ≤ engine.new.admission.capacity }
-    ensures capacity { engine.new.admission.capacity ≡ engine.old.admission.capacity }
+    ensures exact { (held : List Record) → admissions.Represents admission.now held
+        → record_or_refusal place.new result ≡ judged admission.now.capacity held body.now }
+    ensures admissible { result ≡ None → refusal_of admission.now place.new ≡ None }
     ensures range { IfOk (record_or_refusal place.new result) InRange }
 {
     let read = decode_into(body, place);
-    let verdict = judge(&engine.admission, place, read);
-    admit(engine, place, verdict);
-    verdict
+    judge(admission, place, read)
 }
 
 /// Adds a copy of a value behind the others of a list that has room.
@@ -88,16 +63,18 @@ fn push_copy<T: Copy>(list: &mut Vec<T>, x: &T)
     list.push_reserved(*x);
 }
 
-/// Removes the last record of a list where its frame is refused.
-#[inline(always)]
-fn settle(records: &mut Vec<Record>, verdict: Option<Refusal>)
-    ensures items { (before : List Record) (x : Record) → records.old.items ≡ before ++ x ∷ []
-        → records.new.items ≡ before ++ records_in (record_or_refusal x verdict ∷ []) }
-    ensures capacity { vec_capacity records.new ≡ vec_capacity records.old }
+/// Removes the last record of a list, and has its frame among the refused ones.
+fn refuse(refused: &mut Vec<Refused>, records: &mut Vec<Record>, refusal: Refusal)
+    requires room { vec_len refused.old < vec_capacity refused.old }
+    ensures records { (before : List Record) (x : Record) → records.old.items ≡ before ++ x ∷ [] → records.new.items ≡ before }
+    ensures refused { (before : List Record) (x : Record) → records.old.items ≡ before ++ x ∷ []
+        → refused.new.items ≡ refused.old.items ++ record { before = length before; refusal = refusal } ∷ [] }
+    ensures capacity { vec_capacity refused.new ≡ vec_capacity refused.old }
+    ensures room { vec_capacity records.new ≡ vec_capacity records.old }
 {
-    if verdict.is_some() {
-        records.pop();
-    }
+    records.pop();
+    let before = records.len();
+    push_copy(refused, &Refused { before, refusal });
 }
 
 impl Round {
@@ -112,7 +89,7 @@ impl Round {
         ensures most { IfOk result (λ round. round.most ≡ most) }
     {
         Ok(Round {
-            verdicts: Vec::with_capacity(alloc, most)?,
+            refused: Vec::with_capacity(alloc, most)?,
             accepted: Vec::with_capacity(alloc, most)?,
             most,
         })
@@ -135,17 +112,20 @@ impl Round {
         // It has room for them all.
         let place = self.accepted.len();
         push_copy(&mut self.accepted, &blank());
-        let verdict = judge_in(engine, &mut self.accepted[place], body);
-        settle(&mut self.accepted, verdict);
-        self.verdicts.push_reserved(verdict);
+        match judge_in(&engine.admission, &mut self.accepted[place], body) {
+            None => engine.admit(&self.accepted[place]),
+            Some(refusal) => refuse(&mut self.refused, &mut self.accepted, refusal),
+        }
     }
 
-    /// Why each frame is refused, if it is, the oldest first.
-    pub fn verdicts(&self) -> &[Option<Refusal>]
-        ensures verdicts { result.now ≡ map verdict_in self.now.outcomes }
+    /// The refused frames, the oldest first.
+    pub fn refused(&self) -> &[Refused]
+        ensures whole { joined 0 result.now (records_in self.now.outcomes) ≡ self.now.outcomes }
+        ensures rise { Rise 0 result.now (length (records_in self.now.outcomes)) }
+        ensures count { length self.now.outcomes ≡ length (records_in self.now.outcomes) + length result.now }
         ensures most { length self.now.outcomes ≤ ROUND_MAX }
     {
-        &self.verdicts
+        &self.refused
     }
 
     /// The accepted records among them, the oldest first.
@@ -164,7 +144,7 @@ impl Round {
         ensures len { result ≡ length self.now.outcomes }
         ensures most { length self.now.outcomes ≤ ROUND_MAX }
     {
-        self.verdicts.len()
+        self.accepted.len() + self.refused.len()
     }
 
     /// The most frames that it takes.
@@ -178,7 +158,7 @@ impl Round {
     pub fn clear(&mut self)
         ensures { self.new ≡ record self.old { outcomes = [] } }
     {
-        self.verdicts.clear();
+        self.refused.clear();
         self.accepted.clear();
     }
 }

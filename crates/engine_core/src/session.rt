@@ -1,6 +1,6 @@
 //! A session: from pieces of the input to what is kept and sent.
 
-ghost use Rattle.std.specs.Prelude.{◌≡◌, ◌≢◌, ◌-◌, ◌+◌, ◌*◌, ◌<◌, ◌≤◌, ◌^◌, ◌++◌, ◌∷◌, [], ℕ, List, Option, None, Err, OnOk, IfSome, length, take, drop};
+ghost use Rattle.std.specs.Prelude.{◌≡◌, ◌≢◌, ◌-◌, ◌+◌, ◌<◌, ◌≤◌, ◌^◌, ◌++◌, ◌∷◌, [], ℕ, List, Option, Ok, Err, OnOk, IfSome, length, map, take};
 ghost use Rattle.host_core.specs.Outside.{Elapses};
 ghost use Rattle.host_core.specs.Frames.{OnlyWrites};
 ghost use Rattle.host_core.specs.Faults.{Causes};
@@ -9,7 +9,7 @@ ghost use Rattle.wire_core.specs.Frames.{framed};
 ghost use Rattle.wire_in.specs.Cutting.{pending};
 ghost use Rattle.stream_core.specs.Outcomes.{SentOrStarved};
 ghost use Rattle.journal_core.specs.Layout.{with_batch};
-ghost use Rattle.engine_core.specs.Rounds.{Outcome, lent, records_in, verdict_in};
+ghost use Rattle.engine_core.specs.Rounds.{Outcome, records_in};
 ghost use Rattle.engine_core.specs.Sessions.{Start};
 ghost use Rattle.engine_core.specs.Answering.{Answers, Replies};
 ghost use Rattle.engine_core.specs.Unwritten.{WritesNothing};
@@ -17,8 +17,8 @@ ghost use Rattle.engine_core.specs.Serving.{Serves, Runs, IsSound, IsReady, Keep
 
 use crate::engine::Engine;
 use crate::keeper::Keeper;
-use crate::reply::answer;
-use crate::round::{Outcome, Round};
+use crate::reply::{answer_record, refuse};
+use crate::round::Round;
 use host_core::{Fault, Host};
 use std::thread::Threads;
 use stream_core::Outbox;
@@ -50,15 +50,51 @@ fn whole_frame<'a>(piece: &'a [u8]) -> Option<&'a [u8]>
     rest.get(..usize::from(*len))
 }
 
-/// The outcome of the frame of a verdict. Where it is accepted, its record has this place among the accepted ones.
-fn outcome_at<'a>(verdict: Option<Refusal>, accepted: &'a [Record], place: usize) -> Outcome<'a>
-    requires there { verdict ≡ None → place < length accepted.now }
-    ensures { (outcome : Outcome) (later : List Outcome) → verdict ≡ verdict_in outcome → drop place accepted.now ≡ records_in (outcome ∷ later) → lent result ≡ outcome }
+/// Answers accepted frames that come one behind the other, by their records, which were evaluated ahead.
+#[inline(never)]
+fn answer_run<H: Host>(
+    engine: &mut Engine,
+    outbox: &mut Outbox,
+    host: &mut H,
+    acknowledges: bool,
+    records: &[Record],
+) -> Result<(), Fault>
+    requires sound { (later : List Outcome) × (answered : ℕ) × (answered + length records.now < 2 ^ 43) × IsSound engine.old (map Ok records.now ++ later) answered }
+    ensures replies { (start : Start) (before all : List (List ℕ)) (number : ℕ) (later : List Outcome) → acknowledges ≡ start.acknowledges
+        → Answers start before all number (map Ok records.now ++ later) (records_in (map Ok records.now ++ later)) engine.old outbox.old (H.outside host.old).sent
+        → Replies result start all (number + length records.now) later (records_in later) engine.new outbox.new (H.outside host.old) (H.outside host.new) }
+    ensures sound { (later : List Outcome) (answered : ℕ) → IsSound engine.old (map Ok records.now ++ later) answered → OnOk result (IsSound engine.new later (answered + length records.now)) }
+    ensures admission { engine.new.admission ≡ engine.old.admission }
+    ensures outside { SentOrStarved result (H.outside host.old) (H.outside host.new) }
 {
-    match verdict {
-        None => Ok(&accepted[place]),
-        Some(refusal) => Err(refusal),
+    for x in records {
+        answer_record(engine, outbox, host, acknowledges, x)?;
     }
+    Ok(())
+}
+
+/// Answers the accepted frames in front of a refused one, by their records, and then that one. So many were answered before.
+fn answer_up_to<H: Host>(
+    engine: &mut Engine,
+    outbox: &mut Outbox,
+    host: &mut H,
+    acknowledges: bool,
+    answered: u64,
+    records: &[Record],
+    refusal: Refusal,
+) -> Result<(), Fault>
+    requires sound { (later : List Outcome) × IsSound engine.old (map Ok records.now ++ Err refusal ∷ later) answered }
+    requires answered { answered + length records.now < 2 ^ 43 }
+    ensures replies { (start : Start) (before all : List (List ℕ)) (later : List Outcome) → acknowledges ≡ start.acknowledges
+        → Answers start before all answered (map Ok records.now ++ Err refusal ∷ later) (records_in (map Ok records.now ++ Err refusal ∷ later)) engine.old outbox.old (H.outside host.old).sent
+        → Replies result start all (answered + length records.now + 1) later (records_in later) engine.new outbox.new (H.outside host.old) (H.outside host.new) }
+    ensures sound { (later : List Outcome) → IsSound engine.old (map Ok records.now ++ Err refusal ∷ later) answered → OnOk result (IsSound engine.new later (answered + length records.now + 1)) }
+    ensures admission { engine.new.admission ≡ engine.old.admission }
+    ensures outside { SentOrStarved result (H.outside host.old) (H.outside host.new) }
+{
+    answer_run(engine, outbox, host, acknowledges, records)?;
+    let number = answered + records.len() as u64 + 1;
+    refuse(outbox, host, number, refusal)
 }
 
 /// Answers the frames of a round, the first of which comes behind so many answered ones, and whose accepted records were
@@ -82,14 +118,22 @@ fn answer_each<H: Host>(
 {
     let records: &[Record] = round.accepted();
     let mut number = answered;
-    let mut place = 0;
-    for verdict in round.verdicts() {
-        number += 1;
-        let outcome = outcome_at(*verdict, records, place);
-        answer(engine, outbox, host, acknowledges, number, outcome)?;
-        place += usize::from(verdict.is_none());
+    let mut begin = 0;
+    for refused in round.refused() {
+        let run = &records[begin..refused.before];
+        answer_up_to(
+            engine,
+            outbox,
+            host,
+            acknowledges,
+            number,
+            run,
+            refused.refusal,
+        )?;
+        number += run.len() as u64 + 1;
+        begin = refused.before;
     }
-    Ok(())
+    answer_run(engine, outbox, host, acknowledges, &records[begin..])
 }
 
 /// Evaluates the accepted records of the frames that wait ahead.
