@@ -74,7 +74,7 @@ pub fn serve_input<Rt: Threads + Sync, K: Keeper, H: Host, G: Gate>(
     let mut read = 0;
     let mut open = true;
     while open {
-        let room = buffer.len().min((most - read) as usize);
+        let room = session.at_once(buffer.len()).min((most - read) as usize);
         let count = exchange(&mut session.outbox, host, buffer, room)?;
         feed(rt, session, keeper, host, gate, &buffer[..count])?;
         open = count > 0;

@@ -21,7 +21,7 @@ use crate::reply::{answer_record, refuse};
 use crate::round::Round;
 use host_core::{Fault, Host};
 use std::thread::Threads;
-use stream_core::Outbox;
+use stream_core::{Outbox, PIECE};
 use wire_in::{Cutter, Record, Refusal};
 use yard_core::Gate;
 
@@ -340,6 +340,19 @@ impl Session {
             most
         } else {
             most.min(ENOUGH_ALONE)
+        }
+    }
+
+    /// How many bytes are read at once into so much room: all of it, and fewer where records aren't shared out, so that what is
+    /// read stays in the nearest cache.
+    pub fn at_once(&self, room: usize) -> usize
+        ensures some { 0 < room → 0 < result }
+        ensures within { result ≤ room }
+    {
+        if self.engine.shares_out() {
+            room
+        } else {
+            room.min(PIECE)
         }
     }
 

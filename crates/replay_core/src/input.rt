@@ -19,11 +19,11 @@ const BYTES_MAX: u64 = 1_099_511_627_776;
 /// How many frames one worker judges before it answers them.
 const FRAMES: usize = 64;
 
-/// How many frames are judged before several workers evaluate their records together: what is kept of them stays in the cache.
-const MANY_FRAMES: usize = 16_384;
+/// How many frames at most are judged before several workers evaluate their records together: mostly all that were read at once.
+const MANY_FRAMES: usize = 65_536;
 
-/// The most bytes that are read at once for several workers, in which as many frames have room.
-const BLOCK: usize = 4_194_304;
+/// The most bytes that are read at once for several workers: what is kept of so many stays in the cache.
+const BLOCK: usize = 1_048_576;
 
 /// What a replay is told.
 #[derive(Clone, Copy, Debug, PartialEq, Eq)]

@@ -26,7 +26,7 @@ use yard_core::Gate;
 const PIECE_OF_ONE: usize = 256;
 
 /// The most records of a piece that several parts take. Threads begin anew for each piece, and ranges are cut anew before it.
-const PIECE_OF_SEVERAL: usize = 16_384;
+const PIECE_OF_SEVERAL: usize = 65_536;
 
 /// The same while names are listed, which all go to the last part: so few that they are done here, before ranges are cut anew.
 const PIECE_OF_LISTINGS: usize = 1_000;
