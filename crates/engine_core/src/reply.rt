@@ -23,8 +23,9 @@ use stream_core::Outbox;
 use wire_in::{Record, Refusal};
 use wire_out::{Frame, Stamped};
 
-/// Appends messages, numbered on from those before them.
-pub fn append_messages<H: Host>(
+/// As `append_messages`. It stays a call of its own, for which the records that bring no message make no room.
+#[inline(never)]
+fn append_each<H: Host>(
     outbox: &mut Outbox,
     host: &mut H,
     before: u64,
@@ -44,6 +45,28 @@ pub fn append_messages<H: Host>(
         outbox.append_numbered(host, number, message)?;
     }
     Ok(())
+}
+
+/// Appends messages, numbered on from those before them.
+#[inline(always)]
+pub fn append_messages<H: Host>(
+    outbox: &mut Outbox,
+    host: &mut H,
+    before: u64,
+    messages: &[Stamped],
+) -> Result<(), Fault>
+    requires { before + length messages.now < 2 ^ 64 }
+    ensures pending { (begin : Option (List ℕ)) (text : List ℕ) → Expects begin (H.outside host.old).sent outbox.old text
+        → OnOk result (Expects begin (H.outside host.new).sent outbox.new (text ++ spelled (numbered before messages.now))) }
+    ensures moments { (begin : Option (List ℕ)) (text : List ℕ) → Expects begin (H.outside host.old).sent outbox.old text
+        → Elapses (H.outside host.old) (H.outside host.new) (SendsPrefix begin (text ++ spelled (numbered before messages.now)) (H.outside host.old)) }
+    ensures outside { Sent result (H.outside host.old) (H.outside host.new) }
+    ensures none { messages.now ≡ [] → (IsOk result) × (outbox.new ≡ outbox.old) × (host.new ≡ host.old) }
+{
+    if messages.is_empty() {
+        return Ok(());
+    }
+    append_each(outbox, host, before, messages)
 }
 
 /// Appends the acknowledgement of a record, where records are acknowledged.

@@ -197,6 +197,13 @@ impl Lead {
         self.view
     }
 
+    /// The same where it lies, so that a record makes no copy of it.
+    pub(crate) fn view_there<'a>(&'a self) -> Option<&'a MarketView>
+        ensures { option_map (λ view. view.now) result ≡ option_map view_of self.now.today }
+    {
+        self.view.as_ref()
+    }
+
     /// Lists a new name, and answers its id.
     pub(crate) fn push(&mut self, name: [u8; 8]) -> u16
         requires new { position (bytes_eq name) self.old.directory ≡ None }

@@ -239,7 +239,7 @@ impl Market {
         ensures keeps_room { vec_capacity out.old ≤ vec_capacity out.new }
         ensures names { self.new.directory ≡ self.old.directory }
     {
-        let Some(market) = self.lead.view() else {
+        let Some(market) = self.lead.view_there() else {
             return Ok(());
         };
         let index = id as usize;
@@ -247,7 +247,7 @@ impl Market {
             return Ok(());
         }
         out.reserve(MOST_OF_SYMBOL)?;
-        self.section.evaluate(index, x, &market, out)
+        self.section.evaluate(index, x, market, out)
     }
 
     /// Makes the symbol of a new name.
