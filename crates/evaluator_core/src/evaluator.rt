@@ -187,10 +187,9 @@ impl Evaluator {
         }
     }
 
-    /// Evaluates a block of records ahead, by as many workers as there are, each of which passes the gate before it works,
-    /// where the records outweigh that: they are admissible one after the other, and each record of the block before was applied. One worker does
-    /// nothing here. At most 65,536 records. Where several workers find no memory, each record that is then applied fails.
-    pub fn prepare<Rt: Threads + Sync, G: Gate>(&mut self, rt: &Rt, gate: &G, xs: &Vec<Record>)
+    /// As `prepare`, for several workers. It stays a call of its own, for whose large frame one worker makes no room.
+    #[inline(never)]
+    fn prepare_several<Rt: Threads + Sync, G: Gate>(&mut self, rt: &Rt, gate: &G, xs: &Vec<Record>)
         requires few { length xs.now.items ≤ 65536 }
         ensures represents { (capacity : ℕ) (evaluated : List Record) → Represents self.old evaluated → IsIdle self.old → AreAdmissible capacity evaluated xs.now.items
             → Represents self.new evaluated }
@@ -202,6 +201,24 @@ impl Evaluator {
         if let Evaluator::Many(block) = self {
             block.prepare(rt, gate, xs);
         }
+    }
+
+    /// Evaluates a block of records ahead, by as many workers as there are, each of which passes the gate before it works,
+    /// where the records outweigh that: they are admissible one after the other, and each record of the block before was applied. One worker does
+    /// nothing here. At most 65,536 records. Where several workers find no memory, each record that is then applied fails.
+    #[inline(always)]
+    pub fn prepare<Rt: Threads + Sync, G: Gate>(&mut self, rt: &Rt, gate: &G, xs: &Vec<Record>)
+        requires few { length xs.now.items ≤ 65536 }
+        ensures represents { (capacity : ℕ) (evaluated : List Record) → Represents self.old evaluated → IsIdle self.old → AreAdmissible capacity evaluated xs.now.items
+            → Represents self.new evaluated }
+        ensures ahead { IsIdle self.old → IsAhead self.new xs.now.items }
+        ensures alone { workers_of self.old ≡ 1 → self.new ≡ self.old }
+        ensures workers { workers_of self.new ≡ workers_of self.old }
+    {
+        if let Evaluator::One(_) = self {
+            return;
+        }
+        self.prepare_several(rt, gate, xs);
     }
 
     /// Applies a record that is admissible after the applied ones, and of several workers the oldest that is evaluated
