@@ -11,7 +11,7 @@ use session_core::Moment;
 use std::collections::VecDeque;
 
 /// For how many deals room is taken at first.
-const FIRST_ROOM: usize = 4;
+const FIRST_ROOM: usize = 16;
 
 /// Removes the deals that are five minutes old.
 pub fn keep_live(t: Moment, deals: &mut VecDeque<Deal>)
