@@ -1,12 +1,12 @@
 -- One market, evaluated record by record or ahead.
-use Rattle.std.specs.Prelude.{◌≡◌, ℕ, Bool, List, [], false, true, IsSome, length, nat_le}
+use Rattle.std.specs.Prelude.{◌≡◌, ◌&&◌, ℕ, Bool, List, [], false, true, IsSome, length, nat_le}
 use Rattle.wire_in.specs.declared.record.Record.{Record}
 use Rattle.market_core.specs.MarketState as markets
 use Rattle.market_core.specs.Room as rooms
 use Rattle.evaluator_core.specs.declared.evaluator.Evaluator.{Evaluator}
 use Rattle.evaluator_core.specs.declared.evaluator.Evaluator.TheVariants.{One, Resting, Many}
 use Rattle.evaluator_core.specs.AheadState.{RepresentsAhead, HasAhead}
-use Rattle.evaluator_core.specs.RestingState.{RepresentsResting, fewest_names, names_in}
+use Rattle.evaluator_core.specs.RestingState.{RepresentsResting, fewest_names, fewest_workers, names_in}
 
 -- it stands for the list of evaluated records, the newest first
 abbrev pub Represents : Evaluator → List Record → Type 0
@@ -45,7 +45,7 @@ names_of (Many block) = length block.shards.lead.directory
 -- whether a block of many records is shared out: by several workers, where there are enough names
 abbrev pub shares_out : Evaluator → Bool
 shares_out (One market) = false
-shares_out (Resting resting) = nat_le fewest_names (names_in resting.market)
+shares_out (Resting resting) = nat_le fewest_workers resting.workers && nat_le fewest_names (names_in resting.market)
 shares_out (Many block) = true
 
 -- one worker has room for what is kept of a record; of several none is known

@@ -17,3 +17,7 @@ names_in None = 0
 -- of how many names a block's records are worth threads
 abbrev pub fewest_names : ℕ
 fewest_names = 2048
+
+-- and by how many workers
+abbrev pub fewest_workers : ℕ
+fewest_workers = 4

@@ -140,7 +140,7 @@ impl Ahead {
     fn count_block(&mut self, records: usize)
         ensures same { self.new ≡ self.old }
     {
-        if are_worth_threads(records, self.names()) {
+        if are_worth_threads(records, self.names(), self.shards.workers()) {
             self.small_blocks = 0;
         } else {
             self.small_blocks = self.small_blocks.saturating_add(1);

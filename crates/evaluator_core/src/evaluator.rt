@@ -117,7 +117,7 @@ impl Evaluator {
     {
         match self {
             Evaluator::One(_) => false,
-            Evaluator::Resting(resting) => resting.has_many_names(),
+            Evaluator::Resting(resting) => resting.has_many(),
             Evaluator::Many(_) => true,
         }
     }

@@ -1,6 +1,6 @@
 //! A market of several workers that rest: its records are evaluated one by one, until a block outweighs the start of threads.
 
-ghost use Rattle.std.specs.Prelude.{◌≡◌, ◌==◌, ◌+◌, false, ◌<◌, ◌≤◌, ◌++◌, ◌∷◌, ℕ, [], true, List, None, Some, IfOk, IsOk, IsSome, OnOk, length, nat_le, vec_len, vec_capacity};
+ghost use Rattle.std.specs.Prelude.{◌≡◌, ◌==◌, ◌&&◌, ◌+◌, false, ◌<◌, ◌≤◌, ◌++◌, ◌∷◌, ℕ, [], true, List, None, Some, IfOk, IsOk, IsSome, OnOk, length, nat_le, vec_len, vec_capacity};
 ghost use Rattle.wire_in.specs.declared.record.Record.{Record};
 ghost use Rattle.rulebook.specs.Admission.{most_names, verdict};
 ghost use Rattle.rulebook.specs.Book.{newest_messages};
@@ -20,9 +20,12 @@ const FEWEST_RECORDS: usize = 4_096;
 /// The fewest names of which a block's records are worth threads: with fewer, a record costs less than to share it out.
 const FEWEST_NAMES: u32 = 2_048;
 
-/// Whether a block of so many records, of a market of so many names, is worth threads.
-pub(crate) fn are_worth_threads(records: usize, names: u32) -> bool {
-    records >= FEWEST_RECORDS && names >= FEWEST_NAMES
+/// The fewest workers that are worth threads: it costs as much to note each record for its part as two or three workers save.
+const FEWEST_WORKERS: u32 = 4;
+
+/// Whether a block of so many records, of a market of so many names, is worth the threads of so many workers.
+pub(crate) fn are_worth_threads(records: usize, names: u32, workers: u32) -> bool {
+    records >= FEWEST_RECORDS && names >= FEWEST_NAMES && workers >= FEWEST_WORKERS
 }
 
 /// A market that rests, and how many workers it has, from 2 to 64. Where it found no memory to be shared out, there is none,
@@ -36,7 +39,7 @@ pub struct Resting {
 }
 
 impl Resting {
-    ghost use Rattle.evaluator_core.specs.RestingState.{RepresentsResting, fewest_names, names_in};
+    ghost use Rattle.evaluator_core.specs.RestingState.{RepresentsResting, fewest_names, fewest_workers, names_in};
 
     /// A market of several workers, from 2 to 64, that rest.
     pub(crate) fn of(alloc: Global, workers: u32, market: Market) -> Resting
@@ -70,16 +73,16 @@ impl Resting {
         self.workers == 1
     }
 
-    /// Whether it has so many names that a block of many records is worth threads.
-    pub(crate) fn has_many_names(&self) -> bool
-        ensures { result ≡ nat_le fewest_names (names_in self.now.market) }
+    /// Whether it has so many workers, and so many names, that a block of many records is worth threads.
+    pub(crate) fn has_many(&self) -> bool
+        ensures { result ≡ (nat_le fewest_workers self.now.workers && nat_le fewest_names (names_in self.now.market)) }
     {
-        self.names() >= FEWEST_NAMES
+        self.workers >= FEWEST_WORKERS && self.names() >= FEWEST_NAMES
     }
 
     /// Whether so many records outweigh what it costs to share them out.
     pub(crate) fn is_outweighed(&self, records: usize) -> bool {
-        are_worth_threads(records, self.names())
+        are_worth_threads(records, self.names(), self.workers)
     }
 
     /// Takes the market out. From then on nothing is given here. It fails where that was done before.
