@@ -3,7 +3,7 @@ use Rattle.host_core.specs.Outside.{Elapses, NoFault}
 use Rattle.host_core.specs.Frames.{OnlySends}
 use Rattle.rulebook.specs.Sent.{spelled, numbered}
 use Rattle.stream_core.specs.Pending.{Expects, SendsPrefix}
-use Rattle.engine_core.proofs.reply.append_messages.Given as goal
+use Rattle.engine_core.proofs.reply.append_each.Given as goal
 
 abbrev pub invariant-loop-message : goal.invariant-loop-message
 invariant-loop-message g l = record {
