@@ -13,7 +13,7 @@ use test_days::Session;
 use test_days::lines::{Line, at, clock, day, listed_as, listing_of, name_of};
 use yard_core::Gate;
 
-/// Two pieces, each of which raises its own flag at the gate and looks for the other's.
+/// The even and the odd pieces, which raise a flag each at the gate, and look for that of the others.
 #[derive(Drop)]
 struct Meeting {
     here: [AtomicBool; 2],
@@ -68,13 +68,13 @@ impl Meeting {
         }
     }
 
-    /// Whether each piece has seen the other.
+    /// Whether an even piece has seen an odd one, and an odd one an even one.
     fn has_met(&self) -> bool {
         self.met[0].load(SeqCst) && self.met[1].load(SeqCst)
     }
 }
 
-/// Whether the words are done over a host by two workers that meet.
+/// Whether the words are done over a host by workers of which two meet.
 fn has_met<Rt: AllocGlobal + Threads + Sync>(
     rt: &Rt,
     words: &[&str],
@@ -85,7 +85,7 @@ fn has_met<Rt: AllocGlobal + Threads + Sync>(
     end == Status::Done && gate.has_met()
 }
 
-/// Does what the words say by two workers that look for each other, and compares what is sent.
+/// Does what the words say by workers that look for each other, and compares what is sent.
 fn meets<Rt: Abort + AllocGlobal + Threads + Sync>(
     rt: &Rt,
     words: &[&str],
@@ -101,7 +101,7 @@ fn meets<Rt: Abort + AllocGlobal + Threads + Sync>(
 #[test]
 fn two_pieces_of_a_replay_meet(rt: HostRuntime) {
     let day = long_day(&rt);
-    let words = ["replay", "--workers", "2"];
+    let words = ["replay", "--workers", "4"];
     meets(&rt, &words, b"", &day.input, &day.replayed);
 }
 
@@ -117,11 +117,11 @@ fn two_pieces_of_a_journal_meet_where_a_session_starts(rt: HostRuntime) {
     let (input, served) = (day.input.as_slice(), day.served.as_slice());
     let empty = fresh(&rt);
     let disk = left_by(&rt, &["serve"], &empty, input, served, Status::Done);
-    let words = ["serve", "--workers", "2", "--from", "1"];
+    let words = ["serve", "--workers", "4", "--from", "1"];
     meets(&rt, &words, &disk, b"", &again(&rt, &day.replayed));
 }
 
-/// The words of a summary by one worker and by two.
+/// The words of a summary by one worker and by four.
 const BY_ONE: &[&str] = &[
     "generate",
     "--summary",
@@ -133,7 +133,7 @@ const BY_ONE: &[&str] = &[
     "1",
 ];
 
-const BY_TWO: &[&str] = &[
+const BY_FOUR: &[&str] = &[
     "generate",
     "--summary",
     "--symbols",
@@ -141,11 +141,11 @@ const BY_TWO: &[&str] = &[
     "--records",
     "40000",
     "--workers",
-    "2",
+    "4",
 ];
 
 #[test]
 fn two_pieces_of_a_summary_meet(rt: HostRuntime) {
     let alone = sent_by(&rt, BY_ONE, b"", b"");
-    meets(&rt, BY_TWO, b"", b"", &alone);
+    meets(&rt, BY_FOUR, b"", b"", &alone);
 }
