@@ -187,7 +187,8 @@ impl Evaluator {
         }
     }
 
-    /// As `prepare`, for several workers. It stays a call of its own, for whose large frame one worker makes no room.
+    /// As `prepare`, for several workers. It stays a call of its own, for whose large frame one worker, and several that rest on,
+    /// make no room.
     #[inline(never)]
     fn prepare_several<Rt: Threads + Sync, G: Gate>(&mut self, rt: &Rt, gate: &G, xs: &Vec<Record>)
         requires few { length xs.now.items ≤ 65536 }
@@ -217,6 +218,11 @@ impl Evaluator {
     {
         if let Evaluator::One(_) = self {
             return;
+        }
+        if let Evaluator::Resting(resting) = self {
+            if !resting.is_outweighed(xs.len()) {
+                return;
+            }
         }
         self.prepare_several(rt, gate, xs);
     }
