@@ -13,23 +13,23 @@ use Rattle.merge_core.specs.declared.tagged.Tagged.{Tagged}
 use Rattle.merge_core.specs.Merged.{of_input, merged, AreOfFirst}
 
 -- the messages of one list, input by input
-abbrev by_inputs : ℕ → List Tagged → List Tagged
+abbrev pub by_inputs : ℕ → List Tagged → List Tagged
 by_inputs zero xs = []
 by_inputs (suc n) xs = by_inputs n xs ++ of_input n xs
 
-of_input-here : (n : ℕ) (x : Tagged) (xs : List Tagged) → x.input ≡ n → of_input n (x ∷ xs) ≡ x ∷ of_input n xs
+pub of_input-here : (n : ℕ) (x : Tagged) (xs : List Tagged) → x.input ≡ n → of_input n (x ∷ xs) ≡ x ∷ of_input n xs
 of_input-here n x xs is = ap (λ b. cond b (x ∷ of_input n xs) (of_input n xs)) (eq-eqb x.input n is)
 
-of_input-else : (n : ℕ) (x : Tagged) (xs : List Tagged) → x.input ≢ n → of_input n (x ∷ xs) ≡ of_input n xs
+pub of_input-else : (n : ℕ) (x : Tagged) (xs : List Tagged) → x.input ≢ n → of_input n (x ∷ xs) ≡ of_input n xs
 of_input-else n x xs ne = ap (λ b. cond b (x ∷ of_input n xs) (of_input n xs)) (ne_eqb x.input n ne)
 
-none_of : (n : ℕ) (xs : List Tagged) → All (λ m. n < m.input) xs → of_input n xs ≡ []
+pub none_of : (n : ℕ) (xs : List Tagged) → All (λ m. n < m.input) xs → of_input n xs ≡ []
 none_of n [] all = refl
 none_of n (x ∷ xs) all =
     let above : n < x.input = All-head (λ (m : Tagged). n < m.input) x xs all in
     of_input-else n x xs (λ e. absurd (omega (arith, e))) ∙ none_of n xs (All-tail (λ (m : Tagged). n < m.input) x xs all)
 
-none_before : (n k : ℕ) (xs : List Tagged) → k ≤ n → All (λ m. n ≤ m.input) xs → by_inputs k xs ≡ []
+pub none_before : (n k : ℕ) (xs : List Tagged) → k ≤ n → All (λ m. n ≤ m.input) xs → by_inputs k xs ≡ []
 none_before n zero xs le all = refl
 none_before n (suc k) xs le all = (λ i. none_before n k xs (omega arith) all i ++ none_of k xs (λ j d lt. let at = all j d lt in omega arith) i)
 
@@ -55,19 +55,19 @@ same_inputs zero xs ys same = refl
 same_inputs (suc n) xs ys same = (λ i. same_inputs n xs ys same i ++ same n i)
 
 -- all lists, one behind the other
-abbrev joined : List (List Tagged) → List Tagged
+abbrev pub joined : List (List Tagged) → List Tagged
 joined lists = flat_map (λ messages. messages) lists
 
 of_joined : (n : ℕ) (lists : List (List Tagged)) → of_input n (joined lists) ≡ flat_map (of_input n) lists
 of_joined n [] = refl
 of_joined n (xs ∷ lists) = filter-append (λ (m : Tagged). m.input == n) xs (joined lists) ∙ ap (λ ys. of_input n xs ++ ys) (of_joined n lists)
 
-merged_is : (n : ℕ) (lists : List (List Tagged)) → by_inputs n (joined lists) ≡ merged n lists
+pub merged_is : (n : ℕ) (lists : List (List Tagged)) → by_inputs n (joined lists) ≡ merged n lists
 unfolding merged
 merged_is zero lists = refl
 merged_is (suc n) lists = (λ i. merged_is n lists i ++ of_joined n lists i)
 
-all_joined : (P : Tagged → Type 0) (lists : List (List Tagged)) → All (All P) lists → All P (joined lists)
+pub all_joined : (P : Tagged → Type 0) (lists : List (List Tagged)) → All (All P) lists → All P (joined lists)
 all_joined P [] all = All-nil P
 all_joined P (xs ∷ lists) all = All-append P xs (joined lists) (All-head (All P) xs lists all) (all_joined P lists (All-tail (All P) xs lists all))
 

@@ -1,1 +1,3 @@
 pub mod InOrder
+pub mod Scanning
+pub mod Woven

@@ -33,14 +33,13 @@ fn tagged(input: u32, symbol: u16) -> Tagged {
     }
 }
 
-#[test]
-fn messages_are_merged_input_by_input_and_the_market_comes_first(
-    rt: HostRuntime,
-) -> Result<(), Fail> {
+/// A list of the market and two of parts, of which the second has these messages, are merged behind a message input by input.
+fn expect_merged<R: Abort + AllocGlobal>(rt: &R, second: &[Tagged]) -> Result<(), Fail> {
     let first = vec![in rt.alloc(); tagged(1, 1)]?;
-    let second = vec![in rt.alloc(); tagged(0, 2), tagged(1, 3)]?;
+    let mut behind = Vec::new(rt.alloc());
+    behind.extend_from_slice(second)?;
     let mut out = vec![in rt.alloc(); tagged(9, 4)]?;
-    merge(&[tagged(1, 0)], &[first, second], 20, &mut out)?;
+    merge(&[tagged(1, 0)], &[first, behind], 20, &mut out)?;
     let want = [
         tagged(9, 4),
         tagged(20, 2),
@@ -50,4 +49,16 @@ fn messages_are_merged_input_by_input_and_the_market_comes_first(
     ];
     assert!(rt; out.as_slice() == want.as_slice());
     Ok(())
+}
+
+#[test]
+fn messages_are_merged_input_by_input_and_the_market_comes_first(
+    rt: HostRuntime,
+) -> Result<(), Fail> {
+    expect_merged(&rt, &[tagged(0, 2), tagged(1, 3)])
+}
+
+#[test]
+fn a_list_that_falls_is_merged_in_the_same_order(rt: HostRuntime) -> Result<(), Fail> {
+    expect_merged(&rt, &[tagged(1, 3), tagged(0, 2)])
 }
