@@ -1,6 +1,6 @@
 //! Ranges of ids that are cut anew between blocks, by the records that the ids had.
 
-ghost use Rattle.std.specs.Prelude.{◌≡◌, ◌+◌, ◌<◌, ◌≤◌, ◌++◌, IsOk, OnOk, flat_map, length};
+ghost use Rattle.std.specs.Prelude.{◌≡◌, ◌+◌, ◌<◌, ◌≤◌, ◌++◌, IfOk, IsOk, OnOk, flat_map, length};
 ghost use Rattle.rulebook.specs.Admission.{most_names};
 ghost use Rattle.shard_core.specs.Turns.{AreFew};
 
@@ -10,6 +10,9 @@ use market_core::Section;
 use price_core::NoMemory;
 use rulebook::MOST_NAMES;
 use std::alloc::Global;
+
+/// Of so many records one is counted.
+const SAMPLE: usize = 8;
 
 /// How many records each id had since the ranges were last looked at, how many all records were, and whether names were
 /// listed.
@@ -29,18 +32,6 @@ fn add(loads: &mut [u32], id: u16)
     if id < loads.len() {
         loads[id] = loads[id].saturating_add(1);
     }
-}
-
-/// Begins to count the records of the next id, with its listing.
-fn begin(loads: &mut Vec<u32>) -> Result<(), NoMemory>
-    requires { length loads.old.items ≤ most_names }
-    ensures { length loads.new.items ≤ most_names }
-{
-    if loads.len() < MOST_NAMES {
-        loads.reserve(1)?;
-        loads.push_reserved(1);
-    }
-    Ok(())
 }
 
 impl Counts {
@@ -68,19 +59,24 @@ impl Counts {
         })
     }
 
-    /// Counts the records of a block that are of one id each. An error leaves some of them counted.
-    fn count(&mut self, turns: &[Turn]) -> Result<(), NoMemory> {
-        for turn in turns {
-            match turn.target {
-                Target::Each => {}
-                Target::One(id) => add(&mut self.of_ids, id),
-                Target::New(_) => {
-                    begin(&mut self.of_ids)?;
-                    self.listed = true;
-                }
+    /// Counts the records of a block that are of one id each, by a part of them.
+    fn count(&mut self, turns: &[Turn]) {
+        for turn in turns.iter().step_by(SAMPLE) {
+            if let Target::One(id) = turn.target {
+                add(&mut self.of_ids, id);
             }
         }
         self.records = self.records.saturating_add(turns.len());
+    }
+
+    /// Begins to count the records of the ids that are new, where there are so many now, with one each. An error leaves some
+    /// of them out.
+    fn begin(&mut self, names: usize) -> Result<(), NoMemory> {
+        while self.of_ids.len() < names.min(MOST_NAMES) {
+            self.of_ids.reserve(1)?;
+            self.of_ids.push_reserved(1);
+            self.listed = true;
+        }
         Ok(())
     }
 
@@ -97,12 +93,19 @@ impl Counts {
     }
 }
 
-/// Counts the records of a block that are of one id each, where there are several parts.
-pub fn count(parts: &[Section], turns: &[Turn], counts: &mut Counts) -> Result<(), NoMemory> {
+/// Counts the records of a block, behind which there are so many names, where there are several parts.
+pub fn count(
+    parts: &[Section],
+    turns: &[Turn],
+    names: u32,
+    counts: &mut Counts,
+) -> Result<(), NoMemory> {
     if parts.len() < 2 {
         return Ok(());
     }
-    counts.count(turns)
+    counts.begin(names as usize)?;
+    counts.count(turns);
+    Ok(())
 }
 
 /// The upper ends of the ranges of several parts.
@@ -191,9 +194,24 @@ pub(crate) fn deal_evenly(
         return Err(NoMemory);
     }
     let counts = Counts::of_each(alloc, all.len())?;
-    let ends = cut(alloc, &counts.of_ids, parts.len() as u32)?;
+    let ends = ends_by_loads(alloc, &counts.of_ids, parts.len())?;
     deal(all, &ends, parts)?;
     Ok(counts)
+}
+
+/// The upper ends of the ranges of several parts by the loads of the ids. Of three shares that each part has, the first one has
+/// two: the thread that works it also judges the records and answers them.
+fn ends_by_loads(alloc: Global, loads: &[u32], parts: usize) -> Result<Vec<u32>, NoMemory>
+    requires parts { (0 < parts) × (parts ≤ 64) }
+    requires loads { length loads.now ≤ most_names }
+    ensures { IfOk result (λ ends. length ends.items ≡ parts) }
+{
+    let shares = cut(alloc, loads, 3 * parts as u32 - 1)?;
+    let mut ends = Vec::with_capacity(alloc, parts)?;
+    for part in 0..parts {
+        ends.push_reserved(shares[3 * part + 1]);
+    }
+    Ok(ends)
 }
 
 /// Cuts several parts anew at these upper ends. They have the same stocks in the same order then.
@@ -223,7 +241,7 @@ fn cut_anew(alloc: Global, parts: &mut [Section], loads: &[u32]) -> Result<(), N
     ensures parts { length parts.new ≡ length parts.old }
     ensures few { AreFew parts.new }
 {
-    let anew = cut(alloc, loads, parts.len() as u32)?;
+    let anew = ends_by_loads(alloc, loads, parts.len())?;
     let ends = ends_of(alloc, parts)?;
     if !is_evener(&anew, &ends, loads) {
         return Ok(());
@@ -232,7 +250,7 @@ fn cut_anew(alloc: Global, parts: &mut [Section], loads: &[u32]) -> Result<(), N
 }
 
 /// Evens out the loads of several parts: each has the stocks of a range of ids as before, and all of them the same stocks in
-/// the same order. It looks at the loads once in as many records as there are ids.
+/// the same order. It looks at the loads once in as many counted records as there are ids.
 pub fn even_out(alloc: Global, parts: &mut [Section], counts: &mut Counts) -> Result<(), NoMemory>
     requires parts { (0 < length parts.old) × (length parts.old ≤ 64) }
     requires few { AreFew parts.old }
@@ -240,7 +258,7 @@ pub fn even_out(alloc: Global, parts: &mut [Section], counts: &mut Counts) -> Re
     ensures parts { length parts.new ≡ length parts.old }
     ensures few { AreFew parts.new }
 {
-    if parts.len() < 2 || counts.records < counts.of_ids.len() {
+    if parts.len() < 2 || counts.records / SAMPLE < counts.of_ids.len() {
         return Ok(());
     }
     cut_anew(alloc, parts, &counts.of_ids)?;

@@ -74,6 +74,7 @@ fn take_at(
 }
 
 /// Evaluates a record for the symbol of an id, where the section that starts with an id has it.
+#[inline(always)]
 fn take_one(
     section: &mut Section,
     start: usize,
@@ -133,8 +134,10 @@ fn is_for(target: Target, ids: Ids, count: usize) -> bool
     }
 }
 
-/// Takes the turn of a record over a section, and says what its symbols say at it.
-fn take_turn(
+/// Takes the turn of a record that isn't of one symbol over a section, and says what its symbols say at it. It stays a call of
+/// its own, for which the records of one symbol make no room.
+#[inline(never)]
+fn take_several(
     alloc: Global,
     section: &mut Section,
     ids: Ids,
@@ -154,6 +157,26 @@ fn take_turn(
             said.clear();
             Ok(())
         }
+    }
+}
+
+/// Takes the turn of a record over a section, and says what its symbols say at it.
+#[inline(always)]
+fn take_turn(
+    alloc: Global,
+    section: &mut Section,
+    ids: Ids,
+    x: &Record,
+    turn: &Turn,
+    said: &mut Vec<Stamped>,
+) -> Result<(), NoMemory>
+    requires few { length section.old.symbols ≤ most_names }
+    ensures takes { OnOk result (Takes ids.start ids.is_last (note_of x.now turn.now) section.old.symbols section.new.symbols said.new.items) }
+    ensures few { length section.new.symbols ≤ most_names }
+{
+    match turn.target {
+        Target::One(id) => take_one(section, ids.start, id, x, &turn.view, said),
+        _ => take_several(alloc, section, ids, x, turn, said),
     }
 }
 

@@ -45,7 +45,7 @@ fn one_more(loads: &[u32], prefix: Prefix) -> Prefix
 /// As few further loads as bring so many times their sum up to what is wanted.
 fn advance(loads: &[u32], prefix: Prefix, times: u64, wanted: u64) -> Prefix
     requires prefix { IsPrefix loads.now prefix.count prefix.sum }
-    requires few { (length loads.now ≤ most_names) × (times ≤ 64) }
+    requires few { (length loads.now ≤ most_names) × (times ≤ 191) }
     requires within { wanted ≤ times * sum loads.now }
     requires before { (fewer : ℕ) → fewer < prefix.count → times * sum (take fewer loads.now) < wanted }
     ensures prefix { IsPrefix loads.now result.count result.sum }
@@ -59,10 +59,10 @@ fn advance(loads: &[u32], prefix: Prefix, times: u64, wanted: u64) -> Prefix
     prefix
 }
 
-/// The upper ends of as many ranges of ids as are asked for, from 1 to 64, which cover at most 16,384 ids and have about
+/// The upper ends of as many ranges of ids as are asked for, from 1 to 191, which cover at most 16,384 ids and have about
 /// the same load each. The last one ends with the last id.
 pub fn cut(alloc: Global, loads: &[u32], ranges: u32) -> Result<Vec<u32>, NoMemory>
-    requires ranges { (0 < ranges) × (ranges ≤ 64) }
+    requires ranges { (0 < ranges) × (ranges ≤ 191) }
     requires loads { length loads.now ≤ most_names }
     ensures { IfOk result (λ ends. AreRangeEnds loads.now ranges ends.items) }
 {

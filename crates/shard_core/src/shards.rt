@@ -216,7 +216,12 @@ impl Shards {
             &mut self.turns,
             &mut self.market,
         )?;
-        count(&self.parts, &self.turns, &mut self.counts)?;
+        count(
+            &self.parts,
+            &self.turns,
+            self.lead.names(),
+            &mut self.counts,
+        )?;
         work_parts(
             rt,
             gate,

@@ -30,42 +30,38 @@ pub struct Turn {
     pub target: Target,
 }
 
-/// Appends a message to a list that has room for it.
-fn append(out: &mut Vec<Tagged>, message: Tagged)
-    requires { vec_len out.old + 1 ≤ vec_capacity out.old }
-    ensures items { out.new.items ≡ out.old.items ++ message ∷ [] }
-    ensures room { vec_capacity out.old ≤ vec_capacity out.new }
-    ensures len { vec_len out.new ≡ vec_len out.old + 1 }
-{
-    out.extend_from_slice(&[message]).unwrap();
-}
-
 /// Appends messages of one input to a list that has room for them.
-fn tag_all(said: &[Stamped], input: u32, out: &mut Vec<Tagged>)
+fn tag_each(said: &[Stamped], input: u32, out: &mut Vec<Tagged>)
     requires { vec_len out.old + length said.now ≤ vec_capacity out.old }
     ensures items { out.new.items ≡ out.old.items ++ tagged input said.now }
 {
     for message in said {
-        append(
-            out,
-            Tagged {
-                input,
-                stamped: *message,
-            },
-        );
+        out.push_reserved(Tagged {
+            input,
+            stamped: *message,
+        });
     }
 }
 
+/// As `tag`. It stays a call of its own, for which the records that bring no message make no room.
+#[inline(never)]
+fn tag_all(said: &[Stamped], input: u32, out: &mut Vec<Tagged>) -> Result<(), NoMemory>
+    ensures { OnOk result (out.new.items ≡ out.old.items ++ tagged input said.now) }
+{
+    out.reserve(said.len())?;
+    tag_each(said, input, out);
+    Ok(())
+}
+
 /// Appends messages of one input.
+#[inline(always)]
 pub fn tag(said: &[Stamped], input: u32, out: &mut Vec<Tagged>) -> Result<(), NoMemory>
     ensures { OnOk result (out.new.items ≡ out.old.items ++ tagged input said.now) }
 {
     if said.is_empty() {
         return Ok(());
     }
-    out.reserve(said.len())?;
-    tag_all(said, input, out);
-    Ok(())
+    tag_all(said, input, out)
 }
 
 /// Whom a record is for that is led next.
@@ -108,31 +104,49 @@ fn own_turn(lead: &Lead, id: u16) -> Turn
     }
 }
 
-/// Leads a record, and notes what symbols need to know of it. The list has the market's messages at this record alone.
-fn lead_one(lead: &mut Lead, x: &Record, said: &mut Vec<Stamped>) -> Result<Turn, NoMemory>
+/// Leads a record that concerns more than one symbol's own course, notes what symbols need to know of it, and appends what the
+/// market says at it. It stays a call of its own, for which the records of symbols make no room.
+#[inline(never)]
+fn lead_market(
+    lead: &mut Lead,
+    x: &Record,
+    input: u32,
+    said: &mut Vec<Stamped>,
+    market: &mut Vec<Tagged>,
+) -> Result<Turn, NoMemory>
     requires day { is_day x.now ≡ false → IsSome lead.old.today }
     ensures turn { IfOk result (λ turn. Leads (note_of x.now turn) lead.old) }
     ensures led { OnOk result (lead.new ≡ led x.now lead.old) }
     ensures begun { OnOk result (IsSome lead.new.today) }
-    ensures said { OnOk result (said.new.items ≡ stamped (moment_of x.now) (rulings x.now lead.old.today)) }
+    ensures said { OnOk result (market.new.items ≡ market.old.items ++ tagged input (stamped (moment_of x.now) (rulings x.now lead.old.today))) }
 {
     said.clear();
-    if let Some(id) = x.symbol() {
-        // The market-wide rules say nothing at it, and change nothing.
-        return Ok(own_turn(lead, id));
-    }
     let target = target_of(x, lead);
     let view = lead.lead(x, said)?;
+    tag(said, input, market)?;
     Ok(Turn { view, target })
 }
 
-/// Adds a turn behind the others.
-fn push(turns: &mut Vec<Turn>, turn: Turn) -> Result<(), NoMemory>
-    ensures items { OnOk result (turns.new.items ≡ turns.old.items ++ turn ∷ []) }
+/// Leads a record, notes what symbols need to know of it, and appends what the market says at it.
+#[inline(always)]
+fn lead_one(
+    lead: &mut Lead,
+    x: &Record,
+    input: u32,
+    said: &mut Vec<Stamped>,
+    market: &mut Vec<Tagged>,
+) -> Result<Turn, NoMemory>
+    requires day { is_day x.now ≡ false → IsSome lead.old.today }
+    ensures turn { IfOk result (λ turn. Leads (note_of x.now turn) lead.old) }
+    ensures led { OnOk result (lead.new ≡ led x.now lead.old) }
+    ensures begun { OnOk result (IsSome lead.new.today) }
+    ensures said { OnOk result (market.new.items ≡ market.old.items ++ tagged input (stamped (moment_of x.now) (rulings x.now lead.old.today))) }
 {
-    turns.reserve(1)?;
-    turns.push_reserved(turn);
-    Ok(())
+    match x.symbol() {
+        // The market-wide rules say nothing at it, and change nothing.
+        Some(id) => Ok(own_turn(lead, id)),
+        None => lead_market(lead, x, input, said, market),
+    }
 }
 
 /// Leads the records of a block, on a day that has begun or that the first of them begins: notes what symbols need to know of each,
@@ -151,10 +165,10 @@ pub fn lead_all(
 {
     turns.clear();
     market.clear();
+    turns.reserve(xs.len())?;
     for input in 0..xs.len() {
-        let turn = lead_one(lead, &xs[input], said)?;
-        tag(said, input as u32, market)?;
-        push(turns, turn)?;
+        let turn = lead_one(lead, &xs[input], input as u32, said, market)?;
+        turns.push_reserved(turn);
     }
     Ok(())
 }

@@ -7,7 +7,7 @@ use Rattle.shard_core.proofs.ranges.cut.Goals as goal
 
 pub overflow_mul-from : goal.overflow_mul-from
 overflow_mul-from c =
-    let few = mul-le c.from-in-loop-share.result c.sum_of-whole.result 64 70368744161280 (omega (arith, c.from-in-loop-share.ensures, c.loop-share-test.true, c.requires.ranges.1)) c.sum_of-whole.ensures.few in
+    let few = mul-le c.from-in-loop-share.result c.sum_of-whole.result 191 70368744161280 (omega (arith, c.from-in-loop-share.ensures, c.loop-share-test.true, c.requires.ranges.1)) c.sum_of-whole.ensures.few in
     omega (arith, few)
 
 pub loop-share-preserved : goal.loop-share-preserved

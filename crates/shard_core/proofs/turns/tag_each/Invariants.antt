@@ -1,6 +1,6 @@
 use Rattle.std.proofs.Common.{◌≡◌, ◌+◌, ◌≤◌, ◌++◌, take, vec_len, vec_capacity}
 use Rattle.shard_core.specs.Block.{tagged}
-use Rattle.shard_core.proofs.turns.tag_all.Given as goal
+use Rattle.shard_core.proofs.turns.tag_each.Given as goal
 
 abbrev pub invariant-loop-message : goal.invariant-loop-message
 invariant-loop-message l = record {
