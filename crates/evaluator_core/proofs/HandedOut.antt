@@ -1,14 +1,14 @@
 -- The messages of the oldest record of a block are those that the rest of what it gave begins with.
-use Rattle.std.proofs.Common.{◌≡◌, ◌≢◌, ℕ, zero, suc, ◌+◌, ◌-◌, ◌%◌, ◌<◌, ◌≤◌, List, [], ◌∷◌, ◌++◌, length, map, take, drop, refl, sym, ap, subst, ◌∙◌, arith}
+use Rattle.std.proofs.Common.{◌≡◌, ◌≢◌, ℕ, zero, suc, ◌+◌, ◌%◌, ◌<◌, ◌≤◌, List, [], ◌∷◌, ◌++◌, length, map, take, drop, refl, sym, ap, subst, ◌∙◌, arith}
 use Rattle.std.proofs.lemmas.Bool.Decides.{nat_tests}
-use Rattle.std.proofs.lemmas.List.{drop-drop, drop_at, take_at, take_rest}
+use Rattle.std.proofs.lemmas.List.{drop_at, take_at}
 use Rattle.wire_in.specs.declared.record.Record.{Record}
 use Rattle.wire_out.specs.declared.message.Stamped.{Stamped}
 use Rattle.rulebook.specs.Book.{newest_messages}
 use Rattle.merge_core.specs.declared.tagged.Tagged.{Tagged}
 use Rattle.shard_core.specs.Block as blocks
 use Rattle.shard_core.specs.Block.{ShardsState, followed, given_from, tagged}
-use Rattle.evaluator_core.specs.AheadState.{IsAheadOf}
+use Rattle.evaluator_core.specs.AheadState.{AheadState, IsAheadOf}
 use Rattle.evaluator_core.specs.Leading.{leading}
 
 pub leading-same : (index : ℕ) (message : Tagged) (later : List Tagged) → message.input ≡ index → leading index (message ∷ later) ≡ suc (leading index later)
@@ -81,25 +81,28 @@ next_index index xs x later few is = let next = behind index xs x later is in om
 pub next_ahead : {X : Type 0} (index : ℕ) (xs : List X) (x : X) (later : List X) → length xs ≤ 65536 → drop index xs ≡ x ∷ later → drop ((index + 1) % 4294967296) xs ≡ later
 next_ahead index xs x later few is = ap (λ (n : ℕ). drop n xs) (next_index index xs x later few is) ∙ (behind index xs x later is).1
 
--- the messages of the oldest record that is ahead are handed out from an index of the list on
-pub record HandsOn (count : ℕ) (part : List Tagged) (shards : ShardsState) (index at : ℕ) (records : List Record) (given : List Tagged) (x : Record) (applied later : List Record) : Type 0 where
-  pub said : map (λ (message : Tagged). message.stamped) (take count part) ≡ newest_messages (x ∷ applied)
-  pub stands : IsAheadOf (record { shards = shards; index = (index + 1) % 4294967296; ahead = drop ((index + 1) % 4294967296) records; left = drop (at + count) given }) (x ∷ applied)
+-- a block without the messages of its oldest record
+abbrev pub without_first : AheadState → AheadState
+without_first block = record block { left = drop (leading block.index block.left) block.left }
 
-pub hands_on : (count at index : ℕ) (shards : ShardsState) (records : List Record) (slice given : List Tagged) (x : Record) (applied later : List Record) → length records ≤ 65536
-    → slice ≡ given → count ≡ leading index (take (length slice - at) (drop at slice)) → drop index records ≡ x ∷ later
-    → IsAheadOf (record { shards = shards; index = index; ahead = drop index records; left = drop at given }) applied
-    → HandsOn count (take (length slice - at) (drop at slice)) shards index at records given x applied later
-hands_on count at index shards records slice given x applied later few same is oldest block =
-    let part = take (length slice - at) (drop at slice) in
-    let part_is : part ≡ drop at given = take_rest slice at ∙ ap (drop at) same in
-    let out = hands_out count index part x applied later is (part_is ∙ block.left ∙ ap (given_from index applied) oldest) in
-    let next = next_index index records x later few oldest in
-    let ahead = next_ahead index records x later few oldest in
-    let stood : blocks.Represents shards (followed (x ∷ applied) later) = subst (λ (xs : List Record). blocks.Represents shards (followed applied xs)) oldest block.shards in record {
-      said = out.said;
-      stands = record {
-        shards = subst (λ (xs : List Record). blocks.Represents shards (followed (x ∷ applied) xs)) (sym ahead) stood;
-        left = sym (drop-drop count at given) ∙ ap (drop count) (sym part_is) ∙ out.rest ∙ (λ i. given_from (sym next i) (x ∷ applied) (sym ahead i));
-      };
+pub nothing_first : (block : AheadState) → leading block.index block.left ≡ 0 → block ≡ without_first block
+nothing_first block none = ap (λ (n : ℕ). record block { left = drop n block.left }) (sym none)
+
+-- the messages of the oldest record that is ahead are handed out
+pub says : (block : AheadState) (x : Record) (applied later : List Record) → block.ahead ≡ x ∷ later → IsAheadOf block applied
+    → map (λ (message : Tagged). message.stamped) (take (leading block.index block.left) block.left) ≡ newest_messages (x ∷ applied)
+says block x applied later oldest ahead = (hands_out (leading block.index block.left) block.index block.left x applied later refl (ahead.left ∙ ap (given_from block.index applied) oldest)).said
+
+-- and the record counts as evaluated then
+pub goes_on : (shards : ShardsState) (index : ℕ) (records : List Record) (left : List Tagged) (block : AheadState) (x : Record) (applied later : List Record) → length records ≤ 65536
+    → record { shards = shards; index = index; ahead = drop index records; left = left } ≡ without_first block → block.ahead ≡ x ∷ later → IsAheadOf block applied
+    → IsAheadOf (record { shards = shards; index = (index + 1) % 4294967296; ahead = drop ((index + 1) % 4294967296) records; left = left }) (x ∷ applied)
+goes_on shards index records left block x applied later few is oldest ahead =
+    let rest = (hands_out (leading block.index block.left) block.index block.left x applied later refl (ahead.left ∙ ap (given_from block.index applied) oldest)).rest in
+    let next = next_index index records x later few (ap (λ (b : AheadState). b.ahead) is ∙ oldest) in
+    let later_is = next_ahead index records x later few (ap (λ (b : AheadState). b.ahead) is ∙ oldest) in
+    let stood : blocks.Represents block.shards (followed (x ∷ applied) later) = subst (λ (xs : List Record). blocks.Represents block.shards (followed applied xs)) oldest ahead.shards in record {
+      shards = subst (λ (s : ShardsState). blocks.Represents s (followed (x ∷ applied) (drop ((index + 1) % 4294967296) records))) (sym (ap (λ (b : AheadState). b.shards) is))
+          (subst (λ (xs : List Record). blocks.Represents block.shards (followed (x ∷ applied) xs)) (sym later_is) stood);
+      left = ap (λ (b : AheadState). b.left) is ∙ rest ∙ (λ i. given_from ((ap suc (sym (ap (λ (b : AheadState). b.index) is)) ∙ sym next) i) (x ∷ applied) (sym later_is i));
     }

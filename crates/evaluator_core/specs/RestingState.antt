@@ -1,5 +1,5 @@
 -- What stands for a market of several workers that rest.
-use Rattle.std.specs.Prelude.{◌≡◌, ℕ, List, Option, None, Some, IfSome, length}
+use Rattle.std.specs.Prelude.{ℕ, List, Option, None, Some, IfSome, length}
 use Rattle.wire_in.specs.declared.record.Record.{Record}
 use Rattle.market_core.specs.MarketState as markets
 use Rattle.market_core.specs.MarketState.{MarketState}

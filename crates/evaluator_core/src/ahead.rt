@@ -1,6 +1,6 @@
 //! A market that evaluates a block of records ahead, and hands out their messages record by record.
 
-ghost use Rattle.std.specs.Prelude.{◌≡◌, ◌==◌, ◌+◌, ◌<◌, ◌≤◌, ◌++◌, ◌∷◌, ℕ, [], false, true, List, IfOk, IsOk, OnOk, length, map, vec_len, vec_capacity};
+ghost use Rattle.std.specs.Prelude.{◌≡◌, ◌==◌, ◌+◌, ◌<◌, ◌≤◌, ◌++◌, ◌∷◌, ℕ, [], false, true, List, IfOk, IsOk, OnOk, drop, length, map, nat_lt, take, vec_len, vec_capacity};
 ghost use Rattle.wire_in.specs.declared.record.Record.{Record};
 ghost use Rattle.rulebook.specs.Admission.{most_names};
 ghost use Rattle.rulebook.specs.Book.{newest_messages};
@@ -51,6 +51,16 @@ impl Model for Ahead {
     ghost view = { λ block. record { shards = block.shards; index = block.index; ahead = drop block.index block.records.value.items; left = drop block.at block.given.items } };
 
     ghost invariant = { λ block. (1 < length block.shards.parts) × (block.at ≤ length block.given.items) × (length block.records.value.items ≤ 65536) × (block.shards.working ≡ true → IsSomeAnd block.room (λ market. market.symbols ≡ [])) };
+}
+
+/// Whether the first message is of the record at an index.
+fn is_of(messages: &[Tagged], index: u32) -> bool
+    ensures { result ≡ nat_lt 0 (leading index messages.now) }
+{
+    match messages.first() {
+        Some(message) => message.input == index,
+        None => false,
+    }
 }
 
 /// How many of the first messages are of the record at an index.
@@ -190,6 +200,28 @@ impl Ahead {
         let _ = self.shards.block(rt, xs, gate, &mut self.given);
     }
 
+    /// Hands out the messages of the oldest record that is evaluated ahead. It stays a call of its own, for which the records
+    /// that bring no message make no room.
+    #[inline(never)]
+    fn hand_out(&mut self, out: &mut Vec<Stamped>) -> Result<(), NoMemory>
+        ensures said { OnOk result (out.new.items ≡ out.old.items ++ map (λ message. message.stamped) (take (leading self.old.index self.old.left) self.old.left)) }
+        ensures left { OnOk result (self.new ≡ record self.old { left = drop (leading self.old.index self.old.left) self.old.left }) }
+        ensures parts { self.new.shards ≡ self.old.shards }
+        ensures few { vec_len out.new ≤ vec_len out.old + most_messages }
+        ensures keeps_room { vec_capacity out.old ≤ vec_capacity out.new }
+    {
+        let left = &self.given[self.at..];
+        let count = count_of(left, self.index);
+        // No record gives so many messages.
+        if count > MOST_MESSAGES {
+            return Err(NoMemory);
+        }
+        out.reserve(count)?;
+        append(&left[..count], out);
+        self.at += count;
+        Ok(())
+    }
+
     /// Hands out the messages of the oldest record that is evaluated ahead. It fails where its block, or one before, found
     /// no memory. It stays a call of its own, so that one worker's way past it is a jump.
     #[inline(never)]
@@ -205,15 +237,13 @@ impl Ahead {
         ensures parts { self.new.shards ≡ self.old.shards }
         ensures several { 1 < length self.old.shards.parts }
     {
-        let left = &self.given[self.at..];
-        let count = count_of(left, self.index);
-        // The parts don't work after a block that found no memory, and no record gives so many messages.
-        if !self.shards.working() || count > MOST_MESSAGES {
+        // The parts don't work after a block that found no memory.
+        if !self.shards.working() {
             return Err(NoMemory);
         }
-        out.reserve(count)?;
-        append(&left[..count], out);
-        self.at += count;
+        if is_of(&self.given[self.at..], self.index) {
+            self.hand_out(out)?;
+        }
         self.index = self.index.wrapping_add(1);
         Ok(())
     }
