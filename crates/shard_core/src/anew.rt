@@ -178,7 +178,8 @@ fn deal(all: Section, ends: &[u32], parts: &mut [Section]) -> Result<(), NoMemor
     Ok(())
 }
 
-/// Deals stocks out to parts in their order, to each of them as many as to the others, and counts a record for each stock.
+/// Deals stocks out to parts in their order, to each of them about as many as to the others, but to the first one two thirds of
+/// that, and counts a record for each stock.
 pub(crate) fn deal_evenly(
     alloc: Global,
     all: Section,

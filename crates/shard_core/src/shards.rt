@@ -104,7 +104,8 @@ impl Shards {
         })
     }
 
-    /// One market in so many parts, from 1 to 64, which have as many of its stocks each.
+    /// One market in so many parts, from 1 to 64. Each has as many of its stocks as the others, but for the first one, which has
+    /// about two thirds of that.
     pub fn of(alloc: Global, workers: u32, market: Market) -> Result<Shards, NoMemory>
         requires workers { (0 < workers) × (workers ≤ 64) }
         ensures one { IfOk result (λ shards. market_of shards ≡ market) }
