@@ -1,4 +1,3 @@
-pub mod Loads
 pub mod Parts
 pub mod Merging
 pub mod Markets

@@ -20,7 +20,7 @@ use Rattle.symbol_core.specs.declared.state.Kept.{Kept}
 use Rattle.symbol_core.specs.declared.state.Step.{Step}
 use Rattle.symbol_core.specs.declared.symbol.MarketView.{MarketView}
 use Rattle.symbol_core.specs.Evaluates.{Evaluates}
-use Rattle.symbol_core.specs.Idle.{AwaitsPrice, IsDue, IsIdle, IsSettled, IsAwaited, IsStill, MeanMoves, Waits, WaitsAt, brings_deal_or_time, comes_often, has_price, is_out, keeps_price}
+use Rattle.symbol_core.specs.Idle.{AwaitsPrice, IsDue, IsIdle, IsSettled, HasTaken, IsAwaited, IsStill, MayMove, MeanMoves, Waits, WaitsAt, brings_deal_or_time, comes_often, has_price, is_out, keeps_price}
 use Rattle.symbol_core.specs.InStep.{InStep, in_step, just_opened}
 use Rattle.symbol_core.specs.Kept.{heard, quoted_by, requoted}
 use Rattle.symbol_core.specs.Pricing.{later_price, offered, priced_by, reference}
@@ -153,8 +153,23 @@ module _ (market : MarketView) (x : Record) (k : Kept) (deal : Option Deal) (w :
       })
       (just_opened deal (w.restricts j)))
 
-module _ (market : MarketView) (x : Record) (k : Kept) (deals : List Deal) (deal : Option Deal)
-    (w : IsAwaited k market x deal) (keeps : keeps_price k (moment_of x) (mean_of (live (moment_of x) (live (moment_of x) deals ++ option_to_list deal))) ≡ true) where
+  pub awaited-taken : HasTaken k k market x deal
+  awaited-taken = record { takes = took; cancels = of_plain.cancels }
+
+  pub awaited-moves : MayMove k market x deal
+  awaited-moves = record {
+    often = of_plain.often;
+    settled = w.settled;
+    until = w.until;
+    later = w.later;
+    waits = w.waits;
+    recent = subst (λ (o : Option Deal). live (moment_of x) (option_to_list o) ≡ option_to_list o) (sym w.own) (live-own market.day k.id x);
+    priced = w.priced;
+    counts = w.counts;
+  }
+
+module _ (market : MarketView) (x : Record) (was k : Kept) (deals : List Deal) (deal : Option Deal) (w : MayMove k market x deal) (has : HasTaken was k market x deal)
+    (keeps : keeps_price k (moment_of x) (mean_of (live (moment_of x) (live (moment_of x) deals ++ option_to_list deal))) ≡ true) where
   abbrev t : ℕ
   t = moment_of x
 
@@ -167,55 +182,42 @@ module _ (market : MarketView) (x : Record) (k : Kept) (deals : List Deal) (deal
   abbrev with_deal : InStep
   with_deal = in_step k (just_opened deal false)
 
-  taken_in : taken k step ≡ with_deal
-  taken_in = took market x k deal w
-
-  plainly : IsPlain k x
-  plainly = of_plain market x k deal w
-
   -- and once its step is over
-  over : k ≡ (taken k step).kept
-  over = ap (λ (l : InStep). l.kept) (sym taken_in)
+  over : k ≡ (taken was step).kept
+  over = ap (λ (l : InStep). l.kept) (sym has.takes)
 
   abbrev stayed : List Deal
-  stayed = live t (filter (leaves k.id x) deals)
+  stayed = live t (filter (leaves was.id x) deals)
 
   all : stayed ≡ live t deals
-  all = ap (live t) (leaves-all k.id x deals plainly.cancels)
+  all = ap (live t) (leaves-all was.id x deals has.cancels)
 
-  waits : WaitsAt k step w.until
-  waits = record { often = plainly.often; later = w.later; waits = w.waits }
+  waits : WaitsAt (taken was step).kept step w.until
+  waits = subst (λ (kept : Kept). WaitsAt kept step w.until) over (record { often = w.often; later = w.later; waits = w.waits })
 
-  settled : IsSettled (taken k step).kept market.stopped
+  settled : IsSettled (taken was step).kept market.stopped
   settled = subst (λ (kept : Kept). IsSettled kept market.stopped) over w.settled
 
   -- the window with the deal
   dealt_in : (stayed ++ (if is_some k.run then option_to_list deal else [])) ≡ left
   dealt_in = λ j. all j ++ w.counts j
 
-  no_price : reference (taken k step) step (mean_of (live t (window (taken k step) stayed))) ≡ None
+  no_price : reference (taken was step) step (mean_of (live t (window (taken was step) stayed))) ≡ None
   no_price =
-      subst (λ (l : InStep). reference l step (mean_of (live t (window l stayed))) ≡ None) (sym taken_in)
+      subst (λ (l : InStep). reference l step (mean_of (live t (window l stayed))) ≡ None) (sym has.takes)
       (ap (λ (ds : List Deal). reference with_deal step (mean_of (live t ds))) dealt_in ∙ kept-none with_deal step (mean_of (live t left)) refl keeps)
 
-  keeps_deals : SameLive t left (window (taken k step) stayed)
+  keeps_deals : SameLive t left (window (taken was step) stayed)
   keeps_deals =
-      subst (λ (l : InStep). SameLive t left (window l stayed)) (sym taken_in)
+      subst (λ (l : InStep). SameLive t left (window l stayed)) (sym has.takes)
       (subst (λ (ds : List Deal). SameLive t left ds) (sym dealt_in) (record { at = λ u le. refl }))
 
-  deal-steps : (before : List Message) → Steps step k k deals left before before
-  deal-steps before =
-      let spoken = speaks-quiet (taken k step) stayed step before (Some w.until) refl (waits-taken k step (Some w.until) waits) settled no_price (ap (λ (l : InStep). l.opened.restricts) taken_in) in
-      step-evaluates step k spoken.said (taken k step) (taken k step) k deals (filter (leaves k.id x) deals) stayed stayed left before spoken.between before
+  -- a record that brings no new reference price, and leaves nothing but its deal for the rules
+  pub kept-steps : (before : List Message) → Steps step was k deals left before before
+  kept-steps before =
+      let spoken = speaks-quiet (taken was step) stayed step before (Some w.until) refl waits settled no_price (ap (λ (l : InStep). l.opened.restricts) has.takes) in
+      step-evaluates step was spoken.said (taken was step) (taken was step) k deals (filter (leaves was.id x) deals) stayed stayed left before spoken.between before
       refl refl refl refl spoken.announces spoken.obeys keeps_deals over
-
-  pub dealt-evaluated : (before : List Message) → Evaluates market x (record { kept = k; deals = deals; spare = 0 }) (record { kept = k; deals = left; spare = 0 }) before before
-  dealt-evaluated before =
-      step-evaluated market x (record { kept = k; deals = deals; spare = 0 }) (record { kept = k; deals = left; spare = 0 }) before before plainly.no_day (is_here k x w.inside) (deal-steps before)
-
-  -- deals that are live with the new one
-  pub dealt-recent : live t left ≡ left
-  dealt-recent = live-added t deals (option_to_list deal) (subst (λ (o : Option Deal). live t (option_to_list o) ≡ option_to_list o) (sym w.own) (live-own market.day k.id x))
 
 -- a stock that is listed is evaluated at ticks too
 pub awaited-here : (k : Kept) (market : MarketView) (x : Record) (deal : Option Deal) → IsAwaited k market x deal → away x k.terms ≡ false
@@ -234,36 +236,33 @@ pub keeps-at : (k : Kept) (gone deals : List Deal) (deal : Option Deal) (t u : �
     → keeps_price k u (mean_of (live u (deals ++ option_to_list deal))) ≡ true
 keeps-at k gone deals deal t u answer at same is passes = (λ i. keeps_price k (sym at i) (mean_of (live (sym at i) (sym same i ++ option_to_list deal)))) ∙ sym is ∙ passes
 
--- a record that brings a new reference price, whose deal is all that it leaves for the rules
-pub moved-steps : (k : Kept) (mid : InStep) (market : MarketView) (x : Record) (s : Step) (deal : Option Deal) (kept lent left : List Deal) (before after : List Message) → s ≡ step_for market x → IsAwaited k market x deal → live (moment_of x) kept ≡ lent
+-- a record that brings a new reference price, and leaves nothing but its deal for the rules
+pub moved-steps : (was k : Kept) (mid : InStep) (market : MarketView) (x : Record) (s : Step) (deal : Option Deal) (kept lent left : List Deal) (before after : List Message) → s ≡ step_for market x → MayMove k market x deal → HasTaken was k market x deal → live (moment_of x) kept ≡ lent
     → ObeysAll lent symbol_rules s (in_step k (just_opened deal false)) mid before after
     → SameLive s.moment left ((if mid.opened.is_fresh then [] else lent) ++ (if is_some mid.kept.run then option_to_list deal else []))
-    → Steps (step_for market x) k mid.kept kept left before after
-moved-steps k mid market x s deal kept lent left before after is w gone obeys keeps =
-    let of_plain = plain k x w.kind in
+    → Steps (step_for market x) was mid.kept kept left before after
+moved-steps was k mid market x s deal kept lent left before after is w has gone obeys keeps =
     let opened = in_step k (just_opened deal false) in
-    step-evaluates (step_for market x) k opened mid opened mid.kept kept (filter (leaves k.id x) kept) lent lent left before before after
-    refl (sym gone ∙ ap (live (moment_of x)) (sym (leaves-all k.id x kept of_plain.cancels))) refl (sym (took market x k deal w))
-    (announces-none opened (step_for market x) before of_plain.often)
+    step-evaluates (step_for market x) was opened mid opened mid.kept kept (filter (leaves was.id x) kept) lent lent left before before after
+    refl (sym gone ∙ ap (live (moment_of x)) (sym (leaves-all was.id x kept has.cancels))) refl (sym has.takes)
+    (announces-none opened (step_for market x) before w.often)
     (subst (λ (u : Step). ObeysAll lent symbol_rules u opened mid before after) is obeys)
     (subst (λ (u : Step). SameLive u.moment left ((if mid.opened.is_fresh then [] else lent) ++ (if is_some mid.kept.run then option_to_list deal else []))) is keeps) refl
 
-pub moved-recent : (k : Kept) (market : MarketView) (x : Record) (deal : Option Deal) (t : ℕ) → IsAwaited k market x deal → t ≡ moment_of x → live t (option_to_list deal) ≡ option_to_list deal
-moved-recent k market x deal t w at =
-    subst (λ (u : ℕ). live u (option_to_list deal) ≡ option_to_list deal) (sym at)
-    (subst (λ (o : Option Deal). live (moment_of x) (option_to_list o) ≡ option_to_list o) (sym w.own) (live-own market.day k.id x))
+pub moved-recent : (k : Kept) (market : MarketView) (x : Record) (deal : Option Deal) (t : ℕ) → MayMove k market x deal → t ≡ moment_of x → live t (option_to_list deal) ≡ option_to_list deal
+moved-recent k market x deal t w at = subst (λ (u : ℕ). live u (option_to_list deal) ≡ option_to_list deal) (sym at) w.recent
 
 -- and before whose bands no rule says anything
-pub awaits-price : (k : Kept) (market : MarketView) (x : Record) (deal : Option Deal) (step : Step) → step ≡ step_for market x → IsAwaited k market x deal → is_trading k.phase ≡ true → AwaitsPrice k step
+pub awaits-price : (k : Kept) (market : MarketView) (x : Record) (deal : Option Deal) (step : Step) → step ≡ step_for market x → MayMove k market x deal → is_trading k.phase ≡ true → AwaitsPrice k step
 awaits-price k market x deal step is w trading = subst (AwaitsPrice k) (sym is) (record {
   trading = trading;
   settled = w.settled;
   until = w.until;
-  waits = record { often = (plain k x w.kind).often; later = w.later; waits = w.waits };
+  waits = record { often = w.often; later = w.later; waits = w.waits };
 })
 
 -- the mean that it brings
-pub mean-moves : (market : MarketView) (x : Record) (k : Kept) (deals : List Deal) (deal : Option Deal) (step : Step) → step ≡ step_for market x → IsAwaited k market x deal
+pub mean-moves : (market : MarketView) (x : Record) (k : Kept) (deals : List Deal) (deal : Option Deal) (step : Step) → step ≡ step_for market x → MayMove k market x deal
     → keeps_price k (moment_of x) (mean_of (live (moment_of x) (deals ++ option_to_list deal))) ≡ false → MeanMoves (in_step k (just_opened deal false)) deals step
 mean-moves market x k deals deal step is w moves =
     subst (MeanMoves with_deal deals) (sym is) (by (is_trading k.phase) (run_reference k).last (mean_of (live t (deals ++ option_to_list deal))) refl refl refl w.priced moves)

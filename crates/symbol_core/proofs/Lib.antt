@@ -25,3 +25,4 @@ pub mod Unmoved
 pub mod Quiet
 pub mod Quoted
 pub mod Dealt
+pub mod Repriced

@@ -40,7 +40,7 @@ abbrev pub quoted : SymbolState → ℕ → Quotation → SymbolState
 quoted held t quote = record { kept = with_quote held.kept quote; deals = live t held.deals; spare = 0 }
 
 -- what a quotation leaves
-kept_quoted : {X : Type 0} (value : Kept → X) (k : Kept) (quote : Quotation) → ((run : Run) (other : Option Quotation) → value (record k { run = Some (requoted other run) }) ≡ value (record k { run = Some run })) → value (with_quote k quote) ≡ value k
+pub kept_quoted : {X : Type 0} (value : Kept → X) (k : Kept) (quote : Quotation) → ((run : Run) (other : Option Quotation) → value (record k { run = Some (requoted other run) }) ≡ value (record k { run = Some run })) → value (with_quote k quote) ≡ value k
 kept_quoted value k quote leaves = run_keeps (λ o. value (record k { run = o })) (requoted (Some quote)) (λ run. leaves run (Some quote)) k.run
 
 reference_quoted : (k : Kept) (quote : Quotation) (step : Step) (mean : Option ℕ) → reference (at_rest (with_quote k quote)) step mean ≡ reference (at_rest k) step mean

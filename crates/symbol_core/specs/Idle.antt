@@ -20,11 +20,12 @@ use Rattle.symbol_core.specs.declared.due.Due.{Due}
 use Rattle.symbol_core.specs.declared.state.Kept.{Kept}
 use Rattle.symbol_core.specs.declared.state.Step.{Step}
 use Rattle.symbol_core.specs.declared.symbol.MarketView.{MarketView}
-use Rattle.symbol_core.specs.InStep.{InStep, at_rest}
+use Rattle.symbol_core.specs.InStep.{InStep, at_rest, in_step, just_opened}
 use Rattle.symbol_core.specs.Kept.{straddles_at}
 use Rattle.symbol_core.specs.Pricing.{reference, time_changes}
 use Rattle.symbol_core.specs.Runs.{run_band, run_quote, run_reference}
-use Rattle.symbol_core.specs.Taken.{deal_of, triggers_by}
+use Rattle.symbol_core.specs.Steps.{step_for}
+use Rattle.symbol_core.specs.Taken.{cancelled_by, deal_of, taken, triggers_by}
 use Rattle.symbol_core.specs.Window.{window}
 
 -- in a limit state whose band that quotation has left
@@ -160,6 +161,22 @@ pub record IsAwaited (k : Kept) (market : MarketView) (x : Record) (deal : Optio
   pub priced : has_price k ≡ true
   pub counts : (if is_some k.run then option_to_list deal else []) ≡ option_to_list deal
   pub restricts : (triggers_by k.short.prior_close deal && not k.short.triggered) ≡ false
+
+-- at a record, once it is taken in, only another reference price can come, and a deal that counts
+pub record MayMove (k : Kept) (market : MarketView) (x : Record) (deal : Option Deal) : Type 0 where
+  pub often : comes_often x ≡ true
+  pub settled : IsSettled k market.stopped
+  pub until : ℕ
+  pub later : moment_of x < until
+  pub waits : Waits k market.day market.stopped (moment_of x) until
+  pub recent : live (moment_of x) (option_to_list deal) ≡ option_to_list deal
+  pub priced : has_price k ≡ true
+  pub counts : (if is_some k.run then option_to_list deal else []) ≡ option_to_list deal
+
+-- all that a record leaves for the rules, once it is taken in, is its deal
+pub record HasTaken (was k : Kept) (market : MarketView) (x : Record) (deal : Option Deal) : Type 0 where
+  pub takes : taken was (step_for market x) ≡ in_step k (just_opened deal false)
+  pub cancels : cancelled_by was.id x ≡ None
 
 -- at an open step no rule before that of the bands says anything
 pub record AwaitsPrice (k : Kept) (step : Step) : Type 0 where

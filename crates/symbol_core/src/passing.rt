@@ -124,6 +124,15 @@ impl Due {
     {
         self.from.nanos() <= t.nanos() && t.nanos() < self.waits && market.is_same(self.market)
     }
+
+    /// Whether time may bring a new reference price at a moment of a market, and nothing else.
+    pub fn brings_price(&self, t: Moment, market: &MarketView) -> bool
+        ensures from { result ≡ true → self.now.from ≤ t }
+        ensures until { result ≡ true → t < self.now.waits }
+        ensures market { result ≡ true → market.now ≡ self.now.market }
+    {
+        self.until <= t.nanos() && self.waits_for(t, market)
+    }
 }
 
 impl Kept {
@@ -194,6 +203,14 @@ impl Kept {
         }
     }
 
+    /// Whether the stock has a reference price, where it is trading. The first price of a run is left to its rule.
+    #[inline(always)]
+    fn has_price(&self) -> bool
+        ensures { result ≡ has_price self.now }
+    {
+        self.last_reference().last().is_some() || !is_trading(self.phase)
+    }
+
     /// Whether a deal, where there is one, brings a settled stock nothing but perhaps a new reference price.
     #[inline(always)]
     pub fn awaits_price(&self, deal: &Option<Deal>) -> bool
@@ -202,9 +219,18 @@ impl Kept {
         ensures counts { result ≡ true → (if is_some self.now.run then option_to_list deal.now else []) ≡ option_to_list deal.now }
         ensures restricts { result ≡ true → (triggers_by self.now.short.prior_close deal.now && not self.now.short.triggered) ≡ false }
     {
-        // The first price of a run is left to its rule.
-        let has_price = self.last_reference().last().is_some() || !is_trading(self.phase);
-        has_price && !self.is_out() && self.counts(deal) && !self.is_restricted_by(deal)
+        self.has_price() && !self.is_out() && self.counts(deal) && !self.is_restricted_by(deal)
+    }
+
+    /// Whether a quotation brings a settled stock nothing but perhaps a new reference price.
+    #[inline(always)]
+    pub fn may_move_by(&self, quote: &Quotation, market: &MarketView) -> bool
+        ensures priced { result ≡ true → has_price self.now ≡ true }
+        ensures listed { result ≡ true → is_out self.now ≡ false }
+        ensures run { result ≡ true → is_some self.now.run ≡ true }
+        ensures settled { result ≡ true → IsSettled self.now market.now.stopped → IsSettledAt self.now (Some quote.now) market.now.stopped }
+    {
+        self.has_price() && self.stays_settled(quote, market.stopped)
     }
 
     /// Sets when the stock is next due once other deals are kept, where no rule says anything.

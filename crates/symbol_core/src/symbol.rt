@@ -10,7 +10,7 @@ ghost use Rattle.rulebook.specs.declared.event.Event.{Event};
 ghost use Rattle.rulebook.specs.Symbol as of;
 ghost use Rattle.rulebook.specs.Symbol.{traded_price};
 ghost use Rattle.symbol_core.specs.Evaluates.{most_of_symbol};
-ghost use Rattle.symbol_core.specs.Idle.{IsAwaited, IsDue, IsSettled, Waits, WaitsAt, brings_deal_or_time, changes_bands, keeps_price};
+ghost use Rattle.symbol_core.specs.Idle.{HasTaken, IsAwaited, IsDue, IsSettled, IsStill, MayMove, Waits, WaitsAt, brings_deal_or_time, changes_bands, keeps_price};
 ghost use Rattle.symbol_core.specs.InStep.{in_step};
 ghost use Rattle.symbol_core.specs.Stands.{Speaks};
 ghost use Rattle.symbol_core.specs.Steps.{Steps, step_for};
@@ -247,8 +247,7 @@ impl Symbol {
         false
     }
 
-    /// Evaluates a trade or a tick that may bring a new reference price and nothing else: where it brings none, no rule is
-    /// asked. The trades that are five minutes old go first, so that the mean takes no time for each trade.
+    /// Evaluates a trade or a tick that may bring a new reference price and nothing else.
     #[inline(always)]
     fn take_awaited(
         &mut self,
@@ -265,15 +264,8 @@ impl Symbol {
         ensures room { 1 ≤ self.old.spare → IsOk result }
         ensures recent { OnOk result (live (moment_of x.now) self.new.deals ≡ self.new.deals) }
     {
-        let t = x.moment();
         reserve_deal(deal, &mut self.deals)?;
-        drop_old(t, &mut self.deals);
-        if self.kept.keeps_price(t, deal, &self.deals) {
-            add_one(deal, &mut self.deals);
-            self.kept.stay_due(&mut self.due, &self.deals);
-            return Ok(());
-        }
-        take_moved(
+        take_deal(
             &mut self.kept,
             &mut self.deals,
             &mut self.due,
@@ -283,6 +275,47 @@ impl Symbol {
             out,
         );
         Ok(())
+    }
+
+    /// Whether time may bring a new reference price at a moment of a market, and nothing else.
+    #[inline(always)]
+    fn awaits_price_at(&self, t: Moment, market: &MarketView) -> bool {
+        match &self.due {
+            Some(due) => due.brings_price(t, market),
+            None => false,
+        }
+    }
+
+    /// Evaluates a quotation whose moment may bring a new reference price, where it brings nothing else. False: the record is no
+    /// such quotation, and all is as it was. It stays a call of its own, for which the other records make no room.
+    #[inline(never)]
+    fn take_awaited_quote(&mut self, x: &Record, market: &MarketView, out: &mut Messages) -> bool
+        requires room { length out.old + 15 ≤ most_of_symbol }
+        ensures takes { result ≡ true → Evaluates market.now x.now self.old self.new out.old out.new }
+        ensures recent { result ≡ true → live (moment_of x.now) self.new.deals ≡ self.new.deals }
+        ensures others { result ≡ false → (self.new ≡ self.old) × (out.new ≡ out.old) }
+    {
+        let Some(quote) = quoted_by(self.kept.id, x) else {
+            return false;
+        };
+        let t = x.moment();
+        match &mut self.due {
+            Some(due) if due.brings_price(t, market) && self.kept.may_move_by(&quote, market) => {
+                due.from = t;
+                self.kept.take_quote(quote);
+                take_deal(
+                    &mut self.kept,
+                    &mut self.deals,
+                    &mut self.due,
+                    x,
+                    market,
+                    &None,
+                    out,
+                );
+                true
+            }
+            _ => false,
+        }
     }
 
     /// Evaluates a trade or a tick that isn't passed over.
@@ -382,6 +415,9 @@ impl Symbol {
             self.begin_day(x, market);
             return Ok(());
         }
+        if self.awaits_price_at(x.moment(), market) && self.take_awaited_quote(x, market, out) {
+            return Ok(());
+        }
         self.obey(x, market, out)
     }
 
@@ -472,8 +508,8 @@ fn take_step(
     due_after(k, deals, step, waits, is_quiet)
 }
 
-/// Takes a trade or a tick in that brings a new reference price, obeys the rules, and sets when the stock is next due. It stays
-/// a call of its own, whose large frame the other records don't pay for.
+/// Takes a record in that brings a new reference price, obeys the rules, and sets when the stock is next due. It stays a call of
+/// its own, whose large frame the other records don't pay for.
 #[inline(never)]
 fn take_moved(
     k: &mut Kept,
@@ -484,12 +520,13 @@ fn take_moved(
     deal: &Option<Deal>,
     out: &mut Messages,
 )
-    requires awaited { IsAwaited k.old market.now x.now deal.now }
+    requires moves { MayMove k.old market.now x.now deal.now }
     requires trading { is_trading k.old.phase ≡ true }
-    requires moves { keeps_price k.old (moment_of x.now) (mean_of (live (moment_of x.now) (deals.old.deals ++ option_to_list deal.now))) ≡ false }
+    requires mean { keeps_price k.old (moment_of x.now) (mean_of (live (moment_of x.now) (deals.old.deals ++ option_to_list deal.now))) ≡ false }
     requires deals { length (option_to_list deal.now) ≤ deals.old.spare }
     requires room { length out.old + 15 ≤ most_of_symbol }
-    ensures steps { (kept : List Deal) → live (moment_of x.now) kept ≡ deals.old.deals → Steps (step_for market.now x.now) k.old k.new kept deals.new.deals out.old out.new }
+    ensures steps { (was : Kept) (kept : List Deal) → HasTaken was k.old market.now x.now deal.now → live (moment_of x.now) kept ≡ deals.old.deals
+        → Steps (step_for market.now x.now) was k.new kept deals.new.deals out.old out.new }
     ensures recent { live (moment_of x.now) deals.new.deals ≡ deals.new.deals }
     ensures due { IsDue due.new k.new deals.new.deals }
 {
@@ -498,4 +535,34 @@ fn take_moved(
     k.obey_moved(&step, &mut opened, deals, out);
     keep_deals(k, opened.is_fresh, step.moment, deal, deals);
     *due = Some(k.due_within(&step, deals, k.waits(&step)));
+}
+
+/// Evaluates a record that is taken in but for its deal, and that may bring a new reference price and nothing else: where it
+/// brings none, no rule is asked. The trades that are five minutes old go first, so that the mean takes no time for each trade.
+#[inline(always)]
+fn take_deal(
+    k: &mut Kept,
+    deals: &mut Window,
+    due: &mut Option<Due>,
+    x: &Record,
+    market: &MarketView,
+    deal: &Option<Deal>,
+    out: &mut Messages,
+)
+    requires moves { MayMove k.old market.now x.now deal.now }
+    requires due { IfSome due.old (λ due. IsStill k.old due) }
+    requires deals { length (option_to_list deal.now) ≤ deals.old.spare }
+    requires room { length out.old + 15 ≤ most_of_symbol }
+    ensures steps { (was : Kept) → HasTaken was k.old market.now x.now deal.now → Steps (step_for market.now x.now) was k.new deals.old.deals deals.new.deals out.old out.new }
+    ensures recent { live (moment_of x.now) deals.new.deals ≡ deals.new.deals }
+    ensures due { IsDue due.new k.new deals.new.deals }
+{
+    let t = x.moment();
+    drop_old(t, deals);
+    if k.keeps_price(t, deal, deals) {
+        add_one(deal, deals);
+        k.stay_due(due, deals);
+        return;
+    }
+    take_moved(k, deals, due, x, market, deal, out);
 }

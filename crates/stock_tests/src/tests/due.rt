@@ -256,6 +256,24 @@ fn a_tick_at_which_an_old_trade_leaves_finds_the_next_due(rt: HostRuntime) {
 }
 
 #[test]
+fn a_quotation_at_which_an_old_trade_leaves_finds_the_next_due(rt: HostRuntime) {
+    follow(
+        &rt,
+        &[
+            Begin,
+            Opening(34_210),
+            Trade(34_260, 2, 499_000),
+            Trade(34_261, 3, 513_000),
+            DueAt(34_510),
+            Quote(34_510, 499_900, 500_100),
+            DueAt(34_560),
+            Quote(34_561, 499_900, 500_100),
+            DueAt(35_100),
+        ],
+    )
+}
+
+#[test]
 fn a_trade_that_leaves_and_keeps_the_mean_near_wakes_no_stock(rt: HostRuntime) {
     follow(
         &rt,
