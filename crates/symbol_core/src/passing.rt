@@ -1,4 +1,4 @@
-//! Quotations that bring nothing but themselves, and trades and ticks that bring nothing but perhaps a new reference price.
+//! Quotations that bring nothing but themselves, and records that bring nothing but perhaps a new reference price.
 
 ghost use Rattle.std.specs.Prelude.{◌≡◌, ◌<◌, ◌≤◌, ◌++◌, ◌&&◌, [], Bool, None, Some, IfSome, if◌then◌else◌, true, false, is_some, length, nat_le, nat_lt, not, option_to_list, IsOk, OnErr, OnOk};
 ghost use Rattle.wire_in.specs.Records.{is_tick};
