@@ -13,7 +13,7 @@ use Rattle.text_core.specs.Reading.{word_len, word_at, behind}
 use Rattle.text_core.proofs.Plain.{IsPlain, both, visible_ascii}
 
 -- the words of a line from the second on, by what stands behind those before
-word_later : (n : ℕ) (line : List ℕ) → word_at (suc n) line ≡ word_at n (behind line)
+pub word_later : (n : ℕ) (line : List ℕ) → word_at (suc n) line ≡ word_at n (behind line)
 unfolding word_at behind
 word_later n line = refl
 
@@ -31,9 +31,6 @@ word_4 line = word_later 3 line ∙ word_3 (behind line)
 
 pub word_5 : (line : List ℕ) → word_at 5 line ≡ word_at 0 (behind (behind (behind (behind (behind line)))))
 word_5 line = word_later 4 line ∙ word_4 (behind line)
-
-pub word_6 : (line : List ℕ) → word_at 6 line ≡ word_at 0 (behind (behind (behind (behind (behind (behind line))))))
-word_6 line = word_later 5 line ∙ word_5 (behind line)
 
 -- how much of a word is left, byte by byte
 pub word_left : (line : List ℕ) (len : ℕ) → len < length line → word_len (drop len line) ≡ (if get_or line len 0 == 32 then 0 else 1 + word_len (drop (len + 1) line))

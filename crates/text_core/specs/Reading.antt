@@ -201,89 +201,90 @@ level_in word =
     else if bytes_eq word (codes "3") then Some levels.Three
     else None
 
+-- each kind of record is read from what stands behind the word that names it
 unfoldable pub day_of : List ℕ → Option Record
-day_of line = do
-  m ← moment_in (word_at 1 line)
-  d ← date_in (word_at 2 line)
-  c ← close_in (word_at 3 line)
-  p ← profile_in (word_at 4 line)
-  v ← index_in (word_at 5 line)
+day_of rest = do
+  m ← moment_in (word_at 0 rest)
+  d ← date_in (word_at 1 rest)
+  c ← close_in (word_at 2 rest)
+  p ← profile_in (word_at 3 rest)
+  v ← index_in (word_at 4 rest)
   Some (Day m (record { date = d; close = c; profile = p }) v)
 
 unfoldable pub listing_of : List ℕ → Option Record
-listing_of line = do
-  m ← moment_in (word_at 1 line)
-  n ← name_in (word_at 2 line)
-  t ← tier_in (word_at 3 line)
-  l ← leverage_in (word_at 4 line)
-  c ← optional_price_in (word_at 5 line)
+listing_of rest = do
+  m ← moment_in (word_at 0 rest)
+  n ← name_in (word_at 1 rest)
+  t ← tier_in (word_at 2 rest)
+  l ← leverage_in (word_at 3 rest)
+  c ← optional_price_in (word_at 4 rest)
   Some (Listing m n t l c)
 
 unfoldable pub trade_of : List ℕ → Option Record
-trade_of line = do
-  m ← moment_in (word_at 1 line)
-  s ← number16_in (word_at 2 line)
-  n ← number32_in (word_at 3 line)
-  p ← price_in (word_at 4 line)
-  z ← number32_in (word_at 5 line)
-  f ← flags_in (word_at 6 line)
+trade_of rest = do
+  m ← moment_in (word_at 0 rest)
+  s ← number16_in (word_at 1 rest)
+  n ← number32_in (word_at 2 rest)
+  p ← price_in (word_at 3 rest)
+  z ← number32_in (word_at 4 rest)
+  f ← flags_in (word_at 5 rest)
   Some (Trade m s n p z f)
 
 unfoldable pub cancel_of : List ℕ → Option Record
-cancel_of line = do
-  m ← moment_in (word_at 1 line)
-  s ← number16_in (word_at 2 line)
-  n ← number32_in (word_at 3 line)
+cancel_of rest = do
+  m ← moment_in (word_at 0 rest)
+  s ← number16_in (word_at 1 rest)
+  n ← number32_in (word_at 2 rest)
   Some (Cancel m s n)
 
 unfoldable pub quote_of : List ℕ → Option Record
-quote_of line = do
-  m ← moment_in (word_at 1 line)
-  s ← number16_in (word_at 2 line)
-  b ← optional_price_in (word_at 3 line)
-  o ← optional_price_in (word_at 4 line)
-  y ← number32_in (word_at 5 line)
-  z ← number32_in (word_at 6 line)
+quote_of rest = do
+  m ← moment_in (word_at 0 rest)
+  s ← number16_in (word_at 1 rest)
+  b ← optional_price_in (word_at 2 rest)
+  o ← optional_price_in (word_at 3 rest)
+  y ← number32_in (word_at 4 rest)
+  z ← number32_in (word_at 5 rest)
   Some (Quote m s b o y z)
 
 unfoldable pub index_tick_of : List ℕ → Option Record
-index_tick_of line = do
-  m ← moment_in (word_at 1 line)
-  v ← index_in (word_at 2 line)
+index_tick_of rest = do
+  m ← moment_in (word_at 0 rest)
+  v ← index_in (word_at 1 rest)
   Some (IndexTick m v)
 
 unfoldable pub clock_of : List ℕ → Option Record
-clock_of line = do
-  m ← moment_in (word_at 1 line)
+clock_of rest = do
+  m ← moment_in (word_at 0 rest)
   Some (Clock m)
 
 unfoldable pub notice_of : List ℕ → Option Record
-notice_of line = do
-  m ← moment_in (word_at 1 line)
-  s ← number16_in (word_at 2 line)
-  k ← notice_in (word_at 3 line)
+notice_of rest = do
+  m ← moment_in (word_at 0 rest)
+  s ← number16_in (word_at 1 rest)
+  k ← notice_in (word_at 2 rest)
   Some (Notice m s k)
 
 unfoldable pub indication_of : List ℕ → Option Record
-indication_of line = do
-  m ← moment_in (word_at 1 line)
-  s ← number16_in (word_at 2 line)
-  p ← price_in (word_at 3 line)
-  u ← unmatched_in (word_at 4 line)
+indication_of rest = do
+  m ← moment_in (word_at 0 rest)
+  s ← number16_in (word_at 1 rest)
+  p ← price_in (word_at 2 rest)
+  u ← unmatched_in (word_at 3 rest)
   Some (Indication m s p u)
 
 -- the record of a line, by its first word
 unfoldable pub record_of : List ℕ → Option Record
 record_of line =
-    if bytes_eq (word_at 0 line) (codes "day") then day_of line
-    else if bytes_eq (word_at 0 line) (codes "listing") then listing_of line
-    else if bytes_eq (word_at 0 line) (codes "trade") then trade_of line
-    else if bytes_eq (word_at 0 line) (codes "cancel") then cancel_of line
-    else if bytes_eq (word_at 0 line) (codes "quote") then quote_of line
-    else if bytes_eq (word_at 0 line) (codes "index") then index_tick_of line
-    else if bytes_eq (word_at 0 line) (codes "clock") then clock_of line
-    else if bytes_eq (word_at 0 line) (codes "notice") then notice_of line
-    else if bytes_eq (word_at 0 line) (codes "indication") then indication_of line
+    if bytes_eq (word_at 0 line) (codes "day") then day_of (behind line)
+    else if bytes_eq (word_at 0 line) (codes "listing") then listing_of (behind line)
+    else if bytes_eq (word_at 0 line) (codes "trade") then trade_of (behind line)
+    else if bytes_eq (word_at 0 line) (codes "cancel") then cancel_of (behind line)
+    else if bytes_eq (word_at 0 line) (codes "quote") then quote_of (behind line)
+    else if bytes_eq (word_at 0 line) (codes "index") then index_tick_of (behind line)
+    else if bytes_eq (word_at 0 line) (codes "clock") then clock_of (behind line)
+    else if bytes_eq (word_at 0 line) (codes "notice") then notice_of (behind line)
+    else if bytes_eq (word_at 0 line) (codes "indication") then indication_of (behind line)
     else None
 
 -- a number and a moment stand before the words of a message

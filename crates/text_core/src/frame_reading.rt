@@ -1,6 +1,6 @@
 //! From a line to its published frame.
 
-ghost use Rattle.std.specs.Prelude.{◌≡◌, ◌↔◌, ◌<◌, ◌&&◌, bytes_eq, IsTrue, IfOk, Ok};
+ghost use Rattle.std.specs.Prelude.{◌≡◌, ◌↔◌, ◌<◌, ◌&&◌, [], bytes_eq, IsTrue, IfOk, Ok};
 ghost use Rattle.std.specs.Result.{result_ok};
 ghost use Rattle.wire_out.specs.Codes.{is_code, is_field};
 ghost use Rattle.wire_out.specs.Spelling.{HasTypes, InRange, IsSayable};
@@ -218,28 +218,30 @@ fn is_in_range(f: &Frame) -> bool
     }
 }
 
-/// Whether a line is that of a frame in its ranges.
-fn is_line_of(line: &[u8], f: &Frame) -> bool
-    requires { InRange f.now }
+/// Whether a line is that of a frame in its ranges, which is printed into the room.
+fn is_line_of(room: &mut Line, line: &[u8], f: &Frame) -> bool
+    requires empty { room.old ≡ [] }
+    requires ranges { InRange f.now }
     ensures value { result ≡ bytes_eq line.now (line_of_frame f.now) }
     ensures types { HasTypes f.now }
 {
-    let mut printed = Line::new();
-    write_frame(&mut printed, f);
-    line == printed.as_slice()
+    write_frame(room, f);
+    line == room.as_slice()
 }
 
 /// Whether a line prints a frame.
-fn prints(line: &[u8], f: &Frame) -> bool
+fn prints(room: &mut Line, line: &[u8], f: &Frame) -> bool
+    requires empty { room.old ≡ [] }
     ensures value { result ≡ is_line_of_frame line.now f.now }
     ensures tells { IsTrue result ↔ PrintsFrame line.now f.now }
 {
-    is_in_range(f) && is_line_of(line, f)
+    is_in_range(f) && is_line_of(room, line, f)
 }
 
-/// The published frame that a line prints, without its newline; an error exactly where it prints none.
+/// The published frame that a line prints, as `read_frame` answers; its line is printed once more into the room.
 #[tactic(auto, unfolding(crate::specs::Reading::frame_in))]
-pub fn read_frame(line: &[u8]) -> Result<Frame, BadLine>
+pub fn read_frame_in(room: &mut Line, line: &[u8]) -> Result<Frame, BadLine>
+    requires empty { room.old ≡ [] }
     ensures exact { result_ok result ≡ frame_in line.now }
     ensures found { IfOk result (PrintsFrame line.now) }
     ensures only { (f : Frame) → PrintsFrame line.now f → result ≡ Ok f }
@@ -247,9 +249,18 @@ pub fn read_frame(line: &[u8]) -> Result<Frame, BadLine>
     let Some(f) = frame(line) else {
         return Err(BadLine);
     };
-    if prints(line, &f) {
+    if prints(room, line, &f) {
         Ok(f)
     } else {
         Err(BadLine)
     }
+}
+
+/// The published frame that a line prints, without its newline; an error exactly where it prints none.
+pub fn read_frame(line: &[u8]) -> Result<Frame, BadLine>
+    ensures exact { result_ok result ≡ frame_in line.now }
+    ensures found { IfOk result (PrintsFrame line.now) }
+    ensures only { (f : Frame) → PrintsFrame line.now f → result ≡ Ok f }
+{
+    read_frame_in(&mut Line::new(), line)
 }

@@ -6,11 +6,11 @@ ghost use Rattle.text_core.specs.declared.task.Task.TheVariants as tasks;
 ghost use Rattle.text_core.specs.Streams.{output_of};
 
 use crate::frame_printing::write_frame;
-use crate::frame_reading::read_frame;
+use crate::frame_reading::read_frame_in;
 use crate::kind::Kind;
 use crate::line::Line;
 use crate::record_printing::write_record;
-use crate::record_reading::read_record;
+use crate::record_reading::read_record_in;
 use crate::task::Task;
 use wire_in::{decode, encode};
 use wire_out::{get_frame, put_frame};
@@ -59,9 +59,10 @@ fn pack_record(output: &mut Line, line: &[u8]) -> bool
     if line.len() > LINE {
         return false;
     }
-    let Ok(x) = read_record(line) else {
+    let Ok(x) = read_record_in(output, line) else {
         return false;
     };
+    output.clear();
     let mut cell = [0; FRAME];
     let len = encode(&x, &mut cell);
     output.append(&cell[..len]);
@@ -77,9 +78,10 @@ fn pack_frame(output: &mut Line, line: &[u8]) -> bool
     if line.len() > LINE {
         return false;
     }
-    let Ok(f) = read_frame(line) else {
+    let Ok(f) = read_frame_in(output, line) else {
         return false;
     };
+    output.clear();
     let mut cell = [0; FRAME];
     let len = put_frame(&f, &mut cell);
     output.append(&cell[..len]);

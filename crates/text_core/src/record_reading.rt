@@ -1,6 +1,6 @@
 //! From a line to its record.
 
-ghost use Rattle.std.specs.Prelude.{◌≡◌, ◌↔◌, bytes_eq, IsTrue, IfOk, Ok};
+ghost use Rattle.std.specs.Prelude.{◌≡◌, ◌↔◌, [], bytes_eq, IsTrue, IfOk, Ok};
 ghost use Rattle.std.specs.Result.{result_ok};
 ghost use Rattle.wire_in.specs.Spelling.{HasTypes, InRange};
 ghost use Rattle.wire_in.specs.declared.record.Record.{Record};
@@ -10,7 +10,7 @@ ghost use Rattle.text_core.specs.Reading.{day_of, listing_of, trade_of, cancel_o
 use crate::error::BadLine;
 use crate::field_reading::{
     date, flags, index, is_name, leverage, moment_of, name, number16_of, number32_of,
-    optional_price_of, price_of, split, split_number, word,
+    optional_price_of, price_of, split, split_number,
 };
 use crate::line::Line;
 use crate::record_printing::write_record;
@@ -18,11 +18,10 @@ use crate::word_reading::{close, is, notice_kind, profile, tier, unmatched};
 use session_core::Day;
 use wire_in::Record;
 
-#[tactic(auto, unfolding(crate::specs::Reading::day_of, crate::specs::Reading::moment_in), using(crate::proofs::Words::word_1, crate::proofs::Words::word_2, crate::proofs::Words::word_3, crate::proofs::Words::word_4, crate::proofs::Words::word_5))]
-fn day(line: &[u8]) -> Option<Record>
-    ensures { result ≡ day_of line.now }
+#[tactic(auto, unfolding(crate::specs::Reading::day_of, crate::specs::Reading::moment_in), using(crate::proofs::Words::word_1, crate::proofs::Words::word_2, crate::proofs::Words::word_3, crate::proofs::Words::word_4))]
+fn day(rest: &[u8]) -> Option<Record>
+    ensures { result ≡ day_of rest.now }
 {
-    let (_, rest) = split(line);
     let (n, rest) = split_number(rest);
     let moment = moment_of(n)?;
     let (word, rest) = split(rest);
@@ -45,11 +44,10 @@ fn day(line: &[u8]) -> Option<Record>
     })
 }
 
-#[tactic(auto, unfolding(crate::specs::Reading::listing_of, crate::specs::Reading::moment_in, crate::specs::Reading::optional_price_in), using(crate::proofs::Words::word_1, crate::proofs::Words::word_2, crate::proofs::Words::word_3, crate::proofs::Words::word_4, crate::proofs::Words::word_5))]
-fn listing(line: &[u8]) -> Option<Record>
-    ensures { result ≡ listing_of line.now }
+#[tactic(auto, unfolding(crate::specs::Reading::listing_of, crate::specs::Reading::moment_in, crate::specs::Reading::optional_price_in), using(crate::proofs::Words::word_1, crate::proofs::Words::word_2, crate::proofs::Words::word_3, crate::proofs::Words::word_4))]
+fn listing(rest: &[u8]) -> Option<Record>
+    ensures { result ≡ listing_of rest.now }
 {
-    let (_, rest) = split(line);
     let (n, rest) = split_number(rest);
     let moment = moment_of(n)?;
     let (word, rest) = split(rest);
@@ -69,11 +67,10 @@ fn listing(line: &[u8]) -> Option<Record>
     })
 }
 
-#[tactic(auto, unfolding(crate::specs::Reading::trade_of, crate::specs::Reading::moment_in, crate::specs::Reading::number16_in, crate::specs::Reading::number32_in, crate::specs::Reading::price_in), using(crate::proofs::Words::word_1, crate::proofs::Words::word_2, crate::proofs::Words::word_3, crate::proofs::Words::word_4, crate::proofs::Words::word_5, crate::proofs::Words::word_6))]
-fn trade(line: &[u8]) -> Option<Record>
-    ensures { result ≡ trade_of line.now }
+#[tactic(auto, unfolding(crate::specs::Reading::trade_of, crate::specs::Reading::moment_in, crate::specs::Reading::number16_in, crate::specs::Reading::number32_in, crate::specs::Reading::price_in), using(crate::proofs::Words::word_1, crate::proofs::Words::word_2, crate::proofs::Words::word_3, crate::proofs::Words::word_4, crate::proofs::Words::word_5))]
+fn trade(rest: &[u8]) -> Option<Record>
+    ensures { result ≡ trade_of rest.now }
 {
-    let (_, rest) = split(line);
     let (n, rest) = split_number(rest);
     let moment = moment_of(n)?;
     let (n, rest) = split_number(rest);
@@ -96,11 +93,10 @@ fn trade(line: &[u8]) -> Option<Record>
     })
 }
 
-#[tactic(auto, unfolding(crate::specs::Reading::cancel_of, crate::specs::Reading::moment_in, crate::specs::Reading::number16_in, crate::specs::Reading::number32_in), using(crate::proofs::Words::word_1, crate::proofs::Words::word_2, crate::proofs::Words::word_3))]
-fn cancel(line: &[u8]) -> Option<Record>
-    ensures { result ≡ cancel_of line.now }
+#[tactic(auto, unfolding(crate::specs::Reading::cancel_of, crate::specs::Reading::moment_in, crate::specs::Reading::number16_in, crate::specs::Reading::number32_in), using(crate::proofs::Words::word_1, crate::proofs::Words::word_2))]
+fn cancel(rest: &[u8]) -> Option<Record>
+    ensures { result ≡ cancel_of rest.now }
 {
-    let (_, rest) = split(line);
     let (n, rest) = split_number(rest);
     let moment = moment_of(n)?;
     let (n, rest) = split_number(rest);
@@ -114,11 +110,10 @@ fn cancel(line: &[u8]) -> Option<Record>
     })
 }
 
-#[tactic(auto, unfolding(crate::specs::Reading::quote_of, crate::specs::Reading::moment_in, crate::specs::Reading::number16_in, crate::specs::Reading::number32_in, crate::specs::Reading::optional_price_in), using(crate::proofs::Words::word_1, crate::proofs::Words::word_2, crate::proofs::Words::word_3, crate::proofs::Words::word_4, crate::proofs::Words::word_5, crate::proofs::Words::word_6))]
-fn quote(line: &[u8]) -> Option<Record>
-    ensures { result ≡ quote_of line.now }
+#[tactic(auto, unfolding(crate::specs::Reading::quote_of, crate::specs::Reading::moment_in, crate::specs::Reading::number16_in, crate::specs::Reading::number32_in, crate::specs::Reading::optional_price_in), using(crate::proofs::Words::word_1, crate::proofs::Words::word_2, crate::proofs::Words::word_3, crate::proofs::Words::word_4, crate::proofs::Words::word_5))]
+fn quote(rest: &[u8]) -> Option<Record>
+    ensures { result ≡ quote_of rest.now }
 {
-    let (_, rest) = split(line);
     let (n, rest) = split_number(rest);
     let moment = moment_of(n)?;
     let (n, rest) = split_number(rest);
@@ -141,11 +136,10 @@ fn quote(line: &[u8]) -> Option<Record>
     })
 }
 
-#[tactic(auto, unfolding(crate::specs::Reading::index_tick_of, crate::specs::Reading::moment_in), using(crate::proofs::Words::word_1, crate::proofs::Words::word_2))]
-fn index_tick(line: &[u8]) -> Option<Record>
-    ensures { result ≡ index_tick_of line.now }
+#[tactic(auto, unfolding(crate::specs::Reading::index_tick_of, crate::specs::Reading::moment_in), using(crate::proofs::Words::word_1))]
+fn index_tick(rest: &[u8]) -> Option<Record>
+    ensures { result ≡ index_tick_of rest.now }
 {
-    let (_, rest) = split(line);
     let (n, rest) = split_number(rest);
     let moment = moment_of(n)?;
     let (word, _) = split(rest);
@@ -153,21 +147,19 @@ fn index_tick(line: &[u8]) -> Option<Record>
     Some(Record::IndexTick { moment, value })
 }
 
-#[tactic(auto, unfolding(crate::specs::Reading::clock_of, crate::specs::Reading::moment_in), using(crate::proofs::Words::word_1))]
-fn clock(line: &[u8]) -> Option<Record>
-    ensures { result ≡ clock_of line.now }
+#[tactic(auto, unfolding(crate::specs::Reading::clock_of, crate::specs::Reading::moment_in))]
+fn clock(rest: &[u8]) -> Option<Record>
+    ensures { result ≡ clock_of rest.now }
 {
-    let (_, rest) = split(line);
     let (n, _) = split_number(rest);
     let moment = moment_of(n)?;
     Some(Record::Clock { moment })
 }
 
-#[tactic(auto, unfolding(crate::specs::Reading::notice_of, crate::specs::Reading::moment_in, crate::specs::Reading::number16_in), using(crate::proofs::Words::word_1, crate::proofs::Words::word_2, crate::proofs::Words::word_3))]
-fn notice(line: &[u8]) -> Option<Record>
-    ensures { result ≡ notice_of line.now }
+#[tactic(auto, unfolding(crate::specs::Reading::notice_of, crate::specs::Reading::moment_in, crate::specs::Reading::number16_in), using(crate::proofs::Words::word_1, crate::proofs::Words::word_2))]
+fn notice(rest: &[u8]) -> Option<Record>
+    ensures { result ≡ notice_of rest.now }
 {
-    let (_, rest) = split(line);
     let (n, rest) = split_number(rest);
     let moment = moment_of(n)?;
     let (n, rest) = split_number(rest);
@@ -181,11 +173,10 @@ fn notice(line: &[u8]) -> Option<Record>
     })
 }
 
-#[tactic(auto, unfolding(crate::specs::Reading::indication_of, crate::specs::Reading::moment_in, crate::specs::Reading::number16_in, crate::specs::Reading::price_in), using(crate::proofs::Words::word_1, crate::proofs::Words::word_2, crate::proofs::Words::word_3, crate::proofs::Words::word_4))]
-fn indication(line: &[u8]) -> Option<Record>
-    ensures { result ≡ indication_of line.now }
+#[tactic(auto, unfolding(crate::specs::Reading::indication_of, crate::specs::Reading::moment_in, crate::specs::Reading::number16_in, crate::specs::Reading::price_in), using(crate::proofs::Words::word_1, crate::proofs::Words::word_2, crate::proofs::Words::word_3))]
+fn indication(rest: &[u8]) -> Option<Record>
+    ensures { result ≡ indication_of rest.now }
 {
-    let (_, rest) = split(line);
     let (n, rest) = split_number(rest);
     let moment = moment_of(n)?;
     let (n, rest) = split_number(rest);
@@ -207,25 +198,25 @@ fn indication(line: &[u8]) -> Option<Record>
 fn record(line: &[u8]) -> Option<Record>
     ensures { result ≡ record_of line.now }
 {
-    let first = word(line, 0);
-    if is(first, "day") {
-        day(line)
-    } else if is(first, "listing") {
-        listing(line)
-    } else if is(first, "trade") {
-        trade(line)
-    } else if is(first, "cancel") {
-        cancel(line)
-    } else if is(first, "quote") {
-        quote(line)
-    } else if is(first, "index") {
-        index_tick(line)
-    } else if is(first, "clock") {
-        clock(line)
-    } else if is(first, "notice") {
-        notice(line)
-    } else if is(first, "indication") {
-        indication(line)
+    let (kind, rest) = split(line);
+    if is(kind, "day") {
+        day(rest)
+    } else if is(kind, "listing") {
+        listing(rest)
+    } else if is(kind, "trade") {
+        trade(rest)
+    } else if is(kind, "cancel") {
+        cancel(rest)
+    } else if is(kind, "quote") {
+        quote(rest)
+    } else if is(kind, "index") {
+        index_tick(rest)
+    } else if is(kind, "clock") {
+        clock(rest)
+    } else if is(kind, "notice") {
+        notice(rest)
+    } else if is(kind, "indication") {
+        indication(rest)
     } else {
         None
     }
@@ -243,28 +234,30 @@ fn is_in_range(x: &Record) -> bool
     }
 }
 
-/// Whether a line is that of a record in its ranges.
-fn is_line_of(line: &[u8], x: &Record) -> bool
-    requires { InRange x.now }
+/// Whether a line is that of a record in its ranges, which is printed into the room.
+fn is_line_of(room: &mut Line, line: &[u8], x: &Record) -> bool
+    requires empty { room.old ≡ [] }
+    requires ranges { InRange x.now }
     ensures value { result ≡ bytes_eq line.now (line_of_record x.now) }
     ensures types { HasTypes x.now }
 {
-    let mut printed = Line::new();
-    write_record(&mut printed, x);
-    line == printed.as_slice()
+    write_record(room, x);
+    line == room.as_slice()
 }
 
 /// Whether a line prints a record.
-fn prints(line: &[u8], x: &Record) -> bool
+fn prints(room: &mut Line, line: &[u8], x: &Record) -> bool
+    requires empty { room.old ≡ [] }
     ensures value { result ≡ is_line_of line.now x.now }
     ensures tells { IsTrue result ↔ PrintsRecord line.now x.now }
 {
-    is_in_range(x) && is_line_of(line, x)
+    is_in_range(x) && is_line_of(room, line, x)
 }
 
-/// The record that a line prints, without its newline; an error exactly where it prints none.
+/// The record that a line prints, as `read_record` answers; its line is printed once more into the room.
 #[tactic(auto, unfolding(crate::specs::Reading::record_in))]
-pub fn read_record(line: &[u8]) -> Result<Record, BadLine>
+pub fn read_record_in(room: &mut Line, line: &[u8]) -> Result<Record, BadLine>
+    requires empty { room.old ≡ [] }
     ensures exact { result_ok result ≡ record_in line.now }
     ensures found { IfOk result (PrintsRecord line.now) }
     ensures only { (x : Record) → PrintsRecord line.now x → result ≡ Ok x }
@@ -272,9 +265,18 @@ pub fn read_record(line: &[u8]) -> Result<Record, BadLine>
     let Some(x) = record(line) else {
         return Err(BadLine);
     };
-    if prints(line, &x) {
+    if prints(room, line, &x) {
         Ok(x)
     } else {
         Err(BadLine)
     }
+}
+
+/// The record that a line prints, without its newline; an error exactly where it prints none.
+pub fn read_record(line: &[u8]) -> Result<Record, BadLine>
+    ensures exact { result_ok result ≡ record_in line.now }
+    ensures found { IfOk result (PrintsRecord line.now) }
+    ensures only { (x : Record) → PrintsRecord line.now x → result ≡ Ok x }
+{
+    read_record_in(&mut Line::new(), line)
 }

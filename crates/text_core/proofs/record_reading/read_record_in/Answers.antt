@@ -1,6 +1,6 @@
 use Rattle.std.proofs.Common.{arith}
 use Rattle.text_core.proofs.Records.{record_found}
-use Rattle.text_core.proofs.record_reading.read_record.Goals as goal
+use Rattle.text_core.proofs.record_reading.read_record_in.Goals as goal
 
 pub returns-in_default-clause-only : goal.returns-in_default-clause-only
 returns-in_default-clause-only c = λ x p. grind (arith, record_found c.args.line.now x p)
