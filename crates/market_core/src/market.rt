@@ -246,12 +246,8 @@ impl Market {
         if self.section.len() <= index {
             return Ok(());
         }
-        // Most records are quotations that bring no message, for which no room is taken.
-        if self.section.pass_quote(index, x, market) {
-            return Ok(());
-        }
         out.reserve(MOST_OF_SYMBOL)?;
-        self.section.evaluate_other(index, x, market, out)
+        self.section.evaluate(index, x, market, out)
     }
 
     /// Makes the symbol of a new name.

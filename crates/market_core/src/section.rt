@@ -1,6 +1,6 @@
 //! The stocks of ids that follow each other.
 
-ghost use Rattle.std.specs.Prelude.{◌≡◌, ◌+◌, ◌*◌, ◌<◌, ◌≤◌, ◌++◌, ◌∷◌, ℕ, [], true, false, List, Some, IfOk, IsOk, OnOk, OnErr, drop, filter, length, slice_index, take, vec_len, vec_capacity};
+ghost use Rattle.std.specs.Prelude.{◌≡◌, ◌+◌, ◌*◌, ◌<◌, ◌≤◌, ◌++◌, ◌∷◌, ℕ, [], true, false, Some, IfOk, IsOk, OnOk, OnErr, drop, filter, length, slice_index, take, vec_len, vec_capacity};
 ghost use Rattle.wire_in.specs.Bases.{AreRising};
 ghost use Rattle.wire_in.specs.Records.{is_day, is_tick, moment_of};
 ghost use Rattle.alarms.specs.Due.{NoneDue};
@@ -210,21 +210,6 @@ impl Section {
         Ok(rest)
     }
 
-    /// Lets the stock of an index pass over a quotation, which leaves its alarm. False: the record is no such quotation, and the
-    /// stocks are as they were.
-    #[inline(always)]
-    pub fn pass_quote(&mut self, index: usize, x: &Record, market: &MarketView) -> bool
-        requires index { index < length self.old.symbols }
-        ensures passes { result ≡ true → (before : List Stamped) → AppendsOne index market.now x.now self.old.symbols self.new.symbols before before }
-        ensures others { result ≡ false → self.new.symbols ≡ self.old.symbols }
-        ensures count { length self.new.symbols ≡ length self.old.symbols }
-        ensures spare { self.old.spare ≤ self.new.spare }
-        ensures since { (now : MarketView) → self.old.since ≡ Some (record { from = moment_of x.now; market = now }) → self.new.since ≡ self.old.since }
-    {
-        pass(&mut self.since, x.moment());
-        self.symbols[index].pass_quote(x, market)
-    }
-
     /// Evaluates a record for the stock of an index. Only a trade whose stock has no room for its deal may find no memory, and
     /// then all stays as it was.
     #[inline(always)]
@@ -246,33 +231,12 @@ impl Section {
         ensures room { vec_capacity out.old ≤ vec_capacity out.new }
         ensures len { vec_len out.new ≤ vec_len out.old + most_of_symbol }
     {
-        if self.pass_quote(index, x, market) {
+        pass(&mut self.since, x.moment());
+        let symbol = &mut self.symbols[index];
+        if symbol.pass_quote(x, market) {
+            // Its alarm still holds.
             return Ok(());
         }
-        self.evaluate_other(index, x, market, out)
-    }
-
-    /// The same for a record that the stock didn't pass over.
-    #[inline(always)]
-    pub fn evaluate_other(
-        &mut self,
-        index: usize,
-        x: &Record,
-        market: &MarketView,
-        out: &mut Vec<Stamped>,
-    ) -> Result<(), NoMemory>
-        requires index { index < length self.old.symbols }
-        requires room { vec_len out.old + most_of_symbol ≤ vec_capacity out.old }
-        ensures ok { OnOk result (AppendsOne index market.now x.now self.old.symbols self.new.symbols out.old.items out.new.items) }
-        ensures err { OnErr result ((self.new.symbols ≡ self.old.symbols) × (out.new.items ≡ out.old.items)) }
-        ensures succeeds { is_trade x.now ≡ false → IsOk result }
-        ensures room_there { HasRoomAt self.old.symbols index → IsOk result }
-        ensures spare { self.old.spare ≤ self.new.spare }
-        ensures since { (now : MarketView) → self.old.since ≡ Some (record { from = moment_of x.now; market = now }) → self.new.since ≡ self.old.since }
-        ensures room { vec_capacity out.old ≤ vec_capacity out.new }
-        ensures len { vec_len out.new ≤ vec_len out.old + most_of_symbol }
-    {
-        let symbol = &mut self.symbols[index];
         evaluate(symbol, x, market, &mut self.said, out)?;
         let alarm = alarm_of(symbol, &self.since);
         self.alarms.set(index, alarm);

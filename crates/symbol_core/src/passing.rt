@@ -22,14 +22,6 @@ use session_core::{Day, Moment, Phase};
 use window_core::{Deal, Window};
 use wire_in::Record;
 
-/// Whether a record is a trade.
-pub fn is_trade(x: &Record) -> bool
-    ensures kind { result ≡ true → brings_deal_or_time x.now ≡ true }
-    ensures tick { result ≡ true → is_tick x.now ≡ false }
-{
-    matches!(x, Record::Trade { .. })
-}
-
 /// The eligible trade that a record is.
 #[inline(always)]
 pub fn deal_in(id: u16, x: &Record, day: &Day) -> Option<Deal>

@@ -20,7 +20,7 @@ ghost use Rattle.symbol_core.specs.Ticks.{Idles};
 use crate::due::Due;
 use crate::ingest::{drop_cancelled, keep_deals};
 use crate::messages::Messages;
-use crate::passing::{add_one, deal_in, drop_old, is_trade, reserve_deal};
+use crate::passing::{add_one, deal_in, drop_old, reserve_deal};
 use crate::record_fields::{quoted_by, traded_price};
 use crate::state::{Kept, OpenStep, Step};
 use price_core::NoMemory;
@@ -405,15 +405,16 @@ impl Symbol {
         ensures room { 1 ≤ self.old.spare → IsOk result }
         ensures recent { is_some self.new.kept.terms ≡ true → OnOk result (live (moment_of x.now) self.new.deals ≡ self.new.deals) }
     {
-        if is_trade(x) {
-            return self.take_deal_or_time(x, market, out);
-        }
-        if x.is_tick() {
-            return self.take_time(x, market, out);
-        }
-        if x.is_day() {
-            self.begin_day(x, market);
-            return Ok(());
+        match x {
+            Record::Trade { .. } => return self.take_deal_or_time(x, market, out),
+            Record::IndexTick { .. } | Record::Clock { .. } => {
+                return self.take_time(x, market, out);
+            }
+            Record::Day { .. } => {
+                self.begin_day(x, market);
+                return Ok(());
+            }
+            _ => {}
         }
         if self.awaits_price_at(x.moment(), market) && self.take_awaited_quote(x, market, out) {
             return Ok(());
